@@ -75,7 +75,7 @@ fn drive<F: Mergeable, R: Receipt, P: PageReader<Receipt = R>>(
     ensures spoilt { (op : KeyedOp F.Key F.Value F.Input) (old : CoreView F.Key F.Value F.Input) (started page : ℕ)
         → IsReady op old partition.old.core slot context started
         → result ≡ Err (Refused.Damaged page) → P.failures reader.new ≡ P.failures reader.old
-        → IsSpoilt (IsEntryIn F.Key.bytes_of F.Value.bytes_of F.Key.is_known F.Value.is_known F.Key.SIZE F.Value.SIZE)
+        → IsSpoilt (IsEntryIn F.Key.codec F.Value.codec)
         F.Key.cmp page }
     ensures unread { (op : KeyedOp F.Key F.Value F.Input) (old : CoreView F.Key F.Value F.Input) (started : ℕ)
         → IsReady op old partition.old.core slot context started
@@ -125,7 +125,7 @@ fn attempt<F: Mergeable, R: Receipt, P: PageReader<Receipt = R>>(
         → result ≢ Err Refused.Stalled }
     ensures within { clock.new ≤ clock.old + limit }
     ensures spoilt { (page : ℕ) → result ≡ Err (Refused.Damaged page) → P.failures reader.new ≡ P.failures reader.old
-        → IsSpoilt (IsEntryIn F.Key.bytes_of F.Value.bytes_of F.Key.is_known F.Value.is_known F.Key.SIZE F.Value.SIZE)
+        → IsSpoilt (IsEntryIn F.Key.codec F.Value.codec)
         F.Key.cmp page }
     ensures unread { is_merge op ≡ true → reader.new ≡ reader.old }
     ensures rest { partition.new ≡ with_core partition.old partition.new.core }
@@ -200,7 +200,7 @@ pub fn run_alone<F: Mergeable, R: Receipt, P: PageReader<Receipt = R>>(
         → result.progress ≢ Err Refused.Stalled }
     // where it is damaged and the reader counted nothing, bytes that were read spell no record on the way
     ensures spoilt { (page : ℕ) → result.progress ≡ Err (Refused.Damaged page) → P.failures reader.new ≡ P.failures reader.old
-        → IsSpoilt (IsEntryIn F.Key.bytes_of F.Value.bytes_of F.Key.is_known F.Value.is_known F.Key.SIZE F.Value.SIZE)
+        → IsSpoilt (IsEntryIn F.Key.codec F.Value.codec)
         F.Key.cmp page }
     // a merge reads no page
     ensures unread { is_merge op ≡ true → reader.new ≡ reader.old }

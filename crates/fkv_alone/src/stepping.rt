@@ -43,7 +43,7 @@ pub(crate) fn step<F: Mergeable, R: Receipt, P: PageReader<Receipt = R>>(
         → IfOk result (λ progress. IsOn progress → IsNearer F.code partition.new.core slot context progress n) }
     // where it is damaged and the reader counted nothing, bytes that were read spell no record on the way
     ensures spoilt { (page : ℕ) → result ≡ Err (Refused.Damaged page) → P.failures reader.new ≡ P.failures reader.old
-        → IsSpoilt (IsEntryIn F.Key.bytes_of F.Value.bytes_of F.Key.is_known F.Value.is_known F.Key.SIZE F.Value.SIZE)
+        → IsSpoilt (IsEntryIn F.Key.codec F.Value.codec)
         F.Key.cmp page }
     // a merge reads no page
     ensures unread { (op : KeyedOp F.Key F.Value F.Input) (old : CoreView F.Key F.Value F.Input) (started : ℕ)

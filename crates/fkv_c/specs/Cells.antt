@@ -1,6 +1,7 @@
 -- Cells: 64 bytes each, that are written, read and removed, and never updated.
 use Rattle.std.specs.Prelude.{◌≡◌, ◌-◌, ◌++◌, ℕ, length, replicate, Option, Some, None}
 use Rattle.fkv_functions.specs.declared.names.Name.{Name}
+use Rattle.fkv_functions.specs.Codecs.{Codec}
 use Rattle.fkv_functions.specs.Names.{text_of}
 use Rattle.fkv_functions.specs.Meanings.{Meanings}
 use Rattle.fkv_operations.specs.declared.operations.Answer.{Answer}
@@ -17,9 +18,14 @@ blind = record {
   shown = λ k i v. v;
 }
 
--- cells of the same bytes are one
-pub cell_readable : (a b : Cell) → a.bytes ≡ b.bytes → a ≡ b
-cell_readable a b e = λ i. record { bytes = e i }
+-- cells are written as they are
+abbrev pub cell_codec : Codec Cell 64
+cell_codec = record {
+  is_known = λ c. length c.bytes ≡ 64;
+  bytes_of = λ c. c.bytes;
+  sized = λ c h. h;
+  readable = λ a b h k e. λ i. record { bytes = e i };
+}
 
 abbrev pub zero_cell : Cell
 zero_cell = record { bytes = replicate 64 0 }

@@ -3,7 +3,7 @@ ghost use Rattle.std.specs.Prelude.{◌≡◌, length, false};
 ghost use Rattle.fkv_functions.specs.Meanings.{unmerged, unmerged_associative};
 ghost use Rattle.fkv_functions.specs.Hashes.{fnv_1a};
 ghost use Rattle.fkv_functions.specs.Names.{text_of};
-ghost use Rattle.fkv_c.specs.Cells.{blind, cell_readable, zero_cell, no_cell, cell_answer_of, cell_pair_of};
+ghost use Rattle.fkv_c.specs.Cells.{blind, cell_codec, zero_cell, no_cell, cell_answer_of, cell_pair_of};
 
 use crate::numbers::padded;
 use fkv_functions::{Fixed, Functions, Known, Mergeable, Name};
@@ -42,7 +42,7 @@ impl Fixed for Cell {
 
     ghost SIZE = { 64 };
 
-    ghost bytes_of = { λ c. c.bytes };
+    ghost codec = { cell_codec };
 
     fn put(&self, out: &mut [u8]) {
         out.copy_from_slice(&self.bytes);
@@ -58,9 +58,7 @@ impl Fixed for Cell {
         bytes == self.bytes.as_slice()
     }
 
-    ghost sized = { λ v h. h };
-
-    ghost readable = { λ v w h k e. cell_readable v w e };
+    ghost written = { λ v h. h };
 }
 
 /// Values that are written, read and removed, and that no input updates: an update is declined.

@@ -6,14 +6,14 @@ use Rattle.std.proofs.lemmas.List.{length-map}
 use Rattle.std.proofs.lemmas.List.Elements.{All-map, All-weaker, All-head, All-tail}
 use Rattle.std.proofs.lemmas.List.Sums.{sum_by-cons}
 use Rattle.fkv_functions.specs.Meanings.{Meanings}
-use Rattle.fkv_functions.specs.Plain.{Same}
+use Rattle.fkv_functions.specs.Plain.{PlainMap, Same}
 use Rattle.fkv_partition.specs.CoreViews.{partition_of}
 use Rattle.fkv_partition.specs.Unions.{live_at, union_of}
 use Rattle.fkv_partition.specs.Views.{PartitionView}
 use Rattle.fkv_histories.specs.declared.entries.Entry.{Entry}
 use Rattle.fkv_histories.specs.Histories.{updates, map_of, IsLegal}
 use Rattle.fkv_locked.specs.Kept.{seen, IsEnded}
-use Rattle.fkv_closing.specs.Closing.{map_of_histories}
+use Rattle.fkv_closing.specs.Closing.{map_of_histories, IsClosed}
 
 module _ {K V I O X : Type 0} (cmp : K → K → Ordering) (f : Meanings K V I O) (view : X → PartitionView K V I) (history : X → List (Entry K V I O)) (book : X → ℕ) where
   abbrev pub Ended : X → Type 0
@@ -42,3 +42,18 @@ module _ {K V I O X : Type 0} (cmp : K → K → Ordering) (f : Meanings K V I O
       let same : length (map view xs) ≡ length (map history xs) = length-map xs view ∙ sym (length-map xs history) in
       made_at xs all (partition_of (length (map view xs)) (code k)) k
       ∙ ap (λ n. map_of cmp f (updates (get_or (map history xs) (partition_of n (code k)) [])) k) same
+
+-- a closed store, by another map with the same keys and values, and by the same histories
+pub closed_by : {K V I O : Type 0} (cmp : K → K → Ordering) (f : Meanings K V I O) (code : K → ℕ) (owns : List (List (List (Entry K V I O)))) (shares : List ℕ)
+    (live found : PlainMap K V) (was histories : List (List (Entry K V I O))) (finished : ℕ) → histories ≡ was → Same found live
+    → IsClosed cmp f code owns shares live was finished → IsClosed cmp f code owns shares found histories finished
+closed_by cmp f code owns shares live found was histories finished is same closed =
+    rw is
+    (record {
+      sized = closed.sized;
+      legal = closed.legal;
+      merged = closed.merged;
+      counted = closed.counted;
+      shared = closed.shared;
+      made = λ k. same k ∙ closed.made k;
+    })

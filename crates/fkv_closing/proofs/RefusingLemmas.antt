@@ -8,7 +8,7 @@ use Rattle.fkv_device.specs.Failing.{ReadFailsBy}
 use Rattle.fkv_partition.specs.Views.{PartitionView}
 use Rattle.fkv_histories.specs.declared.entries.Entry.{Entry}
 use Rattle.fkv_closing.specs.Closing.{AreNumbered, AreMerged, IsUnmerged}
-use Rattle.fkv_closing.specs.Refusing.{IsUneven, IsUnread, IsUnclosed}
+use Rattle.fkv_closing.specs.Refusing.{IsUneven, IsUnsettled, IsUnread, IsUnclosed}
 
 -- ---- the sums and the places
 module _ {K V I : Type 0} (views : List (PartitionView K V I)) (shared booked : ℕ) where
@@ -70,18 +70,32 @@ pub unread_quiet : {K V I : Type 0} (keeps : Bool) (views : List (PartitionView 
 unread_quiet keeps views old new un =
     un.counts ∙ (ap (slice_set old un.partition) (scan_quiet keeps _ _ _ _ un.scan) ∙ set-get_or old un.partition 0)
 
+-- ---- before the pages
+module _ {K V I O : Type 0} (views : List (PartitionView K V I)) (histories : List (List (Entry K V I O))) (lists : ℕ → List (List (Entry K V I O))) (shared booked : ℕ) where
+  pub by_uneven : (why : Refused) → IsUneven views shared booked why → IsUnsettled views histories lists shared booked why
+  by_uneven Worn h = h
+  by_uneven Mismatch h = elim h.2 [ inl apart ↦ inl apart | inr wrong ↦ inr (inl wrong) ]
+  by_uneven other h = absurd h
+
+  pub by_audit : (why : Refused) → ((why ≡ Mismatch) × IsUnmerged histories lists) ⊎ (why ≡ NoMemory) → IsUnsettled views histories lists shared booked why
+  by_audit why h = elim h [
+    | inl un ↦ subst (IsUnsettled views histories lists shared booked) (sym un.0) (inr (inr un.1))
+    | inr memory ↦ subst (IsUnsettled views histories lists shared booked) (sym memory) tt
+  ]
+
+  pub unsettled_only : (why : Refused) → IsUnsettled views histories lists shared booked why → why ≢ Worn → why ≢ Mismatch → why ≢ NoMemory → ⊥
+  unsettled_only Worn h w m n = w refl
+  unsettled_only Mismatch h w m n = m refl
+  unsettled_only NoMemory h w m n = n refl
+  unsettled_only other h w m n = h
+
 -- ---- the whole
 module _ {K V I O : Type 0} (keeps : Bool) (views : List (PartitionView K V I)) (histories : List (List (Entry K V I O))) (lists : ℕ → List (List (Entry K V I O))) (shared booked : ℕ) (old new : List ℕ) where
-  pub from_uneven : new ≡ old → (why : Refused) → IsUneven views shared booked why → IsUnclosed keeps views histories lists shared booked old new why
-  from_uneven same Worn h = (h, same)
-  from_uneven same Mismatch h = (elim h.2 [ inl apart ↦ inl apart | inr wrong ↦ inr (inl wrong) ], same)
-  from_uneven same other h = absurd h
-
-  pub from_audit : new ≡ old → (why : Refused) → ((why ≡ Mismatch) × IsUnmerged histories lists) ⊎ (why ≡ NoMemory) → IsUnclosed keeps views histories lists shared booked old new why
-  from_audit same why h = elim h [
-    | inl un ↦ subst (IsUnclosed keeps views histories lists shared booked old new) (sym un.0) (inr (inr un.1), same)
-    | inr memory ↦ subst (IsUnclosed keeps views histories lists shared booked old new) (sym memory) same
-  ]
+  pub from_settled : new ≡ old → (why : Refused) → IsUnsettled views histories lists shared booked why → IsUnclosed keeps views histories lists shared booked old new why
+  from_settled same Worn h = (h, same)
+  from_settled same Mismatch h = (h, same)
+  from_settled same NoMemory h = same
+  from_settled same other h = absurd h
 
   pub from_memory : new ≡ old → (why : Refused) → why ≡ NoMemory → IsUnclosed keeps views histories lists shared booked old new why
   from_memory same why is = subst (IsUnclosed keeps views histories lists shared booked old new) (sym is) same

@@ -1,5 +1,5 @@
 -- Why a store is not closed.
-use Rattle.std.specs.Prelude.{◌≡◌, ◌≢◌, ◌<◌, ◌≤◌, ◌^◌, ◌⊎◌, ℕ, Bool, List, length, slice_get, slice_index, slice_set, Some}
+use Rattle.std.specs.Prelude.{◌≡◌, ◌≢◌, ◌<◌, ◌≤◌, ◌^◌, ◌⊎◌, ℕ, Bool, List, length, slice_get, slice_index, slice_set, Some, ⊤}
 use Rattle.fkv_functions.specs.declared.refusals.Refused.{Refused}
 use Rattle.fkv_functions.specs.declared.refusals.Refused.TheVariants.{NoMemory, Worn, Mismatch}
 use Rattle.fkv_device.specs.Standing.{Standing}
@@ -43,6 +43,14 @@ module _ {K V I O : Type 0} where
       → ℕ → ℕ → Type 0
   IsMismatch views histories lists shared booked =
       (shared ≢ booked) ⊎ ¬ AreNumbered views ⊎ IsUnmerged histories lists
+
+  -- why a store does not end before its pages are read: shares or books have no sum below 2^64; a mismatch; or want of memory
+  abbrev pub IsUnsettled : List (PartitionView K V I) → List (List (Entry K V I O)) → (ℕ → List (List (Entry K V I O)))
+      → ℕ → ℕ → Refused → Type 0
+  IsUnsettled views histories lists shared booked Worn = (2 ^ 64 ≤ shared) ⊎ (2 ^ 64 ≤ booked)
+  IsUnsettled views histories lists shared booked Mismatch = IsMismatch views histories lists shared booked
+  IsUnsettled views histories lists shared booked NoMemory = ⊤
+  IsUnsettled views histories lists shared booked other = ⊥
 
   -- why a store is not closed: shares or books have no sum below 2^64; a mismatch; want of memory; or a page that is not
   -- read, and that only where every history is a merge. Where it is no page, no reader counts a failure

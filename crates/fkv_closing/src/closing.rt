@@ -7,7 +7,7 @@ ghost use Rattle.fkv_partition.specs.Unions.{union_of};
 ghost use Rattle.fkv_locked.specs.Kept.{seen, IsEnded};
 ghost use Rattle.fkv_closing.specs.Lists.{lists_of};
 ghost use Rattle.fkv_closing.specs.Closing.{AreNumbered, AreMerged, IsUnmerged, IsClosed};
-ghost use Rattle.fkv_closing.specs.Refusing.{IsUneven, IsUnclosed, MayFailIn};
+ghost use Rattle.fkv_closing.specs.Refusing.{IsUneven, IsUnsettled, IsUnclosed, MayFailIn};
 
 use crate::gathering::live;
 use crate::merges::{are_merged, are_numbered};
@@ -27,6 +27,15 @@ pub struct Closed<F: Mergeable> {
     pub map: BTreeMap<F::Key, F::Value>,
     /// The history of each partition, in order of partitions; each is empty where nothing is kept.
     pub histories: Vec<Vec<EntryOf<F>>>,
+    /// How many operations were finished.
+    pub finished: u64,
+}
+
+/// What a store comes to at its end before its pages are read.
+#[derive(Drop)]
+pub struct Settled<F: Mergeable, R: Receipt> {
+    /// Each partition with its history and its book, in order of partitions.
+    pub parts: Vec<Part<F, R>>,
     /// How many operations were finished.
     pub finished: u64,
 }
@@ -104,6 +113,55 @@ fn histories_of<F: Mergeable, R: Receipt>(
     Ok(histories)
 }
 
+/// Ends a store before its pages are read: from what its partitions' locks leave, the own list that each pass has of each
+/// partition, and the share of each pass. It hands the parts back, as they are.
+///
+/// Refused, in this order: `Worn` where the shares or the books have no sum below 2^64; `Mismatch` where the sums differ, or a
+/// partition does not stand in its place; `NoMemory` where the own lists can't be put in order, and `Mismatch` where a history
+/// is no merge of those of its partition. A store whose partitions and passes were made together meets no `Mismatch`.
+pub fn close_unlisted<F: Mergeable, R: Receipt, H: Recorder<F>>(
+    alloc: Global,
+    parts: Vec<Part<F, R>>,
+    owns: Vec<Vec<H>>,
+    shares: &[u64],
+) -> Result<Settled<F, R>, Refused>
+    requires kept { All (λ own. vec_len own ≡ vec_len parts) owns.items }
+    requires ended { H.keeps ≡ true → IsTrue R.keeps → All (λ part. IsEnded F.Key.cmp F.meaning
+        (seen F.Key.cmp part.partition) part.history.items part.book) parts.items }
+    // where the device and the recorders keep: the histories have all that was told, and make what is live in the partitions
+    ensures closed { H.keeps ≡ true → IsTrue R.keeps → IfOk result (λ settled. IsClosed F.Key.cmp F.meaning F.code
+        (map (λ own. map H.entries own.items) owns.items) shares.now
+        (union_of F.Key.cmp F.code (map (λ part. part.partition) parts.items))
+        (map (λ part. part.history.items) parts.items) settled.finished) }
+    // whatever is kept
+    ensures parts { IfOk result (λ settled. settled.parts ≡ parts) }
+    ensures numbered { OnOk result (AreNumbered (map (λ part. part.partition) parts.items)) }
+    ensures shared { IfOk result (λ settled. settled.finished ≡ sum shares.now) }
+    ensures booked { IfOk result (λ settled. settled.finished ≡ sum_by (λ part. part.book) parts.items) }
+    ensures merged { OnOk result (AreMerged (map (λ part. part.history.items) parts.items)
+        (lists_of (map (λ own. map H.entries own.items) owns.items))) }
+    // why it is refused
+    ensures worn { (2 ^ 64 ≤ sum shares.now) ⊎ (2 ^ 64 ≤ sum_by (λ part. part.book) parts.items)
+        → result ≡ Err Refused.Worn }
+    ensures mismatch { sum shares.now < 2 ^ 64 → sum_by (λ part. part.book) parts.items < 2 ^ 64
+        → (sum shares.now ≢ sum_by (λ part. part.book) parts.items)
+        ⊎ ¬ AreNumbered (map (λ part. part.partition) parts.items) → result ≡ Err Refused.Mismatch }
+    ensures refused { IfErr result (IsUnsettled (map (λ part. part.partition) parts.items)
+        (map (λ part. part.history.items) parts.items)
+        (lists_of (map (λ own. map H.entries own.items) owns.items)) (sum shares.now)
+        (sum_by (λ part. part.book) parts.items)) }
+{
+    let slice = parts.as_slice();
+    let finished = match count_finished::<F, R>(slice, shares) {
+        Err(refused) => return Err(refused),
+        Ok(finished) => finished,
+    };
+    match audit::<F, R, H>(alloc, slice, owns) {
+        Err(refused) => Err(refused),
+        Ok(()) => Ok(Settled { parts, finished }),
+    }
+}
+
 /// Closes a store: from what its partitions' locks leave, with a reader of each partition's pages, the own list that each pass
 /// has of each partition, and the share of each pass.
 ///
@@ -151,16 +209,12 @@ pub fn close_parts<F: Mergeable, R: Receipt, H: Recorder<F>, P: PageReader<Recei
         → why ≢ Refused.NoMemory
         → MayFailIn R.stands P.can_fail (map (λ part. part.partition) parts.items)) }
 {
-    let slice = parts.as_slice();
-    let finished = match count_finished::<F, R>(slice, shares) {
+    let settled = match close_unlisted::<F, R, H>(alloc, parts, owns, shares) {
         Err(refused) => return Err(refused),
-        Ok(finished) => finished,
+        Ok(settled) => settled,
     };
-    match audit::<F, R, H>(alloc, slice, owns) {
-        Err(refused) => return Err(refused),
-        Ok(()) => {}
-    }
-    let map = match live::<F, R, P>(functions, alloc, slice, readers) {
+    let Settled { parts, finished } = settled;
+    let map = match live::<F, R, P>(functions, alloc, parts.as_slice(), readers) {
         Err(refused) => return Err(refused),
         Ok(map) => map,
     };

@@ -13,4 +13,4 @@ mod merges;
 mod owns;
 mod sums;
 
-pub use closing::{Closed, close_parts};
+pub use closing::{Closed, Settled, close_parts, close_unlisted};

@@ -149,8 +149,7 @@ impl Compactor {
         now: u64,
     ) -> Result<ProgressOf<F, R>, Refused>
         requires later { partition.old.core.moment < now }
-        ensures effect { CompactsLoad R.stands (IsEntryIn F.Key.bytes_of F.Value.bytes_of F.Key.is_known
-            F.Value.is_known F.Key.SIZE F.Value.SIZE) F.Key.cmp F.parts.joined F.meaning F.code
+        ensures effect { CompactsLoad R.stands (IsEntryIn F.Key.codec F.Value.codec) F.Key.cmp F.parts.joined F.meaning F.code
             partition.old partition.new self.now came now result }
         ensures event { IfOk result (λ _. IsTurn R.keeps F.Key.cmp partition.old partition.new self.now now) }
         ensures fails { IfErr result (λ _. (partition.new ≡ partition.old)

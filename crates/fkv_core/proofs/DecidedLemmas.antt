@@ -28,7 +28,7 @@ use Rattle.fkv_operations.specs.declared.operations.Answer.{Answer}
 use Rattle.fkv_lookups.specs.declared.decisions.LookupResult.TheVariants.{Mutable}
 use Rattle.fkv_lookups.specs.declared.decisions.Decision.TheVariants.{Replace}
 use Rattle.fkv_lookups.specs.declared.gathered.Gathered.{Gathered}
-use Rattle.fkv_lookups.specs.Decisions.{low_of, met_by, decision}
+use Rattle.fkv_lookups.specs.Decisions.{low_of, met_by, met_last, decision}
 use Rattle.fkv_lookups.specs.DecisionLaws.{replace-met, mutable-met, IsMetIn}
 use Rattle.fkv_lookups.specs.Lookups.{first_up, looked_up, IsFirst}
 use Rattle.fkv_lookups.specs.Meeting.{met_from, IsMetAt}
@@ -137,6 +137,15 @@ module _ {K V I : Type 0} (cmp : K → K → Ordering) (join : V → V → V) (c
         met-is (entry_for code v k)
         ∙ ap (λ (r : Gathered K V). met_by join (entry_for code v k) v.records.begin (seen_at v slot) r) alone
         ∙ (rw (e.1, value, mutable) refl)
+
+    -- one that is read first and is no delta is what is met
+    pub whole-first : (last : Entry K V) → first ≡ Found last → last.delta ≡ false → met_at cmp join code v slot k ≡ met_last (seen_at v slot) last.address last.value
+    whole-first last is whole =
+        let e = entry-some last is in
+        let alone = (told-by (Found last) is).0 whole in
+        met-is (entry_for code v k)
+        ∙ ap (λ (r : Gathered K V). met_by join (entry_for code v k) v.records.begin (seen_at v slot) r) alone
+        ∙ ap (λ o. met_by join o v.records.begin (seen_at v slot) (record { parts = None; position = Found last })) e.1
 
     -- and what is met as mutable is such a record
     pub record IsAtFirst (w : V) : Type 0 where

@@ -17,4 +17,5 @@ pub mod AppendedLemmas
 pub mod SeatLemmas
 pub mod KeptWordLemmas
 mod AtOnceLemmas
+mod ReadLemmas
 mod MergeLemmas

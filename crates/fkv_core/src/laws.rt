@@ -91,13 +91,11 @@ pub fn pendings_stay<K, V, I, O, R>()
 pub fn loads_end<F: Mergeable, R: Receipt>()
     ensures loads { (old new : CoreView F.Key F.Value F.Input) (slot c : ℕ) (came : Result (Joined R) Refused)
         (now : ℕ) (result : Result (Progress F.Key F.Value F.Input F.Output R) Refused)
-        → Loads R.stands (IsEntryIn F.Key.bytes_of F.Value.bytes_of F.Key.is_known F.Value.is_known
-        F.Key.SIZE F.Value.SIZE) F.Key.cmp F.parts.joined F.meaning old new slot c came now result
+        → Loads R.stands (IsEntryIn F.Key.codec F.Value.codec) F.Key.cmp F.parts.joined F.meaning old new slot c came now result
         → OthersPend F.Key.cmp old new slot c }
     ensures fails { (old new : CoreView F.Key F.Value F.Input) (slot c : ℕ) (came : Result (Joined R) Refused)
         (now : ℕ) (why : Refused)
-        → Loads R.stands (IsEntryIn F.Key.bytes_of F.Value.bytes_of F.Key.is_known F.Value.is_known
-        F.Key.SIZE F.Value.SIZE) F.Key.cmp F.parts.joined F.meaning old new slot c came now (Err why)
+        → Loads R.stands (IsEntryIn F.Key.codec F.Value.codec) F.Key.cmp F.parts.joined F.meaning old new slot c came now (Err why)
         → (new ≡ old) ⊎ IsGiveUp old new slot c now }
 {}
 
@@ -146,7 +144,6 @@ pub fn merges_take_no_page<F: Mergeable, R: Receipt>()
         (result : Result (Progress F.Key F.Value F.Input F.Output R) Refused)
         → IsSound keeps F.Key.cmp join code old
         → context_at old slot c ≡ Some x → is_merge x.op ≡ true
-        → Loads R.stands (IsEntryIn F.Key.bytes_of F.Value.bytes_of F.Key.is_known F.Value.is_known
-        F.Key.SIZE F.Value.SIZE) F.Key.cmp join F.meaning old new slot c came now result
+        → Loads R.stands (IsEntryIn F.Key.codec F.Value.codec) F.Key.cmp join F.meaning old new slot c came now result
         → result ≡ Err Refused.NotReady }
 {}

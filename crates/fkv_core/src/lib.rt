@@ -23,6 +23,7 @@ pub mod listing;
 pub mod loading;
 mod looking;
 pub mod preserving;
+pub mod reading;
 pub mod regions;
 pub mod updating;
 

@@ -55,8 +55,7 @@ impl<F: Mergeable, R: Receipt> Core<F, R> {
         now: u64,
     ) -> Result<ProgressOf<F, R>, Refused>
         requires later { self.old.moment < now }
-        ensures effect { Loads R.stands (IsEntryIn F.Key.bytes_of F.Value.bytes_of F.Key.is_known F.Value.is_known
-            F.Key.SIZE F.Value.SIZE) F.Key.cmp F.parts.joined F.meaning self.old self.new slot context came now result }
+        ensures effect { Loads R.stands (IsEntryIn F.Key.codec F.Value.codec) F.Key.cmp F.parts.joined F.meaning self.old self.new slot context came now result }
         // on a device that keeps, what comes of it is what the look-up was to find
         ensures event { IsTrue R.keeps → IfOk result
             (λ progress. IsLoad F.Key.cmp F.meaning self.old self.new slot context now progress) }
@@ -99,8 +98,7 @@ impl<F: Mergeable, R: Receipt> Core<F, R> {
         now: u64,
     ) -> Result<ProgressOf<F, R>, Refused>
         requires later { self.old.moment < now }
-        ensures effect { LoadsBy R.stands (IsEntryIn F.Key.bytes_of F.Value.bytes_of F.Key.is_known F.Value.is_known
-            F.Key.SIZE F.Value.SIZE) F.Key.cmp F.parts.joined F.meaning self.old self.new slot context now
+        ensures effect { LoadsBy R.stands (IsEntryIn F.Key.codec F.Value.codec) F.Key.cmp F.parts.joined F.meaning self.old self.new slot context now
             (P.failures reader.old) (P.failures reader.new) result }
         ensures event { IsTrue R.keeps → IfOk result
             (λ progress. IsLoad F.Key.cmp F.meaning self.old self.new slot context now progress) }
@@ -142,12 +140,16 @@ impl<F: Mergeable, R: Receipt> Core<F, R> {
         ensures caused { IfErr result (λ e. e ≢ Refused.NoMemory
             → MayFail R.stands P.can_fail self.now.records.receipts self.now.records.page_bits page) }
     {
-        self.pages_known();
+        self.records.log().known();
         let receipt = match self.records.receipt(page) {
             Err(refused) => return Err(refused),
             Ok(receipt) => receipt,
         };
-        Loaded::fetch(reader, &receipt, self.page_size())
+        Loaded::fetch(
+            reader,
+            &receipt,
+            self.records.log().pages().shape().page_size(),
+        )
     }
 
     /// Takes a page that came for an operation, where it is the one that is kept.
@@ -165,8 +167,7 @@ impl<F: Mergeable, R: Receipt> Core<F, R> {
         requires session { slot < 16 }
         requires context { context < 8 }
         requires awaits { AwaitsPage self.old slot context operation.now loading }
-        ensures effect { Loads R.stands (IsEntryIn F.Key.bytes_of F.Value.bytes_of F.Key.is_known F.Value.is_known
-            F.Key.SIZE F.Value.SIZE) F.Key.cmp F.parts.joined F.meaning self.old self.new slot context (Ok loaded) now result }
+        ensures effect { Loads R.stands (IsEntryIn F.Key.codec F.Value.codec) F.Key.cmp F.parts.joined F.meaning self.old self.new slot context (Ok loaded) now result }
         ensures event { IsTrue R.keeps → IfOk result
             (λ progress. IsLoad F.Key.cmp F.meaning self.old self.new slot context now progress) }
         ensures moment { self.new.moment ≤ now }
@@ -196,8 +197,7 @@ impl<F: Mergeable, R: Receipt> Core<F, R> {
         requires awaits { AwaitsPage self.old slot context operation.now loading }
         requires own { IsHeldBy self.old.records.receipts (page_at self.old.records.page_bits loading.wanted)
             (R.stands loaded.receipt) }
-        ensures effect { Loads R.stands (IsEntryIn F.Key.bytes_of F.Value.bytes_of F.Key.is_known F.Value.is_known
-            F.Key.SIZE F.Value.SIZE) F.Key.cmp F.parts.joined F.meaning self.old self.new slot context (Ok loaded) now result }
+        ensures effect { Loads R.stands (IsEntryIn F.Key.codec F.Value.codec) F.Key.cmp F.parts.joined F.meaning self.old self.new slot context (Ok loaded) now result }
         ensures event { IsTrue R.keeps → IfOk result
             (λ progress. IsLoad F.Key.cmp F.meaning self.old self.new slot context now progress) }
         ensures moment { self.new.moment ≤ now }

@@ -122,6 +122,7 @@ impl<F: Mergeable, R: Receipt> Core<F, R> {
     }
 
     /// The address to which the final entry of a key's class leads.
+    #[inline(always)]
     pub(crate) fn leads(&self, functions: &F, key: &F::Key) -> Option<Address>
         ensures { result ≡ entry_for F.code self.now key.now }
     {
@@ -205,6 +206,7 @@ impl<F: Mergeable, R: Receipt> Core<F, R> {
 
     /// What the session at a slot meets, by the address to which the entry of a key's class leads and by the last record of
     /// the key that it reads in memory.
+    #[inline(always)]
     pub(crate) fn met(
         &self,
         functions: &F,

@@ -102,8 +102,7 @@ pub fn loads_preserve<F: Mergeable, R: Receipt>()
         (came : Result (Joined R) Refused) (now : ℕ)
         (result : Result (Progress F.Key F.Value F.Input F.Output R) Refused)
         → IsSound keeps F.Key.cmp F.parts.joined code old
-        → Loads R.stands (IsEntryIn F.Key.bytes_of F.Value.bytes_of F.Key.is_known F.Value.is_known
-        F.Key.SIZE F.Value.SIZE) F.Key.cmp F.parts.joined F.meaning old new slot c came now result
+        → Loads R.stands (IsEntryIn F.Key.codec F.Value.codec) F.Key.cmp F.parts.joined F.meaning old new slot c came now result
         → IsPreserved keeps F.Key.cmp F.parts.joined code old new }
 {}
 
@@ -169,7 +168,6 @@ pub fn sessions_preserved<K, V, I, O, R>()
 pub fn loads_preserve_sessions<F: Mergeable, R: Receipt>()
     ensures { (old new : CoreView F.Key F.Value F.Input) (slot c : ℕ) (came : Result (Joined R) Refused)
         (now : ℕ) (result : Result (Progress F.Key F.Value F.Input F.Output R) Refused)
-        → Loads R.stands (IsEntryIn F.Key.bytes_of F.Value.bytes_of F.Key.is_known F.Value.is_known
-        F.Key.SIZE F.Value.SIZE) F.Key.cmp F.parts.joined F.meaning old new slot c came now result
+        → Loads R.stands (IsEntryIn F.Key.codec F.Value.codec) F.Key.cmp F.parts.joined F.meaning old new slot c came now result
         → NoneOpens old new × AllStay old new }
 {}

@@ -1,12 +1,11 @@
 //! How sessions follow the regions of the log, and how these move.
-ghost use Rattle.std.specs.Prelude.{◌≡◌, ◌^◌, ◌<◌, ◌≤◌, OnOk, OnErr};
+ghost use Rattle.std.specs.Prelude.{◌≡◌, ◌<◌, ◌≤◌, OnOk, OnErr};
 ghost use Rattle.fkv_core.specs.Looking.{Refreshes, Shifts, Evicts};
 ghost use Rattle.fkv_core.specs.Effect.{IsQuiet};
 
 use crate::cores::Core;
 use fkv_device::Receipt;
 use fkv_functions::{Mergeable, Refused};
-use fkv_records::Address;
 
 impl<F: Mergeable, R: Receipt> Core<F, R> {
     /// Refreshes a session: it tells that the session relies on nothing that it saw before, moves the offsets that are
@@ -65,26 +64,5 @@ impl<F: Mergeable, R: Receipt> Core<F, R> {
         self.records.known();
         self.moment = now;
         Ok(())
-    }
-
-    /// The address of the next record, or 2^48 where there can't be one.
-    pub fn tail(&self) -> Address
-        ensures { result ≡ self.now.records.tail }
-    {
-        self.records.tail()
-    }
-
-    /// Head: records below it are read from the device by sessions that are refreshed from now on.
-    pub fn head(&self) -> Address
-        ensures { result ≡ self.now.records.regions.offsets.head }
-    {
-        self.records.head()
-    }
-
-    /// The bytes of a page.
-    pub fn page_size(&self) -> usize
-        ensures { result ≡ 2 ^ self.now.records.page_bits }
-    {
-        self.records.page_size()
     }
 }

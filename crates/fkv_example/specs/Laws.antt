@@ -5,6 +5,7 @@ use Rattle.std.specs.Int.{w64, w128, to_le_bytes, cast_unsigned, int_wrapping_ad
 use Rattle.std.proofs.Common.{arith, rules, refl, ap}
 use Rattle.std.proofs.Math.Facts.{sfits_widen, sfits_to_z}
 use Rattle.std.proofs.lemmas.Int.{ints, wraps}
+use Rattle.fkv_functions.specs.Codecs.{Codec}
 use Rattle.fkv_functions.specs.Integers.{signed_bytes, long_bytes, halves, word_readable, signed_readable, long_readable}
 use Rattle.fkv_functions.specs.Meanings.{Merges, updated}
 use Rattle.fkv_example.specs.declared.summaries.Summary.{Summary}
@@ -25,6 +26,11 @@ summary_readable s t h k e =
     (signed_readable s.least t.least h.least k.least (ap (λ b. take 8 (drop 8 b)) e))
     (signed_readable s.greatest t.greatest h.greatest k.greatest (ap (λ b. take 8 (drop 16 b)) e))
     (long_readable s.sum t.sum h.sum k.sum (ap (drop 24) e))
+
+-- how summaries are written
+abbrev pub summary_codec : Codec Summary 40
+summary_codec =
+    record { is_known = IsSummary; bytes_of = summary_bytes; sized = λ s h. summary_sized s; readable = summary_readable }
 
 -- where the bytes of a summary are these, its parts are theirs
 pub record ArePartsOf (s : Summary) (bytes : List ℕ) : Type 0 where

@@ -6,9 +6,9 @@ ghost use Rattle.fkv_functions.specs.Meanings.{updated};
 ghost use Rattle.fkv_functions.specs.declared.names.Name.{Name};
 ghost use Rattle.fkv_functions.specs.Hashes.{fnv_1a};
 ghost use Rattle.fkv_functions.specs.Names.{text_of};
-ghost use Rattle.fkv_example.specs.Summaries.{AreNumbersOf, IsSummary, IsSummaryOf, summary_bytes, summary_of, summaries, summary_parts, with_later};
+ghost use Rattle.fkv_example.specs.Summaries.{AreNumbersOf, IsSummary, IsSummaryOf, summary_of, summaries, summary_parts, with_later};
 ghost use Rattle.fkv_example.specs.declared.summaries.Summary.{Summary};
-ghost use Rattle.fkv_example.specs.Laws.{accepted, either_order, summaries_associative, summaries_merge, summary_readable, summary_sized};
+ghost use Rattle.fkv_example.specs.Laws.{accepted, either_order, summaries_associative, summaries_merge, summary_codec};
 
 use fkv_functions::{Fixed, Functions, Known, Mergeable, Name, OrderFree};
 use std::fmt::{self, Display};
@@ -85,7 +85,7 @@ impl Fixed for Summary {
 
     ghost SIZE = { 40 };
 
-    ghost bytes_of = { summary_bytes };
+    ghost codec = { summary_codec };
 
     fn put(&self, out: &mut [u8]) {
         let (count, rest) = out.split_at_mut(8);
@@ -119,9 +119,7 @@ impl Fixed for Summary {
             && self.sum.stands_in(sum)
     }
 
-    ghost sized = { λ v h. summary_sized v };
-
-    ghost readable = { summary_readable };
+    ghost written = { λ v h. h };
 }
 
 /// The summary of these numbers, where each is there.

@@ -1,7 +1,8 @@
 -- Why a device, or the bytes that it gave, ends a run.
-use Rattle.std.specs.Prelude.{◌≡◌, ℕ, Bool, List}
+use Rattle.std.specs.Prelude.{◌≡◌, ℕ, Bool}
 use Rattle.std.specs.declared.cmp.Ordering.{Ordering}
-use Rattle.fkv_functions.specs.Names.{name_bytes, name_cmp}
+use Rattle.fkv_functions.specs.Codecs.{Codec}
+use Rattle.fkv_functions.specs.Names.{name_codec, name_cmp}
 use Rattle.fkv_functions.specs.declared.refusals.Refused.{Refused}
 use Rattle.fkv_functions.specs.declared.refusals.Refused.TheVariants.{Damaged}
 use Rattle.fkv_device.specs.Failing.{FailsOnlyBy, ReadFailsBy}
@@ -43,8 +44,8 @@ pub data IsDeviceFault {D W R K V : Type 0} (keeps : Bool) (opens : D → ℕ) (
       → IsScanRefusal keeps low flushed (reads before) (reads now) why
       → IsDeviceFault keeps opens writes reads entry cmp why
 
--- the same where keys are names, and values have such bytes, of which some are known, in so many bytes
-abbrev pub IsRunFault : {D W R V : Type 0} → Bool → (D → ℕ) → (W → ℕ) → (R → ℕ) → (V → List ℕ) → (V → Type 0) → ℕ
-    → Refused → Type 0
-IsRunFault keeps opens writes reads bytes known size why =
-    IsDeviceFault keeps opens writes reads (IsEntryIn name_bytes bytes (λ k. Unit {0}) known 32 size) name_cmp why
+-- the same where keys are names, and values are written so
+abbrev pub IsRunFault : {D W R V : Type 0} {size : ℕ} → Bool → (D → ℕ) → (W → ℕ) → (R → ℕ) → Codec V size → Refused
+    → Type 0
+IsRunFault keeps opens writes reads value why =
+    IsDeviceFault keeps opens writes reads (IsEntryIn name_codec value) name_cmp why

@@ -32,7 +32,7 @@ fn add_row<F: Mergeable<Key = Name, Input = i64>, D: Disk>(
     ensures ok { OnOk result ((before : List (Name × ℤ)) → StandsFor D.Receipt.keeps F.meaning F.code rows.old.store before
         → StandsFor D.Receipt.keeps F.meaning F.code rows.new.store (before ++ (key.now, amount) ∷ [])) }
     ensures told { IfErr result (IsRowRefusal (IsRunFault D.Receipt.keeps D.failures D.Writer.failures D.Reader.failures
-        F.Value.bytes_of F.Value.is_known F.Value.SIZE)) }
+        F.Value.codec)) }
     ensures unread { IsTrue F.MERGES → rows.old.mode ≡ RowMode.Merge → IsTrue rows.old.store.keeps_log
         → rows.new.store.readers ≡ rows.old.store.readers }
     ensures same_log { rows.old.mode ≡ RowMode.Merge → rows.new.store.keeps_log ≡ rows.old.store.keeps_log }
@@ -54,7 +54,7 @@ impl<F: Mergeable<Key = Name, Input = i64>, D: Disk> RowSink for RowStore<F, D> 
     ghost stands = { λ s rows. StandsFor D.Receipt.keeps F.meaning F.code s.store rows };
 
     ghost fault = { IsRowRefusal (IsRunFault D.Receipt.keeps D.failures D.Writer.failures D.Reader.failures
-        F.Value.bytes_of F.Value.is_known F.Value.SIZE) };
+        F.Value.codec) };
 
     fn add(&mut self, key: &Name, amount: i64) -> Result<(), Refused> {
         add_row(self, key, amount)
@@ -84,7 +84,7 @@ pub fn read_feed<S: Source, F: Mergeable<Key = Name, Input = i64>, D: Disk>(
     ensures steady { OnOk result (S.failures source.new ≡ S.failures source.old) }
     ensures told { IfErr result
         (TellsWhy (IsRunFault D.Receipt.keeps D.failures D.Writer.failures
-        D.Reader.failures F.Value.bytes_of F.Value.is_known F.Value.SIZE)
+        D.Reader.failures F.Value.codec)
         feed limit (S.remaining source.old) (S.failures source.old) (S.failures source.new)) }
 {
     fkv_feed_rows::read_feed(alloc, source, feed, limit, rows)

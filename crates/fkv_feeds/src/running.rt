@@ -98,7 +98,7 @@ fn read_feeds<S: Source, F: Mergeable<Key = Name, Input = i64>, D: Disk>(
         × StandsFor D.Receipt.keeps F.meaning F.code store.new.store rows × (count ≡ length rows)) }
     ensures steady { OnOk result (map S.failures feeds.new ≡ map S.failures feeds.old) }
     ensures told { IfErr result (TellsStopped (IsRunFault D.Receipt.keeps D.failures D.Writer.failures
-        D.Reader.failures F.Value.bytes_of F.Value.is_known F.Value.SIZE)
+        D.Reader.failures F.Value.codec)
         (map S.remaining feeds.old) (map S.failures feeds.old)
         (map S.failures feeds.new)) }
 {
@@ -143,7 +143,7 @@ pub fn run_one<S: Source, F: Mergeable<Key = Name, Input = i64>, D: Disk>(
     ensures good { result ≢ Err Refused.BadConfig
         → IsRunnable config.now (size_of 32 F.Value.SIZE) (length feeds.old) }
     ensures told { IfErr result (TellsWhyNone (IsRunFault D.Receipt.keeps D.failures D.Writer.failures
-        D.Reader.failures F.Value.bytes_of F.Value.is_known F.Value.SIZE)
+        D.Reader.failures F.Value.codec)
         config.now (size_of 32 F.Value.SIZE) (map S.remaining feeds.old)
         (map S.failures feeds.old) (map S.failures feeds.new)) }
 {
@@ -172,7 +172,7 @@ pub fn run_one_by<S: Source, F: Mergeable<Key = Name, Input = i64>, D: Disk>(
     ensures good { result ≢ Err Refused.BadConfig
         → IsRunnable config.now (size_of 32 F.Value.SIZE) (length feeds.old) }
     ensures told { IfErr result (TellsWhyNone (IsRunFault D.Receipt.keeps D.failures D.Writer.failures
-        D.Reader.failures F.Value.bytes_of F.Value.is_known F.Value.SIZE)
+        D.Reader.failures F.Value.codec)
         config.now (size_of 32 F.Value.SIZE) (map S.remaining feeds.old)
         (map S.failures feeds.old) (map S.failures feeds.new)) }
 {
@@ -214,7 +214,7 @@ pub fn run_alone<S: Source, F: Mergeable<Key = Name, Input = i64>, D: Disk>(
     ensures steady { OnOk result (S.failures feed.new ≡ S.failures feed.old) }
     ensures good { result ≢ Err Refused.BadConfig → IsRunnable config.now (size_of 32 F.Value.SIZE) 1 }
     ensures told { IfErr result (TellsWhyNone (IsRunFault D.Receipt.keeps D.failures D.Writer.failures
-        D.Reader.failures F.Value.bytes_of F.Value.is_known F.Value.SIZE)
+        D.Reader.failures F.Value.codec)
         config.now (size_of 32 F.Value.SIZE) (S.remaining feed.old ∷ [])
         (S.failures feed.old ∷ []) (S.failures feed.new ∷ [])) }
 {
@@ -241,7 +241,7 @@ pub fn run_alone_by<S: Source, F: Mergeable<Key = Name, Input = i64>, D: Disk>(
     ensures steady { OnOk result (S.failures feed.new ≡ S.failures feed.old) }
     ensures good { result ≢ Err Refused.BadConfig → IsRunnable config.now (size_of 32 F.Value.SIZE) 1 }
     ensures told { IfErr result (TellsWhyNone (IsRunFault D.Receipt.keeps D.failures D.Writer.failures
-        D.Reader.failures F.Value.bytes_of F.Value.is_known F.Value.SIZE)
+        D.Reader.failures F.Value.codec)
         config.now (size_of 32 F.Value.SIZE) (S.remaining feed.old ∷ [])
         (S.failures feed.old ∷ []) (S.failures feed.new ∷ [])) }
 {

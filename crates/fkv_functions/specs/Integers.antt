@@ -6,6 +6,7 @@ use Rattle.std.proofs.Common.{arith, refl, sym, ◌∙◌, ap}
 use Rattle.std.proofs.lemmas.Nat.{from_le_bytes-to_le_bytes_8}
 use Rattle.std.proofs.lemmas.Int.{to_z-of_z}
 use Rattle.std.proofs.Math.Facts.{Fits-of_z}
+use Rattle.fkv_functions.specs.Codecs.{Codec}
 
 -- the eight bytes of a signed number
 abbrev pub signed_bytes : ℤ → List ℕ
@@ -63,3 +64,20 @@ long_readable a b h k e =
     let words =
     halves_readable (cast_unsigned w128 a) (cast_unsigned w128 b) ((Fits-of_z h).fits) ((Fits-of_z k).fits) e in
     sym (to_z-of_z w128 a h) ∙ ap (cast_signed w128) words ∙ to_z-of_z w128 b k
+
+-- numbers of 64 bits, signed ones of 64 and of 128
+abbrev pub word_codec : Codec ℕ 8
+word_codec =
+    record { is_known = λ n. n < 2 ^ 64; bytes_of = to_le_bytes w64; sized = λ n h. refl; readable = word_readable }
+
+abbrev pub signed_codec : Codec ℤ 8
+signed_codec =
+    record { is_known = FitsSigned w64; bytes_of = signed_bytes; sized = λ z h. refl; readable = signed_readable }
+
+abbrev pub long_codec : Codec ℤ 16
+long_codec = record {
+  is_known = FitsSigned w128;
+  bytes_of = long_bytes;
+  sized = λ z h. halves_sized (cast_unsigned w128 z);
+  readable = long_readable;
+}

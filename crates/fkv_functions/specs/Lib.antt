@@ -1,4 +1,5 @@
 pub mod Meanings
+pub mod Codecs
 pub mod Plain
 pub mod Integers
 pub mod Keys

@@ -15,6 +15,7 @@ use Rattle.std.specs.Coded.{coded_list, coded_ℕ}
 use base.Stored.{Coded-set}
 use mathlib.Core.HLevel.{is_prop→PathP}
 use lib.Pointwise.{pointwise}
+use Rattle.fkv_functions.specs.Codecs.{Codec}
 use Rattle.fkv_functions.specs.Hashes.{fnv_1a}
 use Rattle.fkv_functions.specs.declared.names.Name.{Name}
 
@@ -121,3 +122,12 @@ room_by bytes most =
 
 pub hashed_by : (bytes : List ℕ) → fnv_1a bytes ≡ fnv_1a (take (length bytes) (bytes ++ drop (length bytes) (replicate 31 0)))
 hashed_by bytes = ap fnv_1a (sym (take-append_seam bytes (drop (length bytes) (replicate 31 0))))
+
+-- names: each is written
+abbrev pub name_codec : Codec Name 32
+name_codec = record {
+  is_known = λ _. Unit {0};
+  bytes_of = name_bytes;
+  sized = λ n h. name_sized n;
+  readable = λ n m h k e. name_readable n m e;
+}

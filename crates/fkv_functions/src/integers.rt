@@ -1,8 +1,7 @@
 //! Whole numbers as values: little-endian, two's complement.
 ghost use Rattle.std.specs.Prelude.{◌≡◌, ◌+◌, ◌*◌, ◌^◌, ◌<◌, ℕ, ℤ, List, length, true, refl, FitsSigned};
 ghost use Rattle.std.specs.Int.{w64, w128, to_le_bytes, from_le_bytes, cast_unsigned};
-ghost use Rattle.fkv_functions.specs.Integers.{signed_bytes, long_bytes, halves_sized};
-ghost use Rattle.fkv_functions.specs.Integers.{word_readable, signed_readable, long_readable};
+ghost use Rattle.fkv_functions.specs.Integers.{word_codec, signed_codec, long_codec};
 
 use crate::values::{Fixed, Known};
 
@@ -47,7 +46,7 @@ impl Fixed for u64 {
 
     ghost SIZE = { 8 };
 
-    ghost bytes_of = { to_le_bytes w64 };
+    ghost codec = { word_codec };
 
     fn put(&self, out: &mut [u8]) {
         out.copy_from_slice(&self.to_le_bytes());
@@ -61,9 +60,7 @@ impl Fixed for u64 {
         word_of(bytes) == *self
     }
 
-    ghost sized = { λ v h. refl };
-
-    ghost readable = { word_readable };
+    ghost written = { λ v h. h };
 }
 
 impl Fixed for i64 {
@@ -71,7 +68,7 @@ impl Fixed for i64 {
 
     ghost SIZE = { 8 };
 
-    ghost bytes_of = { signed_bytes };
+    ghost codec = { signed_codec };
 
     fn put(&self, out: &mut [u8]) {
         out.copy_from_slice(&self.cast_unsigned().to_le_bytes());
@@ -85,9 +82,7 @@ impl Fixed for i64 {
         word_of(bytes).cast_signed() == *self
     }
 
-    ghost sized = { λ v h. refl };
-
-    ghost readable = { signed_readable };
+    ghost written = { λ v h. h };
 }
 
 impl Fixed for i128 {
@@ -95,7 +90,7 @@ impl Fixed for i128 {
 
     ghost SIZE = { 16 };
 
-    ghost bytes_of = { long_bytes };
+    ghost codec = { long_codec };
 
     #[tactic(auto, unfolding(crate::specs::Integers::halves))]
     fn put(&self, out: &mut [u8]) {
@@ -119,9 +114,7 @@ impl Fixed for i128 {
         }
     }
 
-    ghost sized = { λ v h. halves_sized (cast_unsigned w128 v) };
-
-    ghost readable = { long_readable };
+    ghost written = { λ v h. h };
 }
 
 /// The number that these eight bytes spell.

@@ -136,14 +136,13 @@ impl FixedKey for Name {
 }
 
 impl Fixed for Name {
-    ghost use Rattle.std.specs.Prelude.{◌≡◌, ℕ, List, length};
-    ghost use Rattle.fkv_functions.specs.Names.{name_bytes, name_sized, name_readable};
+    ghost use Rattle.fkv_functions.specs.Names.{name_codec};
 
     const SIZE: usize = 32;
 
     ghost SIZE = { 32 };
 
-    ghost bytes_of = { name_bytes };
+    ghost codec = { name_codec };
 
     fn put(&self, out: &mut [u8]) {
         let (length, rest) = out.split_at_mut(1);
@@ -170,9 +169,7 @@ impl Fixed for Name {
         length[0] == self.len && is_same(rest, self.bytes.as_slice())
     }
 
-    ghost sized = { λ v h. name_sized v };
-
-    ghost readable = { λ v w h k e. name_readable v w e };
+    ghost written = { λ v h. h };
 }
 
 /// The name of the first of these 31 bytes, so many, with zeros behind them.

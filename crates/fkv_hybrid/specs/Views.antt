@@ -37,6 +37,21 @@ log_view pages regions = record {
   text = pages.text;
 }
 
+-- the pages of a log
+abbrev pub pages_of : {K V : Type 0} → LogView K V → PagesView K V
+pages_of log = record {
+  bits = log.bits;
+  frames = log.frames;
+  begin = log.begin;
+  from = log.from;
+  closed = log.regions.offsets.closed;
+  frozen = log.regions.offsets.safe_read_only;
+  tail = log.tail;
+  receipts = log.receipts;
+  waiting = log.waiting;
+  text = log.text;
+}
+
 -- a log of no records and no sessions
 abbrev pub empty_log : {K V : Type 0} → ℕ → ℕ → LogView K V
 empty_log bits frames = record {

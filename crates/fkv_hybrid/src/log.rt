@@ -1,18 +1,15 @@
 //! The log: pages and regions that move together.
-ghost use Rattle.std.specs.Prelude.{◌≡◌, ◌+◌, ◌-◌, ◌^◌, ◌<◌, ◌≤◌, ◌↔◌, ℕ, List, Ok, Err, IfOk, IfErr, IfSome, IsTrue};
+ghost use Rattle.std.specs.Prelude.{◌≡◌, ◌+◌, ◌-◌, ◌^◌, ◌<◌, ◌↔◌, ℕ, List, Ok, Err, IfOk, IfErr, IfSome, IsTrue};
 ghost use Rattle.std.specs.Prelude.{Some, None, IsSome, OnErr, length, slice_get};
 ghost use Rattle.fkv_records.specs.Places.{page_at};
 ghost use Rattle.fkv_records.specs.Records.{size_of, IsPrevious};
 ghost use Rattle.fkv_device.specs.Standing.{Standing};
-ghost use Rattle.fkv_texts.specs.Places.{tail_after};
 ghost use Rattle.fkv_pages.specs.Spelled.{IsPageOf};
-ghost use Rattle.fkv_hybrid.specs.Views.{empty_log, with_entry, IsFull};
+ghost use Rattle.fkv_hybrid.specs.Views.{empty_log, pages_of, with_entry, IsFull};
 ghost use Rattle.fkv_hybrid.specs.Logs.{IsLogOf};
 
 mod edits;
 mod flushes;
-mod loads;
-mod reads;
 mod sessions;
 mod truncation;
 
@@ -59,45 +56,14 @@ impl<K: Fixed, V: Fixed, R: Receipt> Log<K, V, R> {
         }
     }
 
-    /// How the pages and their records are laid out.
-    pub fn shape(&self) -> Shape
-        ensures bits { result.page_bits ≡ self.now.bits }
-        ensures size { result.record_size ≡ size_of K.SIZE V.SIZE }
+    /// The pages: what is read of the log is read there.
+    pub fn pages(&self) -> &Pages<K, V, R>
+        ensures { result.now ≡ pages_of self.now }
     {
-        self.pages.shape()
+        &self.pages
     }
 
-    /// Where the entries begin that are not dropped.
-    pub fn begin(&self) -> Address
-        ensures { result ≡ self.now.begin }
-    {
-        self.pages.begin()
-    }
-
-    /// The address of the next record, or 2^48 where there can't be one.
-    pub fn tail(&self) -> Address
-        ensures tail { result ≡ self.now.tail }
-        ensures most { result ≤ 2 ^ 48 }
-    {
-        self.pages.tail()
-    }
-
-    /// The address after one: where the next entry stands behind an entry, or 2^48 where no record can.
-    pub fn next(&self, address: Address) -> Address
-        ensures next { result ≡ tail_after self.now.bits (size_of K.SIZE V.SIZE) address }
-        ensures rises { address < 2 ^ 48 → address < result }
-    {
-        self.pages.next(address)
-    }
-
-    /// Whether the next record needs a page whose frame is still in use.
-    pub fn is_full(&self) -> bool
-        ensures { IsTrue result ↔ IsFull self.now }
-    {
-        self.pages.is_full()
-    }
-
-    /// Appends a record and answers its address, or `None` where there is no room ([`Log::is_full`]), and then nothing
+    /// Appends a record and answers its address, or `None` where there is no room ([`Pages::is_full`]), and then nothing
     /// changes. The value of a delta is a part, to be joined with what the key had before. No memory is taken.
     /// Refused, and then nothing changes: `Worn` where no address is left.
     pub fn append(
@@ -134,7 +100,7 @@ impl<K: Fixed, V: Fixed, R: Receipt> Log<K, V, R> {
             ≡ page_at self.now.bits self.now.regions.offsets.safe_read_only - length self.now.receipts }
         ensures spelled { (i : ℕ) (page : List ℕ)
             → slice_get self.now.waiting i ≡ Some page
-            → IsPageOf K.bytes_of V.bytes_of K.SIZE V.SIZE self.now.bits (length self.now.receipts + i)
+            → IsPageOf K.codec V.codec self.now.bits (length self.now.receipts + i)
             self.now.text page }
     {
         self.pages.known();

@@ -51,7 +51,7 @@ impl<K: Fixed, V: Fixed, R: Receipt> Log<K, V, R> {
     {
         self.known();
         Scan {
-            address: self.begin(),
+            address: self.pages().begin(),
             loaded: None,
         }
     }
@@ -91,20 +91,21 @@ impl<K: Fixed, V: Fixed, R: Receipt> Log<K, V, R> {
     {
         self.known();
         let address = scan.address;
-        let page = self.shape().page_of(address);
-        if page >= self.unflushed() {
-            scan.address = self.next(address);
-            return Ok(self.record_at(address));
+        let pages = self.pages();
+        let page = pages.shape().page_of(address);
+        if page >= pages.unflushed() {
+            scan.address = pages.next(address);
+            return Ok(pages.record_at(address));
         }
         let held = scan.loaded.take();
         let loaded = match self.turned(reader, held, page) {
             Ok(loaded) => loaded,
             Err(refused) => return Err(refused),
         };
-        match self.own_record_in(&loaded, address) {
+        match pages.own_record_in(&loaded, address) {
             Ok(entry) => {
                 scan.loaded = Some(loaded);
-                scan.address = self.next(address);
+                scan.address = pages.next(address);
                 Ok(entry)
             }
             Err(refused) => Err(refused),
@@ -158,10 +159,10 @@ impl<K: Fixed, V: Fixed, R: Receipt> Log<K, V, R> {
             → MayFail R.stands P.can_fail self.now.receipts self.now.bits page) }
     {
         self.known();
-        let receipt = match self.receipt(page) {
+        let receipt = match self.pages().receipt(page) {
             Ok(receipt) => receipt,
             Err(refused) => return Err(refused),
         };
-        Loaded::fetch(reader, &receipt, self.shape().page_size())
+        Loaded::fetch(reader, &receipt, self.pages().shape().page_size())
     }
 }

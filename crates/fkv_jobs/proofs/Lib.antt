@@ -1,1 +1,2 @@
 mod HandleLemmas
+mod SpreadLemmas

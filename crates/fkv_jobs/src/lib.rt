@@ -7,6 +7,8 @@
 
 mod jobs;
 mod keepers;
+mod spread;
 
 pub use jobs::{Job, Ran, run_jobs};
 pub use keepers::Keeper;
+pub use spread::run_spread;

@@ -1,4 +1,4 @@
--- What an update in one call leaves of a session that had nothing open.
+-- What an update in one call leaves of a session that had nothing open, and a read.
 use Rattle.std.proofs.Common.{◌≡◌, ◌≢◌, Bool, true, false, ℕ, ◌<◌, inr, Option, Some, None, Ok, nat_lt, option_map, refl, sym, ◌∙◌, ap, subst, arith}
 use Rattle.std.proofs.lemmas.Option.{same_Some}
 use Rattle.std.proofs.lemmas.Bool.Decides.{nat_tests}
@@ -11,11 +11,12 @@ use Rattle.fkv_operations.specs.After.{after, answer}
 use Rattle.fkv_operations.specs.Operations.{map_after, answer_to}
 use Rattle.fkv_operations.specs.declared.operations.KeyedOp.TheVariants as keyed
 use Rattle.fkv_operations.specs.declared.operations.Op.TheVariants.{Rmw}
+use Rattle.fkv_operations.specs.declared.operations.Answer.{Answer}
 use Rattle.fkv_operations.specs.declared.operations.Answer.TheVariants.{Value}
 use Rattle.fkv_partition.specs.CoreContexts.{is_session}
 use Rattle.fkv_partition.specs.CoreViews.{context_at, live_of}
 use Rattle.fkv_partition.specs.CoreEffect as key_effect
-use Rattle.fkv_partition.specs.AtOnce.{IsDoneAtOnce}
+use Rattle.fkv_partition.specs.AtOnce.{IsDoneAtOnce, IsReadAtOnce}
 use Rattle.fkv_partition.specs.Effect.{Asked, asked, asked_of}
 use Rattle.fkv_partition.specs.Views.{PartitionView, relocation_at}
 use Rattle.fkv_partition.specs.declared.relocations.Relocation.{Relocation}
@@ -71,3 +72,7 @@ at-once_runs {K} {V} {I} stands cmp join f code v w key input issued now shown i
 
     told : Value shown ≡ answer_to f (live_of cmp d.between.core) (Rmw key input)
     told = subst (λ q. Value shown ≡ answer_to f (live_of cmp d.between.core) q) question d.event.effect.3
+
+pub read_runs : {K V I O : Type 0} (keeps : Bool) (cmp : K → K → Ordering) (join : V → V → V) (f : Meanings K V I O) (code : K → ℕ) (v : PartitionView K V I) (key : K) (input : I) (told : Answer O)
+    → IsIdle v 0 → IsReadAtOnce cmp join f code v 0 key input told → Runs keeps cmp f v v (keyed.Read key input) (Ok told)
+read_runs keeps cmp join f code v key input told i d = record { number = refl; count = refl; idle = i; effect = λ _. ((λ k. refl), d.read.shows) }

@@ -24,7 +24,7 @@ use Rattle.fkv_partition.specs.Beginning.{Relocates}
 use Rattle.fkv_partition.specs.Checking.{Ends, Asks, ChecksLiveness, renewed}
 use Rattle.fkv_partition.specs.Events.{Issues, Goes, Loads}
 use Rattle.fkv_partition.specs.Going.{Awaited, awaited, awaited_by, GoesOn}
-use Rattle.fkv_partition.specs.Reading.{LoadsOn}
+use Rattle.fkv_partition.specs.Reading.{LoadsOn, WaitsOn}
 use Rattle.fkv_partition.specs.Views.{PartitionView, relocation_at, with_relocation, at_stage}
 use Rattle.fkv_partition.specs.declared.relocations.Relocation.{Relocation}
 use Rattle.fkv_partition.specs.declared.relocations.Stage.TheVariants.{Fresh, Tracing}
@@ -211,6 +211,14 @@ wanted-here (IsWanted.of_page x wanted s here awaits held) = subst IsSome (sym h
 pub wanted-held : {K V I : Type 0} {v : PartitionView K V I} {c : ℕ} {s : Standing} → ((n : ℕ) (t : Standing) → IsHeldBy v.core.records.receipts n t → (t.page ≡ n) × (t.length ≡ 2 ^ v.core.records.page_bits)) → IsWanted v c (Some s) → IsHeldBy v.core.records.receipts s.page s
 wanted-held {K} {V} {I} {v} {c} known (IsWanted.of_page x wanted s here awaits held) =
     subst (λ n. IsHeldBy v.core.records.receipts n s) (sym (known (page_at v.core.records.page_bits wanted) s held).0) held
+
+-- so the page that stands for the wanted one is the one that is kept, of any page that is waited for
+pub own-waits : {K V I : Type 0} {v : PartitionView K V I} {c page : ℕ} {s t : Standing} → t ≡ s → IsWanted v c (Some s) → WaitsOn v 0 c page → IsHeldBy v.core.records.receipts page t
+own-waits {v = v} {page = page} {t = t} own (IsWanted.of_page x wanted s here awaits held) w =
+    let same : w.relocation ≡ x = same_Some w.relocation x (sym w.awaits.here ∙ here) in
+    let place : w.wanted ≡ wanted = ap (λ (a : Awaited). a.wanted) (same_Some _ _ (sym w.awaits.awaits ∙ ap awaited same ∙ awaits)) in
+    let at : page_at v.core.records.page_bits wanted ≡ page = sym (w.page_is ∙ ap (page_at v.core.records.page_bits) place) in
+    subst (λ n. IsHeldBy v.core.records.receipts n t) at (subst (IsHeldBy v.core.records.receipts (page_at v.core.records.page_bits wanted)) (sym own) held)
 
 -- a page that is kept by the same receipts
 pub kept-then : {R A : Type 0} (stands : R → Standing) (receipts receipts_now : List Standing) (sure : Bool) (kept : Option (Joined R)) (r : Result A Refused) → OnOk r (receipts_now ≡ receipts) → IsKeptBy stands receipts sure kept → OnOk r (IsKeptBy stands receipts_now sure kept)

@@ -177,7 +177,7 @@ fn event<F: Mergeable, D: Disk>(
     ensures steady { OnOk result (D.Reader.failures shard.new.reader ≡ D.Reader.failures shard.old.reader) }
     ensures same_begin { shard.new.part.partition.core.records.begin ≡ shard.old.part.partition.core.records.begin }
     ensures told { IfErr result (IsWorkRefusal (IsAstray
-        (IsEntryIn F.Key.bytes_of F.Value.bytes_of F.Key.is_known F.Value.is_known F.Key.SIZE F.Value.SIZE) F.Key.cmp)
+        (IsEntryIn F.Key.codec F.Value.codec) F.Key.cmp)
         shard.new.part.partition.core.records.tail clock.new
         (failures_of D.Writer.failures D.Reader.failures shard.old.part.writer shard.old.reader)
         (failures_of D.Writer.failures D.Reader.failures shard.new.part.writer shard.new.reader)) }
@@ -198,7 +198,7 @@ fn event<F: Mergeable, D: Disk>(
             shard
                 .part
                 .partition
-                .load(SLOT, context, Ok(page), functions, now)
+                .load_own(SLOT, context, page, functions, now)
         }
     }
 }
@@ -226,7 +226,7 @@ fn go_on<F: Mergeable, D: Disk>(
     ensures steady { OnOk result (D.Reader.failures shard.new.reader ≡ D.Reader.failures shard.old.reader) }
     ensures same_begin { shard.new.part.partition.core.records.begin ≡ shard.old.part.partition.core.records.begin }
     ensures told { IfErr result (IsWorkRefusal (IsAstray
-        (IsEntryIn F.Key.bytes_of F.Value.bytes_of F.Key.is_known F.Value.is_known F.Key.SIZE F.Value.SIZE) F.Key.cmp)
+        (IsEntryIn F.Key.codec F.Value.codec) F.Key.cmp)
         shard.new.part.partition.core.records.tail clock.new
         (failures_of D.Writer.failures D.Reader.failures shard.old.part.writer shard.old.reader)
         (failures_of D.Writer.failures D.Reader.failures shard.new.part.writer shard.new.reader)) }
@@ -292,7 +292,7 @@ fn relocate<F: Mergeable, D: Disk>(
     ensures steady { OnOk result (D.Reader.failures shard.new.reader ≡ D.Reader.failures shard.old.reader) }
     ensures same_begin { shard.new.part.partition.core.records.begin ≡ shard.old.part.partition.core.records.begin }
     ensures told { IfErr result (IsWorkRefusal (IsAstray
-        (IsEntryIn F.Key.bytes_of F.Value.bytes_of F.Key.is_known F.Value.is_known F.Key.SIZE F.Value.SIZE) F.Key.cmp)
+        (IsEntryIn F.Key.codec F.Value.codec) F.Key.cmp)
         shard.new.part.partition.core.records.tail clock.new
         (failures_of D.Writer.failures D.Reader.failures shard.old.part.writer shard.old.reader)
         (failures_of D.Writer.failures D.Reader.failures shard.new.part.writer shard.new.reader)) }
@@ -366,7 +366,7 @@ fn clear<F: Mergeable, D: Disk>(
         ≡ failures_of D.Writer.failures D.Reader.failures shard.old.part.writer shard.old.reader) }
     ensures same_begin { shard.new.part.partition.core.records.begin ≡ shard.old.part.partition.core.records.begin }
     ensures told { IfErr result (IsWorkRefusal (IsAstray
-        (IsEntryIn F.Key.bytes_of F.Value.bytes_of F.Key.is_known F.Value.is_known F.Key.SIZE F.Value.SIZE) F.Key.cmp)
+        (IsEntryIn F.Key.codec F.Value.codec) F.Key.cmp)
         shard.new.part.partition.core.records.tail clock.new
         (failures_of D.Writer.failures D.Reader.failures shard.old.part.writer shard.old.reader)
         (failures_of D.Writer.failures D.Reader.failures shard.new.part.writer shard.new.reader)) }
@@ -447,7 +447,7 @@ pub fn compact<F: Mergeable, D: Disk>(
     ensures steady { OnOk result (failures_of D.Writer.failures D.Reader.failures shard.new.part.writer shard.new.reader
         ≡ failures_of D.Writer.failures D.Reader.failures shard.old.part.writer shard.old.reader) }
     ensures told { IfErr result (IsWorkRefusal (IsAstray
-        (IsEntryIn F.Key.bytes_of F.Value.bytes_of F.Key.is_known F.Value.is_known F.Key.SIZE F.Value.SIZE) F.Key.cmp)
+        (IsEntryIn F.Key.codec F.Value.codec) F.Key.cmp)
         shard.new.part.partition.core.records.tail clock.new
         (failures_of D.Writer.failures D.Reader.failures shard.old.part.writer shard.old.reader)
         (failures_of D.Writer.failures D.Reader.failures shard.new.part.writer shard.new.reader)) }

@@ -2,7 +2,7 @@
 ghost use Rattle.std.specs.Prelude.{◌≡◌, ◌<◌, ◌≤◌, ◌+◌, ◌-◌, ◌^◌, ℕ, None, Ok, Err, true, IsTrue, IfOk, IfErr, IfSome, OnOk, OnErr};
 ghost use Rattle.fkv_pages.specs.Spelled.{IsEntryIn};
 ghost use Rattle.fkv_operations.specs.After.{key_of, is_merge};
-ghost use Rattle.fkv_operations.specs.declared.operations.KeyedOp.TheVariants.{Rmw};
+ghost use Rattle.fkv_operations.specs.declared.operations.KeyedOp.TheVariants.{Read, Rmw};
 ghost use Rattle.fkv_operations.specs.declared.operations.Answer.TheVariants.{Value};
 ghost use Rattle.fkv_partition.specs.CoreViews.{partition_of};
 ghost use Rattle.fkv_partition.specs.Views.{with_core};
@@ -41,7 +41,7 @@ fn once<F: Mergeable, D: Disk, P: PageReader<Receipt = D::Receipt>>(
     ensures ends { Ends D.Receipt.keeps F.Key.cmp F.parts.joined F.meaning F.code op part.old.partition part.new.partition 0
         (2 ^ 64 - 1) clock.old clock.new (P.failures reader.old) (P.failures reader.new) result }
     ensures spoilt { (page : ℕ) → result ≡ Err (Refused.Damaged page) → P.failures reader.new ≡ P.failures reader.old
-        → IsSpoilt (IsEntryIn F.Key.bytes_of F.Value.bytes_of F.Key.is_known F.Value.is_known F.Key.SIZE F.Value.SIZE)
+        → IsSpoilt (IsEntryIn F.Key.codec F.Value.codec)
         F.Key.cmp page }
     ensures unread { is_merge op ≡ true → reader.new ≡ reader.old }
     ensures rest { part.new.partition ≡ with_core part.old.partition part.new.partition.core }
@@ -84,7 +84,7 @@ pub fn run_by_events<F: Mergeable, D: Disk, P: PageReader<Receipt = D::Receipt>>
     ensures passed { IsPassed part.new.partition.core.moment clock.old clock.new }
     ensures unread { is_merge op ≡ true → reader.new ≡ reader.old }
     ensures told { IfErr result (IsStopped F.MERGES
-        (IsEntryIn F.Key.bytes_of F.Value.bytes_of F.Key.is_known F.Value.is_known F.Key.SIZE F.Value.SIZE) F.Key.cmp
+        (IsEntryIn F.Key.codec F.Value.codec) F.Key.cmp
         op terms.now.tries part.new.partition.core.records.tail clock.old clock.new
         (failures_of D.Writer.failures P.failures part.old.writer reader.old)
         (failures_of D.Writer.failures P.failures part.new.writer reader.new)) }
@@ -143,8 +143,8 @@ pub fn update_at_once<F: Mergeable, D: Disk>(
     }
 }
 
-/// Counts an operation, and before every 64th moves the partition's pages on, and compacts its log where that is due. Refused as
-/// [`tidy`] is.
+/// Counts an operation, and before every 64th moves the partition's pages on, where a record was appended since, and compacts its
+/// log where that is due. Refused as [`tidy`] is.
 pub fn tidy_at_times<F: Mergeable, D: Disk>(
     terms: &Terms<F>,
     shard: &mut Shard<F, D>,
@@ -166,8 +166,12 @@ pub fn tidy_at_times<F: Mergeable, D: Disk>(
     if shard.part.operations % 64 != 0 {
         return Ok(());
     }
+    let tail = shard.part.partition.tail();
+    if shard.part.tidied == tail {
+        return Ok(());
+    }
     match tidy(terms.alloc, terms.frames, &mut shard.part, clock) {
-        Ok(()) => {}
+        Ok(()) => shard.part.tidied = tail,
         Err(refused) => return Err(refused),
     }
     compact_where_due(terms, shard, clock);
@@ -189,7 +193,34 @@ pub fn operate<F: Mergeable, D: Disk>(
     ensures runs { Runs D.Receipt.keeps F.Key.cmp F.meaning shard.old.part.partition shard.new.part.partition op result }
     ensures passed { IsPassed shard.new.part.partition.core.moment clock.old clock.new }
     ensures told { IfErr result (IsRefusedBy F.MERGES terms.now.keeps_log
-        (IsEntryIn F.Key.bytes_of F.Value.bytes_of F.Key.is_known F.Value.is_known F.Key.SIZE F.Value.SIZE) F.Key.cmp
+        (IsEntryIn F.Key.codec F.Value.codec) F.Key.cmp
+        D.Writer.failures D.Reader.failures op terms.now.tries shard.new.part.partition.core.records.tail clock.old clock.new
+        shard.old.part.writer shard.old.reader shard.new.part.writer shard.new.reader) }
+{
+    match op {
+        KeyedOp::Read(key, input) => read(terms, shard, &key, &input, clock),
+        KeyedOp::Rmw(key, input) => update(terms, shard, &key, &input, clock),
+        KeyedOp::Upsert(..) | KeyedOp::Delete(_) | KeyedOp::Merge(..) => {
+            operate_by_events(terms, shard, op, clock)
+        }
+    }
+}
+
+/// Makes an operation as [`operate`] does, by the events of its partition.
+fn operate_by_events<F: Mergeable, D: Disk>(
+    terms: &Terms<F>,
+    shard: &mut Shard<F, D>,
+    op: KeyedOpOf<F>,
+    clock: &mut Clock,
+) -> Result<Answer<F::Output>, Refused>
+    requires idle { IsIdle shard.old.part.partition 0 }
+    requires own { partition_of shard.old.part.partition.core.count (F.code (key_of op)) ≡ shard.old.part.partition.core.number }
+    requires past { shard.old.part.partition.core.moment ≤ clock.old }
+    requires begun { 0 < clock.old }
+    ensures runs { Runs D.Receipt.keeps F.Key.cmp F.meaning shard.old.part.partition shard.new.part.partition op result }
+    ensures passed { IsPassed shard.new.part.partition.core.moment clock.old clock.new }
+    ensures told { IfErr result (IsRefusedBy F.MERGES terms.now.keeps_log
+        (IsEntryIn F.Key.codec F.Value.codec) F.Key.cmp
         D.Writer.failures D.Reader.failures op terms.now.tries shard.new.part.partition.core.records.tail clock.old clock.new
         shard.old.part.writer shard.old.reader shard.new.part.writer shard.new.reader) }
 {
@@ -201,7 +232,47 @@ pub fn operate<F: Mergeable, D: Disk>(
     run_by_events(terms, &mut shard.part, &mut shard.reader, op, clock)
 }
 
+/// Makes a read as [`operate`] does, in one call where no page has to be read for it: then it takes no moment.
+#[inline(always)]
+pub fn read<F: Mergeable, D: Disk>(
+    terms: &Terms<F>,
+    shard: &mut Shard<F, D>,
+    key: &F::Key,
+    input: &F::Input,
+    clock: &mut Clock,
+) -> Result<Answer<F::Output>, Refused>
+    requires idle { IsIdle shard.old.part.partition 0 }
+    requires own { partition_of shard.old.part.partition.core.count (F.code key.now) ≡ shard.old.part.partition.core.number }
+    requires past { shard.old.part.partition.core.moment ≤ clock.old }
+    requires begun { 0 < clock.old }
+    ensures runs { Runs D.Receipt.keeps F.Key.cmp F.meaning shard.old.part.partition shard.new.part.partition
+        (Read key.now input.now) result }
+    ensures passed { IsPassed shard.new.part.partition.core.moment clock.old clock.new }
+    ensures told { IfErr result (IsRefusedBy F.MERGES terms.now.keeps_log
+        (IsEntryIn F.Key.codec F.Value.codec) F.Key.cmp
+        D.Writer.failures D.Reader.failures (Read key.now input.now) terms.now.tries shard.new.part.partition.core.records.tail clock.old clock.new
+        shard.old.part.writer shard.old.reader shard.new.part.writer shard.new.reader) }
+{
+    match tidy_at_times(terms, shard, clock) {
+        Ok(()) => {}
+        Err(refused) => return Err(refused),
+    }
+    let functions = &terms.functions;
+    match shard
+        .part
+        .partition
+        .read_at_once(SLOT, key, input, functions)
+    {
+        Some(answer) => Ok(answer),
+        None => {
+            let read = KeyedOp::Read(*key, *input);
+            run_by_events(terms, &mut shard.part, &mut shard.reader, read, clock)
+        }
+    }
+}
+
 /// Makes an update as [`operate`] does, in one call where the key's last record may be changed in place.
+#[inline(always)]
 pub fn update<F: Mergeable, D: Disk>(
     terms: &Terms<F>,
     shard: &mut Shard<F, D>,
@@ -217,7 +288,7 @@ pub fn update<F: Mergeable, D: Disk>(
         (Rmw key.now input.now) result }
     ensures passed { IsPassed shard.new.part.partition.core.moment clock.old clock.new }
     ensures told { IfErr result (IsRefusedBy F.MERGES terms.now.keeps_log
-        (IsEntryIn F.Key.bytes_of F.Value.bytes_of F.Key.is_known F.Value.is_known F.Key.SIZE F.Value.SIZE) F.Key.cmp
+        (IsEntryIn F.Key.codec F.Value.codec) F.Key.cmp
         D.Writer.failures D.Reader.failures (Rmw key.now input.now) terms.now.tries shard.new.part.partition.core.records.tail clock.old clock.new
         shard.old.part.writer shard.old.reader shard.new.part.writer shard.new.reader) }
 {

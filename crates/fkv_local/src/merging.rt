@@ -38,7 +38,7 @@ fn run_in_memory<F: Mergeable, D: Disk>(
     ensures merges { is_merge op ≡ true → IfOk result IsSome }
     ensures passed { IsPassed part.new.partition.core.moment clock.old clock.new }
     ensures told { IfErr result (λ e. (reads : ℕ) → IsStopped F.MERGES
-        (IsEntryIn F.Key.bytes_of F.Value.bytes_of F.Key.is_known F.Value.is_known F.Key.SIZE F.Value.SIZE) F.Key.cmp
+        (IsEntryIn F.Key.codec F.Value.codec) F.Key.cmp
         op terms.now.tries part.new.partition.core.records.tail clock.old clock.new
         (record { writes = D.Writer.failures part.old.writer; reads = reads })
         (record { writes = D.Writer.failures part.new.writer; reads = reads }) e) }
@@ -73,7 +73,7 @@ fn merge_for_page<F: Mergeable, D: Disk>(
     ensures runs { Updates D.Receipt.keeps F.Key.cmp F.meaning part.old.partition part.new.partition key.now input.now result }
     ensures passed { IsPassed part.new.partition.core.moment clock.old clock.new }
     ensures told { IfErr result (λ e. (reads : ℕ) → IsStopped F.MERGES
-        (IsEntryIn F.Key.bytes_of F.Value.bytes_of F.Key.is_known F.Value.is_known F.Key.SIZE F.Value.SIZE) F.Key.cmp
+        (IsEntryIn F.Key.codec F.Value.codec) F.Key.cmp
         (Rmw key.now input.now) terms.now.tries part.new.partition.core.records.tail clock.old clock.new
         (record { writes = D.Writer.failures part.old.writer; reads = reads })
         (record { writes = D.Writer.failures part.new.writer; reads = reads }) e) }
@@ -111,7 +111,7 @@ pub fn update_or_merge<F: Mergeable, D: Disk>(
         key.now input.now result }
     ensures passed { IsPassed shard.new.part.partition.core.moment clock.old clock.new }
     ensures told { IfErr result (IsRefusedBy F.MERGES terms.now.keeps_log
-        (IsEntryIn F.Key.bytes_of F.Value.bytes_of F.Key.is_known F.Value.is_known F.Key.SIZE F.Value.SIZE) F.Key.cmp
+        (IsEntryIn F.Key.codec F.Value.codec) F.Key.cmp
         D.Writer.failures D.Reader.failures (Rmw key.now input.now) terms.now.tries shard.new.part.partition.core.records.tail clock.old clock.new
         shard.old.part.writer shard.old.reader shard.new.part.writer shard.new.reader) }
     ensures unread { IsTrue F.MERGES → IsTrue terms.now.keeps_log → shard.new.reader ≡ shard.old.reader }

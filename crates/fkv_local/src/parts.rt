@@ -34,6 +34,8 @@ pub struct Part<F: Mergeable, D: Disk> {
     pub writer: D::Writer,
     /// The operations that came here, as far as a byte counts.
     pub operations: u8,
+    /// Where the log ended as pages were moved on for such an operation last.
+    pub tidied: Address,
     /// Head as the log was compacted last, and the bytes that were left below it.
     pub compacted: Address,
     pub left: u64,
@@ -97,6 +99,7 @@ fn placed<F: Mergeable, D: Disk>(
                 partition,
                 writer,
                 operations: 0,
+                tidied: 0,
                 compacted: FIRST,
                 left: 0,
             },

@@ -16,7 +16,7 @@ ghost use Rattle.fkv_local.specs.Listing.{IsUnlisted, lists_of, left};
 
 use crate::compacting::{Effort, compact};
 use crate::counting::{Counts, appended_records, held_bytes};
-use crate::driving::{operate, update};
+use crate::driving::{operate, read, update};
 use crate::gathering::gather;
 use crate::listing::Lists;
 use crate::merging::update_or_merge;
@@ -118,7 +118,7 @@ impl<F: Mergeable, D: Disk> LocalStore<F, D> {
     pub fn run(&mut self, op: KeyedOpOf<F>) -> Result<Answer<F::Output>, Refused>
         ensures runs { IsTrue D.Receipt.keeps → IsRun F.Key.cmp F.meaning (plain F.Key.cmp F.code self.old) (plain F.Key.cmp F.code self.new) op result }
         ensures told { IfErr result (IsRefusal F.MERGES
-            (IsEntryIn F.Key.bytes_of F.Value.bytes_of F.Key.is_known F.Value.is_known F.Key.SIZE F.Value.SIZE) F.Key.cmp
+            (IsEntryIn F.Key.codec F.Value.codec) F.Key.cmp
             F.code D.Writer.failures D.Reader.failures self.old self.new op) }
         ensures same_terms { SameTerms self.old self.new }
     {
@@ -136,7 +136,7 @@ impl<F: Mergeable, D: Disk> LocalStore<F, D> {
     pub fn rmw(&mut self, key: &F::Key, input: &F::Input) -> Result<Answer<F::Output>, Refused>
         ensures runs { IsTrue D.Receipt.keeps → IsRun F.Key.cmp F.meaning (plain F.Key.cmp F.code self.old) (plain F.Key.cmp F.code self.new) (Rmw key.now input.now) result }
         ensures told { IfErr result (IsRefusal F.MERGES
-            (IsEntryIn F.Key.bytes_of F.Value.bytes_of F.Key.is_known F.Value.is_known F.Key.SIZE F.Value.SIZE) F.Key.cmp
+            (IsEntryIn F.Key.codec F.Value.codec) F.Key.cmp
             F.code D.Writer.failures D.Reader.failures self.old self.new (Rmw key.now input.now)) }
         ensures same_terms { SameTerms self.old self.new }
     {
@@ -158,7 +158,7 @@ impl<F: Mergeable, D: Disk> LocalStore<F, D> {
     ) -> Result<Answer<F::Output>, Refused>
         ensures runs { IsTrue D.Receipt.keeps → IsUpdateRun F.Key.cmp F.meaning (plain F.Key.cmp F.code self.old) (plain F.Key.cmp F.code self.new) key.now input.now result }
         ensures told { IfErr result (IsRefusal F.MERGES
-            (IsEntryIn F.Key.bytes_of F.Value.bytes_of F.Key.is_known F.Value.is_known F.Key.SIZE F.Value.SIZE) F.Key.cmp
+            (IsEntryIn F.Key.codec F.Value.codec) F.Key.cmp
             F.code D.Writer.failures D.Reader.failures self.old self.new (Rmw key.now input.now)) }
         ensures unread { IsTrue F.MERGES → IsTrue self.old.keeps_log → self.new.readers ≡ self.old.readers }
         ensures same_terms { SameTerms self.old self.new }
@@ -168,7 +168,7 @@ impl<F: Mergeable, D: Disk> LocalStore<F, D> {
         update_or_merge(&self.terms, shard, key, input, &mut self.clock)
     }
 
-    /// Shows a key's value, for an input.
+    /// Shows a key's value, for an input. One in memory is read in one call, and takes no moment.
     ///
     /// # Errors
     ///
@@ -176,11 +176,13 @@ impl<F: Mergeable, D: Disk> LocalStore<F, D> {
     pub fn read(&mut self, key: &F::Key, input: &F::Input) -> Result<Answer<F::Output>, Refused>
         ensures runs { IsTrue D.Receipt.keeps → IsRun F.Key.cmp F.meaning (plain F.Key.cmp F.code self.old) (plain F.Key.cmp F.code self.new) (Read key.now input.now) result }
         ensures told { IfErr result (IsRefusal F.MERGES
-            (IsEntryIn F.Key.bytes_of F.Value.bytes_of F.Key.is_known F.Value.is_known F.Key.SIZE F.Value.SIZE) F.Key.cmp
+            (IsEntryIn F.Key.codec F.Value.codec) F.Key.cmp
             F.code D.Writer.failures D.Reader.failures self.old self.new (Read key.now input.now)) }
         ensures same_terms { SameTerms self.old self.new }
     {
-        self.run(KeyedOp::Read(*key, *input))
+        let home = self.home(key);
+        let shard = &mut self.shards[home];
+        read(&self.terms, shard, key, input, &mut self.clock)
     }
 
     /// Sets a key's value, whatever it was.
@@ -191,7 +193,7 @@ impl<F: Mergeable, D: Disk> LocalStore<F, D> {
     pub fn upsert(&mut self, key: &F::Key, value: &F::Value) -> Result<Answer<F::Output>, Refused>
         ensures runs { IsTrue D.Receipt.keeps → IsRun F.Key.cmp F.meaning (plain F.Key.cmp F.code self.old) (plain F.Key.cmp F.code self.new) (Upsert key.now value.now) result }
         ensures told { IfErr result (IsRefusal F.MERGES
-            (IsEntryIn F.Key.bytes_of F.Value.bytes_of F.Key.is_known F.Value.is_known F.Key.SIZE F.Value.SIZE) F.Key.cmp
+            (IsEntryIn F.Key.codec F.Value.codec) F.Key.cmp
             F.code D.Writer.failures D.Reader.failures self.old self.new (Upsert key.now value.now)) }
         ensures same_terms { SameTerms self.old self.new }
     {
@@ -206,7 +208,7 @@ impl<F: Mergeable, D: Disk> LocalStore<F, D> {
     pub fn delete(&mut self, key: &F::Key) -> Result<Answer<F::Output>, Refused>
         ensures runs { IsTrue D.Receipt.keeps → IsRun F.Key.cmp F.meaning (plain F.Key.cmp F.code self.old) (plain F.Key.cmp F.code self.new) (Delete key.now) result }
         ensures told { IfErr result (IsRefusal F.MERGES
-            (IsEntryIn F.Key.bytes_of F.Value.bytes_of F.Key.is_known F.Value.is_known F.Key.SIZE F.Value.SIZE) F.Key.cmp
+            (IsEntryIn F.Key.codec F.Value.codec) F.Key.cmp
             F.code D.Writer.failures D.Reader.failures self.old self.new (Delete key.now)) }
         ensures same_terms { SameTerms self.old self.new }
     {
@@ -221,7 +223,7 @@ impl<F: Mergeable, D: Disk> LocalStore<F, D> {
     pub fn merge(&mut self, key: &F::Key, input: &F::Input) -> Result<Answer<F::Output>, Refused>
         ensures runs { IsTrue D.Receipt.keeps → IsRun F.Key.cmp F.meaning (plain F.Key.cmp F.code self.old) (plain F.Key.cmp F.code self.new) (Merge key.now input.now) result }
         ensures told { IfErr result (IsRefusal F.MERGES
-            (IsEntryIn F.Key.bytes_of F.Value.bytes_of F.Key.is_known F.Value.is_known F.Key.SIZE F.Value.SIZE) F.Key.cmp
+            (IsEntryIn F.Key.codec F.Value.codec) F.Key.cmp
             F.code D.Writer.failures D.Reader.failures self.old self.new (Merge key.now input.now)) }
         ensures same_terms { SameTerms self.old self.new }
     {
@@ -287,7 +289,7 @@ impl<F: Mergeable, D: Disk> LocalStore<F, D> {
         ensures whole { OnOk result ((p : ℕ) (v : PartitionView F.Key F.Value F.Input) → slice_get self.new.parts p ≡ Some v → IsAllCut v) }
         ensures steady { OnOk result ((p : ℕ) → FailedAsBefore D.Writer.failures D.Reader.failures self.old self.new p) }
         ensures told { IfErr result (IsUncompacted
-            (IsEntryIn F.Key.bytes_of F.Value.bytes_of F.Key.is_known F.Value.is_known F.Key.SIZE F.Value.SIZE) F.Key.cmp
+            (IsEntryIn F.Key.codec F.Value.codec) F.Key.cmp
             D.Writer.failures D.Reader.failures self.old self.new) }
     {
         let mut has_cut = false;
@@ -312,7 +314,7 @@ impl<F: Mergeable, D: Disk> LocalStore<F, D> {
         ensures whole { OnOk result ((v : PartitionView F.Key F.Value F.Input) → slice_get self.new.parts home ≡ Some v → IsAllCut v) }
         ensures steady { OnOk result (FailedAsBefore D.Writer.failures D.Reader.failures self.old self.new home) }
         ensures told { IfErr result (IsUncompactedAt
-            (IsEntryIn F.Key.bytes_of F.Value.bytes_of F.Key.is_known F.Value.is_known F.Key.SIZE F.Value.SIZE) F.Key.cmp
+            (IsEntryIn F.Key.codec F.Value.codec) F.Key.cmp
             D.Writer.failures D.Reader.failures self.old self.new home) }
     {
         let shard = &mut self.shards[home];

@@ -98,8 +98,7 @@ impl<F: Mergeable, R: Receipt, H: Recorder<F>> Locked<F, R, H> {
         came: Result<Loaded<R>, Refused>,
         functions: &F,
     ) -> Result<ProgressOf<F, R>, Refused>
-        ensures effect { IsTimed self.old.clock result (CompactsLoad R.stands (IsEntryIn F.Key.bytes_of F.Value.bytes_of
-            F.Key.is_known F.Value.is_known F.Key.SIZE F.Value.SIZE) F.Key.cmp F.parts.joined F.meaning F.code
+        ensures effect { IsTimed self.old.clock result (CompactsLoad R.stands (IsEntryIn F.Key.codec F.Value.codec) F.Key.cmp F.parts.joined F.meaning F.code
             self.old.partition self.new.partition compactor.now came (self.old.clock + 1) result) }
         ensures tells { IfOk result (IsRelocationProgress (self.old.clock + 1)) }
         ensures cleared { result ≡ Ok (Done Cleared (self.old.clock + 1)) → (c : ℕ)

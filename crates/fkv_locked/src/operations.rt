@@ -181,8 +181,7 @@ impl<F: Mergeable, R: Receipt, H: Recorder<F>> Locked<F, R, H> {
         functions: &F,
     ) -> Result<TurnOf<F, R>, Refused>
         ensures effect { IfOk result (λ turn. (p : _)
-            × Loads R.stands (IsEntryIn F.Key.bytes_of F.Value.bytes_of F.Key.is_known F.Value.is_known F.Key.SIZE
-            F.Value.SIZE) F.Key.cmp F.parts.joined F.meaning F.code
+            × Loads R.stands (IsEntryIn F.Key.codec F.Value.codec) F.Key.cmp F.parts.joined F.meaning F.code
             self.old.partition self.new.partition mine.now.seat.slot mine.now.context came (self.old.clock + 1) (Ok p)
             × IsToldBy p turn) }
         ensures open { OnOk result (IsOpen mine.now self.old) }
@@ -194,8 +193,7 @@ impl<F: Mergeable, R: Receipt, H: Recorder<F>> Locked<F, R, H> {
             IsUnready (asked self.old.partition mine.now.seat.slot mine.now.context) self.old.count self.old.book
             self.old.clock mine.now why
             ⊎ IsLookedEarly (slice_index self.old.looks (place_of mine.now.seat.slot mine.now.context)) mine.now why
-            ⊎ Loads R.stands (IsEntryIn F.Key.bytes_of F.Value.bytes_of F.Key.is_known F.Value.is_known F.Key.SIZE
-            F.Value.SIZE) F.Key.cmp F.parts.joined F.meaning F.code
+            ⊎ Loads R.stands (IsEntryIn F.Key.codec F.Value.codec) F.Key.cmp F.parts.joined F.meaning F.code
             self.old.partition self.new.partition mine.now.seat.slot
             mine.now.context came (self.old.clock + 1) (Err why)) }
         ensures left { IfErr result (λ _. (self.new ≡ self.old) ⊎ IsLoadRefused self.old self.new mine.now) }

@@ -2,6 +2,7 @@
 use Rattle.std.proofs.Common.{◌≡◌, ◌<◌, ◌≤◌, ℕ, Bool, true, false, List, [], ◌∷◌, Option, Some, None, refl, sym, ◌∙◌, ap, subst, arith}
 use Rattle.std.specs.Prelude.{Result, Ok, Err, IsTrue}
 use Rattle.std.specs.declared.cmp.Ordering.{Ordering}
+use Rattle.fkv_functions.specs.Codecs.{Codec}
 use Rattle.fkv_functions.specs.Plain.{IsKeyOrder}
 use Rattle.fkv_functions.specs.declared.refusals.Refused.{Refused}
 use Rattle.fkv_texts.specs.declared.entries.Entry.{Entry}
@@ -191,13 +192,13 @@ pub record IsReadOn {K V : Type 0} (join : V → V → V) (entry : ℕ → Entry
   pub reached : IsReached entry cmp k bits low at (Ok position)
   pub same : (r : Result (Gathered K V) Refused) → IsGathered join entry cmp k bits low at parts r → IsGathered join entry cmp k bits low from before r
 
-module _ {K V : Type 0} (join : V → V → V) (key : K → List ℕ) (value : V → List ℕ) (is_key : K → Type 0) (is_value : V → Type 0) (ksize vsize bits : ℕ) (shape : IsShape bits (size_of ksize vsize)) (bytes : List ℕ)
+module _ {K V : Type 0} {ksize vsize : ℕ} (join : V → V → V) (key : Codec K ksize) (value : Codec V vsize) (bits : ℕ) (shape : IsShape bits (size_of ksize vsize)) (bytes : List ℕ)
     (cmp : K → K → Ordering) (k : K) (low from : ℕ) (before : Option V) where
   abbrev entry : ℕ → Entry K V → Type 0
-  entry = IsEntryIn key value is_key is_value ksize vsize bits bytes
+  entry = IsEntryIn key value bits bytes
 
   falls : (a : ℕ) (e : Entry K V) → entry a e → e.previous < a
-  falls a e here = entry_falls key value is_key is_value ksize vsize bits (size_of ksize vsize) bytes a e shape refl here
+  falls a e here = entry_falls key value bits (size_of ksize vsize) bytes a e shape refl here
 
   reached-low : (a : ℕ) (r : Result (ChainPosition K V) Refused) → IsReached entry cmp k bits low a r → (p : ChainPosition K V) → r ≡ Ok p → at_of p ≤ a
   reached-low a r (reached_below less) p is = let one : Below a ≡ p = cc in subst (λ (x : ChainPosition K V). at_of x ≤ a) one (omega arith)

@@ -5,6 +5,7 @@ use Rattle.std.specs.declared.cmp.Ordering.{Ordering}
 use Rattle.fkv_records.specs.Places.{page_at, offset_at, start_at}
 use Rattle.fkv_device.specs.Standing.{Standing}
 use Rattle.fkv_pages.specs.Views.{text_begin}
+use Rattle.fkv_hybrid.specs.Views.{LogView}
 use Rattle.fkv_texts.specs.declared.entries.Entry.{Entry}
 use Rattle.fkv_texts.specs.Places.{tail_after}
 use Rattle.fkv_texts.specs.Text.{changed, text_from}
@@ -43,6 +44,20 @@ pub record RecordsView (K V : Type 0) : Type 0 where
   pub entries : List (Entry K V)
   pub text : List (Entry K V)
   pub words : List (List Word)
+
+-- the log of the records
+abbrev pub log_of : {K V : Type 0} → RecordsView K V → LogView K V
+log_of v = record {
+  bits = v.page_bits;
+  frames = v.frames;
+  begin = v.begin;
+  from = v.from;
+  tail = v.tail;
+  regions = v.regions;
+  receipts = v.receipts;
+  waiting = v.waiting;
+  text = v.entries;
+}
 
 -- no records, no sessions and no entries
 abbrev pub empty_records : {K V : Type 0} → ℕ → ℕ → ℕ → ℕ → ℕ → RecordsView K V

@@ -21,7 +21,7 @@ ghost use Rattle.fkv_index.specs.Entries.{IsAlone};
 ghost use Rattle.fkv_index.specs.Changes.{SameEntries, SameTentative, SetsEntry};
 ghost use Rattle.fkv_operations.specs.declared.classes.Class.{Class};
 ghost use Rattle.fkv_operations.specs.Classes.{IsClass};
-ghost use Rattle.fkv_lookups.specs.RecordsViews.{empty_records, class_in, entry_of, found_in, IsEntryOf, with_written, Claims, confirmed, released, IsFull};
+ghost use Rattle.fkv_lookups.specs.RecordsViews.{empty_records, log_of, class_in, entry_of, found_in, IsEntryOf, with_written, Claims, confirmed, released, IsFull};
 ghost use Rattle.fkv_lookups.specs.RecordsViews.{ChangesAt};
 ghost use Rattle.fkv_lookups.specs.Traced.{IsTraced, IsStood};
 ghost use Rattle.fkv_lookups.specs.Lookups.{first_up, looked_up};
@@ -32,7 +32,7 @@ use crate::entries::move_entry;
 use crate::gathered::{Gathered, delta_at, onto};
 use crate::payloads::Payload;
 use fkv_device::Receipt;
-use fkv_functions::{Fixed, Functions, Mergeable, Refused};
+use fkv_functions::{Mergeable, Refused};
 use fkv_hybrid::Log;
 use fkv_index::{Index, Place};
 use fkv_operations::{Class, IndexEntry, class_of};
@@ -162,7 +162,7 @@ impl<F: Mergeable, R: Receipt> Records<F, R> {
         ensures { result ≡ first_up F.Key.cmp F.code self.now low key.now entry }
     {
         chains::<F::Key, F::Value, Class>();
-        self.log.first_on_chain(key, entry, low)
+        self.log.pages().first_on_chain(key, entry, low)
     }
 
     /// What a look-up of a key comes to that reads no lower than an address: from its last record there
@@ -185,7 +185,7 @@ impl<F: Mergeable, R: Receipt> Records<F, R> {
         let mut position = first;
         while let Some(last) = delta_at(&position) {
             parts = onto(functions, last.value, parts);
-            position = self.log.first_on_chain(key, last.previous, low);
+            position = self.log.pages().first_on_chain(key, last.previous, low);
         }
         Gathered { parts, position }
     }
@@ -243,7 +243,7 @@ impl<F: Mergeable, R: Receipt> Records<F, R> {
 
     /// Appends a record of a key, behind the last of the key's class, and moves the class's entry to it: a value, a
     /// tombstone, or a part, which is joined with what the key has. Answers the record's
-    /// address, or `None` where there is no room for one ([`Records::is_full`]), and then nothing changes. No memory is
+    /// address, or `None` where there is no room for one ([`fkv_pages::Pages::is_full`]), and then nothing changes. No memory is
     /// taken. Refused, and then nothing changes: `Worn` where no address is left.
     pub fn append(
         &mut self,
@@ -268,7 +268,7 @@ impl<F: Mergeable, R: Receipt> Records<F, R> {
     {
         chains::<F::Key, F::Value, Class>();
         self.log.known();
-        let address = self.log.tail();
+        let address = self.log.pages().tail();
         match self
             .log
             .append(entry.address(), key, payload.value(), payload.is_part())
@@ -282,40 +282,18 @@ impl<F: Mergeable, R: Receipt> Records<F, R> {
         Ok(Some(address))
     }
 
-    /// Whether the next record needs a page whose frame is still in use.
-    pub fn is_full(&self) -> bool
-        ensures { IsTrue result ↔ IsFull self.now }
-    {
-        self.log.is_full()
-    }
-
-    /// The address of the next record, or 2^48 where there can't be one.
-    pub fn tail(&self) -> Address
-        ensures tail { result ≡ self.now.tail }
-        ensures most { result ≤ 2 ^ 48 }
-    {
-        self.log.tail()
-    }
-
-    /// Head: records below it are read from the device by sessions that are refreshed from now on.
-    pub fn head(&self) -> Address
-        ensures { result ≡ self.now.regions.offsets.head }
-    {
-        self.log.regions().offsets().head
-    }
-
-    /// The bytes of a page.
-    pub fn page_size(&self) -> usize
-        ensures { result ≡ 2 ^ self.now.page_bits }
-    {
-        self.log.shape().page_size()
-    }
-
     /// Where the records begin that are not dropped.
     pub fn begin(&self) -> Address
         ensures { result ≡ self.now.begin }
     {
-        self.log.begin()
+        self.log.pages().begin()
+    }
+
+    /// The log of the records.
+    pub fn log(&self) -> &Log<F::Key, F::Value, R>
+        ensures { result.now ≡ log_of self.now }
+    {
+        &self.log
     }
 
     /// What holds of all records of a partition.

@@ -7,6 +7,7 @@ use Rattle.std.specs.Prelude.{slice_range, unwrap_or, IfSome, IsSome, IsTrue, On
 use Rattle.std.specs.Coded.{Coded, Coded-set, coded_ℕ, coded_bool, coded_list, coded×, coded_option, code_by}
 use mathlib.Core.Logic.{∥∥₁_elim}
 use mathlib.Core.HLevel.{Σ_prop_path}
+use Rattle.fkv_functions.specs.Codecs.{Codec}
 use Rattle.fkv_records.specs.Places.{place_after}
 use Rattle.fkv_records.specs.Records.{IsRecord, IsPrevious}
 use Rattle.fkv_records.proofs.RecordLemmas.{part_at}
@@ -23,10 +24,10 @@ pub tail_is : (bits size a : ℕ) (o : Option ℕ) (b : ℕ) → b ≡ unwrap_or
 tail_is bits size a o b e f = e ∙ ap (λ (x : Option ℕ). unwrap_or x (2 ^ 48)) f
 
 -- a record that may stand at an address below 2^48
-pub sound_record : {K V : Type 0} (is_key : K → Type 0) (is_value : V → Type 0) (a p : ℕ) (k : K) (v : Option V) (d : Bool) → a < 2 ^ 48 → IsPrevious a p → is_key k → IfSome v is_value → (IsTrue d → IsSome v)
-    → IsRecord is_key is_value a (record { previous = p; key = k; value = v; delta = d })
-sound_record is_key is_value a p k v d below previous key value whole =
-    record { previous = previous; fits = elim previous [ inl one ↦ omega arith | inr low ↦ omega arith ]; key = key; value = value; whole = whole }
+pub sound_record : {K V : Type 0} {ksize vsize : ℕ} (key : Codec K ksize) (value : Codec V vsize) (a p : ℕ) (k : K) (v : Option V) (d : Bool) → a < 2 ^ 48 → IsPrevious a p → key.is_known k → IfSome v value.is_known → (IsTrue d → IsSome v)
+    → IsRecord key value a (record { previous = p; key = k; value = v; delta = d })
+sound_record key value a p k v d below previous known held whole =
+    record { previous = previous; fits = elim previous [ inl one ↦ omega arith | inr low ↦ omega arith ]; key_known = known; value_known = held; whole = whole }
 
 -- ---- the one of which something holds
 entry_code : {K V : Type 0} → Coded K → Coded V → Coded (Entry K V)

@@ -2,6 +2,7 @@
 use Rattle.std.proofs.Common.{◌≡◌, ◌^◌, ◌≤◌, inl, inr, ℕ, Bool, List, length, Option, Some, IsSome, refl, sym, ◌∙◌, ap, subst, arith}
 use Rattle.std.specs.Prelude.{IfSome, IsTrue}
 use Rattle.std.proofs.lemmas.Bool.{cases_eq, cases_lt}
+use Rattle.fkv_functions.specs.Codecs.{Codec}
 use Rattle.fkv_records.specs.Places.{page_at, offset_at}
 use Rattle.fkv_records.specs.Records.{size_of, Spells}
 use Rattle.fkv_records.specs.declared.records.Record.{Record}
@@ -24,17 +25,17 @@ use Rattle.fkv_texts.proofs.ChangeLemmas.{was_at, set_at-here, set_at-other, lai
 use Rattle.fkv_pages.proofs.HeldLemmas.{IsHeld, entry_held}
 use Rattle.fkv_pages.proofs.PutLemmas.{put_flushed, put_spelled, put_sized, put_below, put_above, put_waiting}
 
-module _ {K V : Type 0} (key : K → List ℕ) (value : V → List ℕ) (is_key : K → Type 0) (is_value : V → Type 0) (ksize vsize : ℕ) where
+module _ {K V : Type 0} {ksize vsize : ℕ} (key : Codec K ksize) (value : Codec V vsize) where
   -- bytes are put into the page of an edited entry
   edited_puts : (keeps : Bool) (shape : Shape) (begin closed frozen tail : ℕ) (receipts : List Standing) (old new : Ring) (text : List (Entry K V)) (a : ℕ)
-      (may : Record K V → Type 0) (v : Option V) (page : List ℕ) → IsPages key value is_key is_value ksize vsize keeps shape begin closed frozen tail receipts old text
+      (may : Record K V → Type 0) (v : Option V) (page : List ℕ) → IsPages key value keeps shape begin closed frozen tail receipts old text
       → frozen ≤ a → IsSome (entry_at text a) → held old (page_at shape.page_bits a) ≡ Some page → length page ≡ 2 ^ shape.page_bits
-      → (r : IsEdited key value ksize vsize may v old.bits a old new page)
+      → (r : IsEdited key value may v old.bits a old new page)
       → Puts shape.page_bits (page_at shape.page_bits closed) tail (page_at shape.page_bits a) (offset_at shape.page_bits a) r.bytes old new
   edited_puts keeps shape begin closed frozen tail receipts old new text a may v page log open_here some here page_sized r =
       let bits = shape.page_bits in
       let o = log.ordered in
-      let st = entry_place key value is_key is_value ksize vsize keeps shape begin closed frozen tail receipts old text a log some in
+      let st = entry_place key value keeps shape begin closed frozen tail receipts old text a log some in
       let above = st.high in
       let eight = shape.limits.some in
       let behind = o.closed_frozen in
@@ -48,17 +49,17 @@ module _ {K V : Type 0} (key : K → List ℕ) (value : V → List ℕ) (is_key 
   -- the entry at an address has another value, or is a tombstone, where its record may be edited so
   pub edited : (keeps : Bool) (shape : Shape) (begin closed frozen tail : ℕ) (receipts : List Standing) (old new : Ring) (text : List (Entry K V)) (a : ℕ)
       (may : Record K V → Type 0) (v : Option V) (own : Entry K V) (page : List ℕ)
-      → IsPages key value is_key is_value ksize vsize keeps shape begin closed frozen tail receipts old text
-      → frozen ≤ a → entry_at text a ≡ Some own → may (record_of own) → IfSome v is_value → (IsTrue own.delta → IsSome v) → held old (page_at shape.page_bits a) ≡ Some page → length page ≡ 2 ^ shape.page_bits
-      → IsEdited key value ksize vsize may v old.bits a old new page
-      → IsPages key value is_key is_value ksize vsize keeps shape begin closed frozen tail receipts new (changed text a v)
+      → IsPages key value keeps shape begin closed frozen tail receipts old text
+      → frozen ≤ a → entry_at text a ≡ Some own → may (record_of own) → IfSome v value.is_known → (IsTrue own.delta → IsSome v) → held old (page_at shape.page_bits a) ≡ Some page → length page ≡ 2 ^ shape.page_bits
+      → IsEdited key value may v old.bits a old new page
+      → IsPages key value keeps shape begin closed frozen tail receipts new (changed text a v)
   edited keeps shape begin closed frozen tail receipts old new text a may v own page log open_here own_is allowed known whole here page_sized r =
       let bits = shape.page_bits in
       let size = shape.record_size in
       let o = log.ordered in
-      let rise = text_rises key value is_key is_value ksize vsize keeps shape begin closed frozen tail receipts old text log in
+      let rise = text_rises key value keeps shape begin closed frozen tail receipts old text log in
       let some : IsSome (entry_at text a) = rw own_is refl in
-      let st = entry_place key value is_key is_value ksize vsize keeps shape begin closed frozen tail receipts old text a log some in
+      let st = entry_place key value keeps shape begin closed frozen tail receipts old text a log some in
       let above = st.high in
       let eight = shape.limits.some in
       let behind = o.closed_frozen in
@@ -72,34 +73,34 @@ module _ {K V : Type 0} (key : K → List ℕ) (value : V → List ℕ) (is_key 
           spelled = λ i d g.
               let was = was_at a v text i d g in
               let t = log.spelled.spelled i was.entry was.here in
-              let there = text_stands key value is_key is_value ksize vsize keeps shape begin closed frozen tail receipts old text log i was.entry was.here in
-              subst (λ (x : Entry K V). IsSpelled key value is_key is_value ksize vsize bits (page_in (page_at bits closed) receipts new) x) was.is
+              let there = text_stands key value keeps shape begin closed frozen tail receipts old text log i was.entry was.here in
+              subst (λ (x : Entry K V). IsSpelled key value bits (page_in (page_at bits closed) receipts new) x) was.is
               (elim (cases_eq was.entry.address a) [
                 | inl same ↦
                     (let is : entry_at text a ≡ Some was.entry = entry_at-in text rise was.entry (record { place = i; here = was.here }) a same in
                     let one : was.entry ≡ own = (let both : Some was.entry ≡ Some own = sym is ∙ own_is in cc) in
                     let ok : may (record_of was.entry) = subst (λ (x : Entry K V). may (record_of x)) (sym one) allowed in
-                    let h = entry_held key value is_key is_value ksize vsize keeps shape begin closed frozen tail receipts old text a was.entry log low is in
+                    let h = entry_held key value keeps shape begin closed frozen tail receipts old text a was.entry log low is in
                     let page_same : h.page ≡ page = (let both : Some h.page ≡ Some page = sym h.here ∙ here in cc) in
-                    let spells : Spells key value ksize vsize (part_of page (offset_at bits a) (size_of ksize vsize)) (record_of was.entry) =
-                    subst (λ (q : List ℕ). Spells key value ksize vsize (part_of q (offset_at bits a) (size_of ksize vsize)) (record_of was.entry)) page_same
-                    (subst (λ (n : ℕ). Spells key value ksize vsize (part_of h.page (offset_at bits a) n) (record_of was.entry)) log.size h.spells) in
-                    let bits_part : Spells key value ksize vsize (part_of page (offset_at old.bits a) (size_of ksize vsize)) (record_of was.entry) =
-                    subst (λ (b : ℕ). Spells key value ksize vsize (part_of page (offset_at b a) (size_of ksize vsize)) (record_of was.entry)) (sym log.ringed.bits_same) spells in
-                    rw (set_at-here a v was.entry same) (put_spelled key value is_key is_value ksize vsize keeps shape begin closed frozen tail receipts old new r.bytes text a log st.place open_here p sized (record was.entry { value = v }) same
-                    (record { previous = h.sound.previous; fits = h.sound.fits; key = h.sound.key; value = known; whole = subst (λ (x : Entry K V). IsTrue x.delta → IsSome v) (sym one) whole }) (r.spells (record_of was.entry) ok bits_part)))
+                    let spells : Spells key value (part_of page (offset_at bits a) (size_of ksize vsize)) (record_of was.entry) =
+                    subst (λ (q : List ℕ). Spells key value (part_of q (offset_at bits a) (size_of ksize vsize)) (record_of was.entry)) page_same
+                    (subst (λ (n : ℕ). Spells key value (part_of h.page (offset_at bits a) n) (record_of was.entry)) log.size h.spells) in
+                    let bits_part : Spells key value (part_of page (offset_at old.bits a) (size_of ksize vsize)) (record_of was.entry) =
+                    subst (λ (b : ℕ). Spells key value (part_of page (offset_at b a) (size_of ksize vsize)) (record_of was.entry)) (sym log.ringed.bits_same) spells in
+                    rw (set_at-here a v was.entry same) (put_spelled key value keeps shape begin closed frozen tail receipts old new r.bytes text a log st.place open_here p sized (record was.entry { value = v }) same
+                    (record { previous = h.sound.previous; fits = h.sound.fits; key_known = h.sound.key_known; value_known = known; whole = subst (λ (x : Entry K V). IsTrue x.delta → IsSome v) (sym one) whole }) (r.spells (record_of was.entry) ok bits_part)))
                 | inr ne ↦
                     (rw (set_at-other a v was.entry ne) (elim (cases_lt was.entry.address a) [
                       | inl less ↦
                           (let near = after-nearest bits size shape.limits was.entry.address a there.place st.place less in
                           let next = after bits size shape.limits was.entry.address there.place in
                           let next_behind = next.behind in
-                          put_below key value is_key is_value ksize vsize keeps shape begin closed frozen tail receipts old new r.bytes text a log st.place open_here p sized was.entry there (omega arith) t)
+                          put_below key value keeps shape begin closed frozen tail receipts old new r.bytes text a log st.place open_here p sized was.entry there (omega arith) t)
                       | inr more ↦
                           (let near = after-nearest bits size shape.limits a was.entry.address st.place there.place (omega arith) in
                           let next = after bits size shape.limits a st.place in
                           let next_behind = next.behind in
-                          put_above key value is_key is_value ksize vsize keeps shape begin closed frozen tail receipts old new r.bytes text a log st.place open_here p sized was.entry there (omega arith) t)
+                          put_above key value keeps shape begin closed frozen tail receipts old new r.bytes text a log st.place open_here p sized was.entry there (omega arith) t)
                     ]))
               ]);
         };
@@ -110,7 +111,7 @@ module _ {K V : Type 0} (key : K → List ℕ) (value : V → List ℕ) (is_key 
             | inl same ↦ record {
               page = written_at p.page (offset_at bits a) r.bytes;
               here = ap (λ (m : ℕ). held new m) same ∙ p.is;
-              sized = put_sized key value is_key is_value ksize vsize keeps shape begin closed frozen tail receipts old new r.bytes text a log st.place open_here p sized;
+              sized = put_sized key value keeps shape begin closed frozen tail receipts old new r.bytes text a log st.place open_here p sized;
             }
             | inr ne ↦
                 (let was = log.ringed.there n first_low k in
@@ -118,23 +119,23 @@ module _ {K V : Type 0} (key : K → List ℕ) (value : V → List ℕ) (is_key 
           ];
           room = λ n k. rw p.count_same (log.ringed.room n k);
         };
-        flushed = put_flushed key value is_key is_value ksize vsize keeps shape begin closed frozen tail receipts old new r.bytes text a log st.place open_here p sized;
+        flushed = put_flushed key value keeps shape begin closed frozen tail receipts old new r.bytes text a log st.place open_here p sized;
       }
 
   -- the same by what is found in the frames, and what a contract sees then
   pub edited_by : (keeps : Bool) (shape : Shape) (begin closed frozen tail : ℕ) (receipts : List Standing) (old new : Ring) (text : List (Entry K V)) (a : ℕ)
       (may : Record K V → Type 0) (v : Option V) (own : Entry K V) (page : List ℕ)
-      → IsPages key value is_key is_value ksize vsize keeps shape begin closed frozen tail receipts old text
-      → frozen ≤ a → entry_at text a ≡ Some own → may (record_of own) → IfSome v is_value → (IsTrue own.delta → IsSome v) → held old (page_at shape.page_bits a) ≡ Some page → length page ≡ 2 ^ shape.page_bits
-      → IfSome (held old (page_at old.bits a)) (IsEdited key value ksize vsize may v old.bits a old new)
-      → IsPages key value is_key is_value ksize vsize keeps shape begin closed frozen tail receipts new (changed text a v)
+      → IsPages key value keeps shape begin closed frozen tail receipts old text
+      → frozen ≤ a → entry_at text a ≡ Some own → may (record_of own) → IfSome v value.is_known → (IsTrue own.delta → IsSome v) → held old (page_at shape.page_bits a) ≡ Some page → length page ≡ 2 ^ shape.page_bits
+      → IfSome (held old (page_at old.bits a)) (IsEdited key value may v old.bits a old new)
+      → IsPages key value keeps shape begin closed frozen tail receipts new (changed text a v)
       × (view_as keeps shape begin closed frozen tail receipts new (changed text a v) ≡ with_value (view_as keeps shape begin closed frozen tail receipts old text) a v)
   edited_by keeps shape begin closed frozen tail receipts old new text a may v own page log open_here own_is allowed known whole here sized w =
       let there : held old (page_at old.bits a) ≡ Some page = ap (λ (b : ℕ). held old (page_at b a)) log.ringed.bits_same ∙ here in
-      let r : IsEdited key value ksize vsize may v old.bits a old new page =
-      subst (λ (o : Option (List ℕ)). IfSome o (IsEdited key value ksize vsize may v old.bits a old new)) there w in
+      let r : IsEdited key value may v old.bits a old new page =
+      subst (λ (o : Option (List ℕ)). IfSome o (IsEdited key value may v old.bits a old new)) there w in
       let p = edited_puts keeps shape begin closed frozen tail receipts old new text a may v page log open_here (rw own_is refl) here sized r in
-      let waits = put_waiting key value is_key is_value ksize vsize keeps shape begin closed frozen tail receipts old new r.bytes text a log open_here p in (
+      let waits = put_waiting key value keeps shape begin closed frozen tail receipts old new r.bytes text a log open_here p in (
         edited keeps shape begin closed frozen tail receipts old new text a may v own page log open_here own_is allowed known whole here sized r,
         λ j. record {
           bits = shape.page_bits;
@@ -154,23 +155,23 @@ module _ {K V : Type 0} (key : K → List ℕ) (value : V → List ℕ) (is_key 
   pub record IsMutable (shape : Shape) (ring : Ring) (text : List (Entry K V)) (a : ℕ) : Type 0 where
     pub entry : Entry K V
     pub is : entry_at text a ≡ Some entry
-    pub here : IsHeld key value is_key is_value ksize vsize shape ring a entry
+    pub here : IsHeld key value shape ring a entry
 
   -- the same two by what a contract asks
   pub mutable : (keeps : Bool) (shape : Shape) (begin closed frozen tail : ℕ) (receipts : List Standing) (ring : Ring) (text : List (Entry K V)) (a : ℕ) (seen : PagesView K V)
-      → view_as keeps shape begin closed frozen tail receipts ring text ≡ seen → IsPages key value is_key is_value ksize vsize keeps shape begin closed frozen tail receipts ring text
+      → view_as keeps shape begin closed frozen tail receipts ring text ≡ seen → IsPages key value keeps shape begin closed frozen tail receipts ring text
       → IsSome (entry_at seen.text a) → seen.frozen ≤ a → IsMutable shape ring text a
   mutable keeps shape begin closed frozen tail receipts ring text a seen is log there high =
       let f = some_is (entry_at text a) (rw (← is) at there) in
       let low = rw (← is) at high in
       let behind = log.ordered.closed_frozen in
-      record { entry = f.0; is = f.1; here = entry_held key value is_key is_value ksize vsize keeps shape begin closed frozen tail receipts ring text a f.0 log (omega arith) f.1 }
+      record { entry = f.0; is = f.1; here = entry_held key value keeps shape begin closed frozen tail receipts ring text a f.0 log (omega arith) f.1 }
 
   pub edited_seen : (keeps : Bool) (shape : Shape) (begin closed frozen tail : ℕ) (receipts : List Standing) (old new : Ring) (text : List (Entry K V)) (a : ℕ)
       (may : Record K V → Type 0) (v : Option V) (seen : PagesView K V) → view_as keeps shape begin closed frozen tail receipts old text ≡ seen
-      → IsPages key value is_key is_value ksize vsize keeps shape begin closed frozen tail receipts old text → seen.frozen ≤ a → (m : IsMutable shape old text a) → may (record_of m.entry)
-      → IfSome v is_value → (IsTrue m.entry.delta → IsSome v) → IfSome (held old (page_at old.bits a)) (IsEdited key value ksize vsize may v old.bits a old new)
-      → IsPages key value is_key is_value ksize vsize keeps shape begin closed frozen tail receipts new (changed text a v)
+      → IsPages key value keeps shape begin closed frozen tail receipts old text → seen.frozen ≤ a → (m : IsMutable shape old text a) → may (record_of m.entry)
+      → IfSome v value.is_known → (IsTrue m.entry.delta → IsSome v) → IfSome (held old (page_at old.bits a)) (IsEdited key value may v old.bits a old new)
+      → IsPages key value keeps shape begin closed frozen tail receipts new (changed text a v)
       × (view_as keeps shape begin closed frozen tail receipts new (changed text a v) ≡ with_value seen a v)
   edited_seen keeps shape begin closed frozen tail receipts old new text a may v seen is log high m allowed known whole w =
       let l = edited_by keeps shape begin closed frozen tail receipts old new text a may v m.entry m.here.page log (rw (← is) at high) m.is allowed known whole m.here.here m.here.sized w in

@@ -4,6 +4,7 @@ use Rattle.std.specs.Prelude.{IsTrue, unwrap_or}
 use Rattle.std.proofs.lemmas.Bool.Decides.{nat_tests}
 use Rattle.std.proofs.lemmas.Bool.{cases_lt, eqb-true, eq-eqb}
 use Rattle.std.proofs.lemmas.Nat.{pow_pos}
+use Rattle.fkv_functions.specs.Codecs.{Codec}
 use Rattle.fkv_records.specs.Places.{page_at, offset_at}
 use Rattle.fkv_records.specs.Records.{size_of, Spells}
 use Rattle.fkv_records.specs.declared.shapes.Shape.{Shape}
@@ -45,10 +46,10 @@ awaited {K} {V} pages page came h = by_page (page == length pages.receipts) refl
     by_page true t = by_waiting pages.waiting refl (eqb-true page (length pages.receipts) t) (rw t at h)
     by_page false t = absurd (let some = rw t at h in cc)
 
-module _ {K V : Type 0} (key : K → List ℕ) (value : V → List ℕ) (is_key : K → Type 0) (is_value : V → Type 0) (ksize vsize : ℕ) where
+module _ {K V : Type 0} {ksize vsize : ℕ} (key : Codec K ksize) (value : Codec V vsize) where
   -- a page below the frozen offset that is not closed is in its frame
   pub frozen_held : (keeps : Bool) (shape : Shape) (begin closed frozen tail : ℕ) (receipts : List Standing) (ring : Ring) (text : List (Entry K V)) (n : ℕ)
-      → IsPages key value is_key is_value ksize vsize keeps shape begin closed frozen tail receipts ring text → page_at shape.page_bits closed ≤ n → n < page_at shape.page_bits frozen
+      → IsPages key value keeps shape begin closed frozen tail receipts ring text → page_at shape.page_bits closed ≤ n → n < page_at shape.page_bits frozen
       → IsOpen shape.page_bits ring n
   frozen_held keeps shape begin closed frozen tail receipts ring text n log low high =
       let bits = shape.page_bits in
@@ -61,8 +62,8 @@ module _ {K V : Type 0} (key : K → List ℕ) (value : V → List ℕ) (is_key 
 
   -- ---- the bytes of a page that is not closed
   pub page_of : (keeps : Bool) (shape : Shape) (begin closed frozen tail : ℕ) (receipts : List Standing) (ring : Ring) (text : List (Entry K V)) (n : ℕ) (page : List ℕ)
-      → IsPages key value is_key is_value ksize vsize keeps shape begin closed frozen tail receipts ring text → page_at shape.page_bits closed ≤ n → held ring n ≡ Some page
-      → length page ≡ 2 ^ shape.page_bits → IsPageOf key value ksize vsize shape.page_bits n text page
+      → IsPages key value keeps shape begin closed frozen tail receipts ring text → page_at shape.page_bits closed ≤ n → held ring n ≡ Some page
+      → length page ≡ 2 ^ shape.page_bits → IsPageOf key value shape.page_bits n text page
   page_of keeps shape begin closed frozen tail receipts ring text n page log low here sized = record {
     sized = sized;
     spells = λ i e g at.
@@ -70,14 +71,14 @@ module _ {K V : Type 0} (key : K → List ℕ) (value : V → List ℕ) (is_key 
         let t = log.spelled.spelled i e g in
         let there : page_in (page_at bits closed) receipts ring n ≡ Some t.page = ap (λ (m : ℕ). page_in (page_at bits closed) receipts ring m) (sym at) ∙ t.here in
         let same : t.page ≡ page = (let both : Some t.page ≡ Some page = sym there ∙ page_in-high (page_at bits closed) n receipts ring low ∙ here in cc) in
-        subst (λ (p : List ℕ). Spells key value ksize vsize (part_of p (offset_at bits e.address) (size_of ksize vsize)) (record_of e)) same t.spells;
+        subst (λ (p : List ℕ). Spells key value (part_of p (offset_at bits e.address) (size_of ksize vsize)) (record_of e)) same t.spells;
   }
 
   -- ---- one more page is flushed
   pub flushed_more : (keeps : Bool) (shape : Shape) (begin closed frozen tail : ℕ) (receipts : List Standing) (ring : Ring) (text : List (Entry K V)) (s : Standing) (page : List ℕ)
-      → IsPages key value is_key is_value ksize vsize keeps shape begin closed frozen tail receipts ring text
+      → IsPages key value keeps shape begin closed frozen tail receipts ring text
       → length receipts < page_at shape.page_bits frozen → held ring (length receipts) ≡ Some page → s.page ≡ length receipts → s.length ≡ 2 ^ shape.page_bits → (IsTrue keeps → s.bytes ≡ page)
-      → IsPages key value is_key is_value ksize vsize keeps shape begin closed frozen tail (receipts ++ s ∷ []) ring text
+      → IsPages key value keeps shape begin closed frozen tail (receipts ++ s ∷ []) ring text
   flushed_more keeps shape begin closed frozen tail receipts ring text s page log due here is_page sized kept =
       let bits = shape.page_bits in
       let o = log.ordered in
@@ -85,7 +86,7 @@ module _ {K V : Type 0} (key : K → List ℕ) (value : V → List ℕ) (is_key 
       let low = o.flushed_low in
       record {
         size = log.size;
-        spelled = transfer key value is_key is_value ksize vsize bits (page_in (page_at bits closed) receipts ring) (page_in (page_at bits closed) (receipts ++ s ∷ []) ring) (text_begin keeps begin closed) tail text
+        spelled = transfer key value bits (page_in (page_at bits closed) receipts ring) (page_in (page_at bits closed) (receipts ++ s ∷ []) ring) (text_begin keeps begin closed) tail text
             (λ i e g. page_in-more (page_at bits closed) (page_at bits e.address) receipts s ring low) log.spelled;
         ordered = record {
           begin_frozen = o.begin_frozen;
@@ -118,32 +119,32 @@ module _ {K V : Type 0} (key : K → List ℕ) (value : V → List ℕ) (is_key 
 
   -- what is known where the receipts are given by an equation
   pub log_with : (keeps : Bool) (shape : Shape) (begin closed frozen tail : ℕ) (receipts more : List Standing) (ring : Ring)
-      (o : TheOne (λ t. IsTextOf key value is_key is_value ksize vsize shape.page_bits (page_in (page_at shape.page_bits closed) more ring) (text_begin keeps begin closed) tail t))
-      (text : List (Entry K V)) → more ≡ receipts → IsPages key value is_key is_value ksize vsize keeps shape begin closed frozen tail receipts ring text
-      → IsPages key value is_key is_value ksize vsize keeps shape begin closed frozen tail more ring (o.0).0
+      (o : TheOne (λ t. IsTextOf key value shape.page_bits (page_in (page_at shape.page_bits closed) more ring) (text_begin keeps begin closed) tail t))
+      (text : List (Entry K V)) → more ≡ receipts → IsPages key value keeps shape begin closed frozen tail receipts ring text
+      → IsPages key value keeps shape begin closed frozen tail more ring (o.0).0
   log_with keeps shape begin closed frozen tail receipts more ring o text e l =
-      log_of key value is_key is_value ksize vsize keeps shape begin closed frozen tail more ring o text
-      (subst (λ (r : List Standing). IsPages key value is_key is_value ksize vsize keeps shape begin closed frozen tail r ring text) (sym e) l)
+      log_of key value keeps shape begin closed frozen tail more ring o text
+      (subst (λ (r : List Standing). IsPages key value keeps shape begin closed frozen tail r ring text) (sym e) l)
 
   pub view_with : (keeps : Bool) (shape : Shape) (begin closed frozen tail : ℕ) (receipts more : List Standing) (ring : Ring)
-      (o : TheOne (λ t. IsTextOf key value is_key is_value ksize vsize shape.page_bits (page_in (page_at shape.page_bits closed) more ring) (text_begin keeps begin closed) tail t))
-      (text : List (Entry K V)) → more ≡ receipts → IsPages key value is_key is_value ksize vsize keeps shape begin closed frozen tail receipts ring text
+      (o : TheOne (λ t. IsTextOf key value shape.page_bits (page_in (page_at shape.page_bits closed) more ring) (text_begin keeps begin closed) tail t))
+      (text : List (Entry K V)) → more ≡ receipts → IsPages key value keeps shape begin closed frozen tail receipts ring text
       → view_as keeps shape begin closed frozen tail more ring (o.0).0 ≡ view_as keeps shape begin closed frozen tail receipts ring text
   view_with keeps shape begin closed frozen tail receipts more ring o text e l =
-      view_of key value is_key is_value ksize vsize keeps shape begin closed frozen tail more ring o text
-      (subst (λ (r : List Standing). IsPages key value is_key is_value ksize vsize keeps shape begin closed frozen tail r ring text) (sym e) l)
+      view_of key value keeps shape begin closed frozen tail more ring o text
+      (subst (λ (r : List Standing). IsPages key value keeps shape begin closed frozen tail r ring text) (sym e) l)
       ∙ ap (λ (r : List Standing). view_as keeps shape begin closed frozen tail r ring text) e
 
   -- the pages that wait: the lowest of them, and the others once it is flushed
   pub lowest_waits : (keeps : Bool) (shape : Shape) (begin closed frozen tail : ℕ) (receipts : List Standing) (ring : Ring) (text : List (Entry K V)) (page : List ℕ)
-      → IsPages key value is_key is_value ksize vsize keeps shape begin closed frozen tail receipts ring text → length receipts < page_at shape.page_bits frozen → held ring (length receipts) ≡ Some page
+      → IsPages key value keeps shape begin closed frozen tail receipts ring text → length receipts < page_at shape.page_bits frozen → held ring (length receipts) ≡ Some page
       → pages_from ring (length receipts) (page_at shape.page_bits frozen - length receipts)
       ≡ page ∷ pages_from ring (length receipts + 1) (page_at shape.page_bits frozen - length receipts - 1)
   lowest_waits keeps shape begin closed frozen tail receipts ring text page log due here =
       pages_from-lowest ring (length receipts) (page_at shape.page_bits frozen - length receipts) page (omega arith) here
 
   pub view_flushed : (keeps : Bool) (shape : Shape) (begin closed frozen tail : ℕ) (receipts : List Standing) (ring : Ring) (text : List (Entry K V)) (s : Standing) (page : List ℕ)
-      → IsPages key value is_key is_value ksize vsize keeps shape begin closed frozen tail receipts ring text → length receipts < page_at shape.page_bits frozen → held ring (length receipts) ≡ Some page
+      → IsPages key value keeps shape begin closed frozen tail receipts ring text → length receipts < page_at shape.page_bits frozen → held ring (length receipts) ≡ Some page
       → view_as keeps shape begin closed frozen tail (receipts ++ s ∷ []) ring text ≡ with_receipt (view_as keeps shape begin closed frozen tail receipts ring text) s
   view_flushed keeps shape begin closed frozen tail receipts ring text s page log due here =
       let bits = shape.page_bits in
@@ -169,9 +170,9 @@ module _ {K V : Type 0} (key : K → List ℕ) (value : V → List ℕ) (is_key 
 
   -- each page that waits has the text's entries
   pub waits_spelled : (keeps : Bool) (shape : Shape) (begin closed frozen tail : ℕ) (receipts : List Standing) (ring : Ring) (text : List (Entry K V))
-      → IsPages key value is_key is_value ksize vsize keeps shape begin closed frozen tail receipts ring text
+      → IsPages key value keeps shape begin closed frozen tail receipts ring text
       → (i : ℕ) (page : List ℕ) → slice_get (pages_from ring (length receipts) (page_at shape.page_bits frozen - length receipts)) i ≡ Some page
-      → IsPageOf key value ksize vsize shape.page_bits (length receipts + i) text page
+      → IsPageOf key value shape.page_bits (length receipts + i) text page
   waits_spelled keeps shape begin closed frozen tail receipts ring text log i page g =
       let bits = shape.page_bits in
       let at = pages_from-get ring (length receipts) (page_at bits frozen - length receipts) i page g in
@@ -183,9 +184,9 @@ module _ {K V : Type 0} (key : K → List ℕ) (value : V → List ℕ) (is_key 
 
   -- a page is taken in
   pub flushed_by : (keeps : Bool) (shape : Shape) (begin closed frozen tail : ℕ) (receipts : List Standing) (ring : Ring) (text : List (Entry K V)) (s : Standing) (came : List ℕ)
-      → IsPages key value is_key is_value ksize vsize keeps shape begin closed frozen tail receipts ring text
+      → IsPages key value keeps shape begin closed frozen tail receipts ring text
       → flush_refusal (view_as keeps shape begin closed frozen tail receipts ring text) s.page came ≡ None → s.length ≡ length came → (IsTrue keeps → s.bytes ≡ came)
-      → IsPages key value is_key is_value ksize vsize keeps shape begin closed frozen tail (receipts ++ s ∷ []) ring text
+      → IsPages key value keeps shape begin closed frozen tail (receipts ++ s ∷ []) ring text
       × (view_as keeps shape begin closed frozen tail (receipts ++ s ∷ []) ring text ≡ with_receipt (view_as keeps shape begin closed frozen tail receipts ring text) s)
   flushed_by keeps shape begin closed frozen tail receipts ring text s came log fine sized kept =
       let bits = shape.page_bits in

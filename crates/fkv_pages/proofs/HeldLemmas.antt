@@ -1,5 +1,6 @@
 -- Entries of pages that are not closed.
 use Rattle.std.proofs.Common.{◌≡◌, ◌+◌, ◌^◌, ◌≤◌, ℕ, Bool, List, length, Some, refl, sym, ◌∙◌, ap, subst, arith}
+use Rattle.fkv_functions.specs.Codecs.{Codec}
 use Rattle.fkv_records.specs.Places.{page_at, offset_at, IsRecordStart}
 use Rattle.fkv_records.specs.Records.{size_of, IsRecord, Spells}
 use Rattle.fkv_records.specs.declared.shapes.Shape.{Shape}
@@ -16,7 +17,7 @@ use Rattle.fkv_pages.specs.Pages.{page_in, IsPages}
 use Rattle.fkv_pages.proofs.FrameLemmas.{page_low, page_rises, page_in-high}
 use Rattle.fkv_pages.proofs.PageLemmas.{begin_place}
 
-module _ {K V : Type 0} (key : K → List ℕ) (value : V → List ℕ) (is_key : K → Type 0) (is_value : V → Type 0) (ksize vsize : ℕ) where
+module _ {K V : Type 0} {ksize vsize : ℕ} (key : Codec K ksize) (value : Codec V vsize) where
   -- ---- an entry of a page that is not closed
   pub record IsHeld (shape : Shape) (ring : Ring) (a : ℕ) (e : Entry K V) : Type 0 where
     pub page : List ℕ
@@ -26,11 +27,11 @@ module _ {K V : Type 0} (key : K → List ℕ) (value : V → List ℕ) (is_key 
     pub stands : e.address ≡ a
     pub place : IsRecordStart shape.page_bits shape.record_size a
     pub below : a + shape.record_size ≤ 2 ^ 48
-    pub sound : IsRecord is_key is_value a (record_of e)
-    pub spells : Spells key value ksize vsize (part_of page (offset_at shape.page_bits a) shape.record_size) (record_of e)
+    pub sound : IsRecord key value a (record_of e)
+    pub spells : Spells key value (part_of page (offset_at shape.page_bits a) shape.record_size) (record_of e)
 
   pub entry_held : (keeps : Bool) (shape : Shape) (begin closed frozen tail : ℕ) (receipts : List Standing) (ring : Ring) (text : List (Entry K V)) (a : ℕ) (e : Entry K V)
-      → IsPages key value is_key is_value ksize vsize keeps shape begin closed frozen tail receipts ring text → closed ≤ a → entry_at text a ≡ Some e → IsHeld shape ring a e
+      → IsPages key value keeps shape begin closed frozen tail receipts ring text → closed ≤ a → entry_at text a ≡ Some e → IsHeld shape ring a e
   entry_held keeps shape begin closed frozen tail receipts ring text a e log open_here is =
       let bits = shape.page_bits in
       let o = log.ordered in
@@ -58,8 +59,8 @@ module _ {K V : Type 0} (key : K → List ℕ) (value : V → List ℕ) (is_key 
         stands = found.1;
         place = stands.place;
         below = (let m = o.most in omega arith);
-        sound = subst (λ (b : ℕ). IsRecord is_key is_value b (record_of e)) found.1 t.sound;
-        spells = subst (λ (b : List ℕ). Spells key value ksize vsize b (record_of e)) part t.spells;
+        sound = subst (λ (b : ℕ). IsRecord key value b (record_of e)) found.1 t.sound;
+        spells = subst (λ (b : List ℕ). Spells key value b (record_of e)) part t.spells;
       }
 
   -- what is found in a frame is the page of the entry

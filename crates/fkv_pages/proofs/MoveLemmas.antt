@@ -2,6 +2,7 @@
 use Rattle.std.proofs.Common.{◌≡◌, ◌+◌, ◌-◌, ◌^◌, ◌<◌, ◌≤◌, ℕ, Bool, true, false, List, ◌++◌, length, Some, nat_le, slice_get, refl, sym, ◌∙◌, ap, subst, arith}
 use Rattle.std.specs.Prelude.{IsTrue}
 use Rattle.std.proofs.lemmas.Bool.Decides.{nat_tests}
+use Rattle.fkv_functions.specs.Codecs.{Codec}
 use Rattle.fkv_records.specs.Places.{page_at, IsRecordStart}
 use Rattle.fkv_records.specs.Records.{size_of}
 use Rattle.fkv_records.specs.declared.shapes.Shape.{Shape}
@@ -19,13 +20,13 @@ use Rattle.fkv_pages.proofs.FrameLemmas.{page_high, page_rises, page_in-flushed,
 use Rattle.fkv_texts.proofs.CutLemmas.{filter-in, filter-all, laid_out-from}
 use Rattle.fkv_pages.proofs.PageLemmas.{begin_place, begins_low, begins_closed, begins_rise, view_of}
 
-module _ {K V : Type 0} (key : K → List ℕ) (value : V → List ℕ) (is_key : K → Type 0) (is_value : V → Type 0) (ksize vsize : ℕ) where
+module _ {K V : Type 0} {ksize vsize : ℕ} (key : Codec K ksize) (value : Codec V vsize) where
   -- ---- frames may be used anew, or Begin moves
   pub moved_log : (keeps : Bool) (shape : Shape) (begin closed b c frozen tail : ℕ) (receipts : List Standing) (ring : Ring) (text : List (Entry K V))
-      → IsPages key value is_key is_value ksize vsize keeps shape begin closed frozen tail receipts ring text
+      → IsPages key value keeps shape begin closed frozen tail receipts ring text
       → begin ≤ b → b ≤ frozen → closed ≤ c → c ≤ frozen → page_at shape.page_bits b ≤ length receipts → page_at shape.page_bits c ≤ length receipts
       → (b < 2 ^ 48 → IsRecordStart shape.page_bits shape.record_size b) → (c < 2 ^ 48 → IsRecordStart shape.page_bits shape.record_size c)
-      → IsPages key value is_key is_value ksize vsize keeps shape b c frozen tail receipts ring (text_from (text_begin keeps b c) text)
+      → IsPages key value keeps shape b c frozen tail receipts ring (text_from (text_begin keeps b c) text)
   moved_log keeps shape begin closed b c frozen tail receipts ring text log more b_frozen further c_frozen begun flushed b_place c_place =
       let bits = shape.page_bits in
       let size = shape.record_size in
@@ -85,9 +86,9 @@ module _ {K V : Type 0} (key : K → List ℕ) (value : V → List ℕ) (is_key 
 
   -- the same by what a contract asks: frames are closed
   pub closed_log : (keeps : Bool) (shape : Shape) (begin closed c frozen tail : ℕ) (receipts : List Standing) (ring : Ring) (text : List (Entry K V)) (seen : PagesView K V)
-      → view_as keeps shape begin closed frozen tail receipts ring text ≡ seen → IsPages key value is_key is_value ksize vsize keeps shape begin closed frozen tail receipts ring text
+      → view_as keeps shape begin closed frozen tail receipts ring text ≡ seen → IsPages key value keeps shape begin closed frozen tail receipts ring text
       → seen.closed ≤ c → (c < 2 ^ 48 → IsRecordStart seen.bits (size_of ksize vsize) c) → page_at seen.bits c ≤ length seen.receipts → c ≤ seen.frozen
-      → IsPages key value is_key is_value ksize vsize keeps shape begin c frozen tail receipts ring (text_from (text_begin keeps begin c) text)
+      → IsPages key value keeps shape begin c frozen tail receipts ring (text_from (text_begin keeps begin c) text)
   closed_log keeps shape begin closed c frozen tail receipts ring text seen is log rises place flushed most =
       let o = log.ordered in
       moved_log keeps shape begin closed begin c frozen tail receipts ring text log (omega arith) o.begin_frozen (rw (← is) at rises) (rw (← is) at most) o.begin_flushed (rw (← is) at flushed)
@@ -95,9 +96,9 @@ module _ {K V : Type 0} (key : K → List ℕ) (value : V → List ℕ) (is_key 
 
   -- and Begin moves
   pub begun_log : (keeps : Bool) (shape : Shape) (begin closed b frozen tail : ℕ) (receipts : List Standing) (ring : Ring) (text : List (Entry K V)) (seen : PagesView K V)
-      → view_as keeps shape begin closed frozen tail receipts ring text ≡ seen → IsPages key value is_key is_value ksize vsize keeps shape begin closed frozen tail receipts ring text
+      → view_as keeps shape begin closed frozen tail receipts ring text ≡ seen → IsPages key value keeps shape begin closed frozen tail receipts ring text
       → seen.begin ≤ b → (b < 2 ^ 48 → IsRecordStart seen.bits (size_of ksize vsize) b) → page_at seen.bits b ≤ length seen.receipts → b ≤ seen.frozen
-      → IsPages key value is_key is_value ksize vsize keeps shape b closed frozen tail receipts ring (text_from (text_begin keeps b closed) text)
+      → IsPages key value keeps shape b closed frozen tail receipts ring (text_from (text_begin keeps b closed) text)
   begun_log keeps shape begin closed b frozen tail receipts ring text seen is log rises place flushed most =
       let o = log.ordered in
       moved_log keeps shape begin closed b closed frozen tail receipts ring text log (rw (← is) at rises) (rw (← is) at most) (omega arith) o.closed_frozen (rw (← is) at flushed) o.flushed_low
@@ -105,7 +106,7 @@ module _ {K V : Type 0} (key : K → List ℕ) (value : V → List ℕ) (is_key 
 
   -- where the device keeps, the text stays when frames are closed
   pub closed_kept : (keeps : Bool) (shape : Shape) (begin closed c frozen tail : ℕ) (receipts : List Standing) (ring : Ring) (text : List (Entry K V))
-      → IsPages key value is_key is_value ksize vsize keeps shape begin closed frozen tail receipts ring text → IsTrue keeps → text_from (text_begin keeps begin c) text ≡ text
+      → IsPages key value keeps shape begin closed frozen tail receipts ring text → IsTrue keeps → text_from (text_begin keeps begin c) text ≡ text
   closed_kept keeps shape begin closed c frozen tail receipts ring text log h =
       filter-all (λ (e : Entry K V). nat_le (text_begin keeps begin c) e.address) text
       (λ i e g. passes keeps e.address h (let o = log.ordered in let s = stands shape.page_bits shape.record_size shape.limits (text_begin keeps begin closed) tail text
@@ -117,15 +118,15 @@ module _ {K V : Type 0} (key : K → List ℕ) (value : V → List ℕ) (is_key 
 
   -- what a contract sees then
   pub view_moved : (keeps : Bool) (shape : Shape) (begin closed b c frozen tail : ℕ) (receipts : List Standing) (ring : Ring) (text : List (Entry K V))
-      (o : TheOne (λ t. IsTextOf key value is_key is_value ksize vsize shape.page_bits (page_in (page_at shape.page_bits c) receipts ring) (text_begin keeps b c) tail t))
-      → IsPages key value is_key is_value ksize vsize keeps shape b c frozen tail receipts ring (text_from (text_begin keeps b c) text)
+      (o : TheOne (λ t. IsTextOf key value shape.page_bits (page_in (page_at shape.page_bits c) receipts ring) (text_begin keeps b c) tail t))
+      → IsPages key value keeps shape b c frozen tail receipts ring (text_from (text_begin keeps b c) text)
       → view_as keeps shape b c frozen tail receipts ring (o.0).0 ≡ seen_from keeps (view_as keeps shape begin closed frozen tail receipts ring text) b c
-  view_moved keeps shape begin closed b c frozen tail receipts ring text o l = view_of key value is_key is_value ksize vsize keeps shape b c frozen tail receipts ring o (text_from (text_begin keeps b c) text) l
+  view_moved keeps shape begin closed b c frozen tail receipts ring text o l = view_of key value keeps shape b c frozen tail receipts ring o (text_from (text_begin keeps b c) text) l
 
   -- ---- more is frozen
   pub frozen_log : (keeps : Bool) (shape : Shape) (begin closed frozen tail : ℕ) (receipts : List Standing) (ring : Ring) (text : List (Entry K V)) (at : ℕ)
-      → IsPages key value is_key is_value ksize vsize keeps shape begin closed frozen tail receipts ring text → frozen ≤ at → at ≤ tail
-      → IsPages key value is_key is_value ksize vsize keeps shape begin closed at tail receipts ring text
+      → IsPages key value keeps shape begin closed frozen tail receipts ring text → frozen ≤ at → at ≤ tail
+      → IsPages key value keeps shape begin closed at tail receipts ring text
   frozen_log keeps shape begin closed frozen tail receipts ring text at log more most =
       let o = log.ordered in
       record {
@@ -149,7 +150,7 @@ module _ {K V : Type 0} (key : K → List ℕ) (value : V → List ℕ) (is_key 
 
   -- and more pages wait
   pub frozen_waiting : (keeps : Bool) (shape : Shape) (begin closed frozen tail : ℕ) (receipts : List Standing) (ring : Ring) (text : List (Entry K V)) (at : ℕ)
-      → IsPages key value is_key is_value ksize vsize keeps shape begin closed frozen tail receipts ring text → frozen ≤ at
+      → IsPages key value keeps shape begin closed frozen tail receipts ring text → frozen ≤ at
       → pages_from ring (length receipts) (page_at shape.page_bits at - length receipts)
       ≡ pages_from ring (length receipts) (page_at shape.page_bits frozen - length receipts)
       ++ pages_from ring (length receipts + (page_at shape.page_bits frozen - length receipts)) (page_at shape.page_bits at - page_at shape.page_bits frozen)

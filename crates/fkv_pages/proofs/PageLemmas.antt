@@ -4,6 +4,7 @@ use Rattle.std.specs.Prelude.{IfSome, IfErr, Result, Ok, Err, OnOk, OnErr}
 use Rattle.std.proofs.lemmas.Bool.Decides.{nat_tests}
 use Rattle.std.proofs.lemmas.Bool.{cases_lt}
 use Rattle.std.specs.Coded.{Coded}
+use Rattle.fkv_functions.specs.Codecs.{Codec}
 use Rattle.fkv_records.specs.Places.{page_at, offset_at, start_at, IsRecordStart, first}
 use Rattle.fkv_records.specs.Records.{size_of, IsRecord, Spells}
 use Rattle.fkv_records.specs.declared.shapes.Shape.{Shape}
@@ -61,25 +62,24 @@ begins_rise false begin closed more further h k =
     let high = begins_closed more further in
     begins_low false begin closed (text_begin false more further) (omega arith) (omega arith)
 
-module _ {K V : Type 0} (key : K → List ℕ) (value : V → List ℕ) (is_key : K → Type 0) (is_value : V → Type 0) (ksize vsize : ℕ) where
+module _ {K V : Type 0} {ksize vsize : ℕ} (key : Codec K ksize) (value : Codec V vsize) where
   -- ---- one text at most
-  module _ (key_readable : (a b : K) → is_key a → is_key b → key a ≡ key b → a ≡ b) (value_readable : (a b : V) → is_value a → is_value b → value a ≡ value b → a ≡ b)
-      (bits : ℕ) (pages : ℕ → Option (List ℕ)) where
-    one_entry : (e d : Entry K V) → e.address ≡ d.address → IsSpelled key value is_key is_value ksize vsize bits pages e → IsSpelled key value is_key is_value ksize vsize bits pages d → e ≡ d
+  module _ (bits : ℕ) (pages : ℕ → Option (List ℕ)) where
+    one_entry : (e d : Entry K V) → e.address ≡ d.address → IsSpelled key value bits pages e → IsSpelled key value bits pages d → e ≡ d
     one_entry e d at s t =
         let size = size_of ksize vsize in
         let there : pages (page_at bits e.address) ≡ Some t.page = ap (λ (a : ℕ). pages (page_at bits a)) at ∙ t.here in
         let pages_same : s.page ≡ t.page = (let both : Some s.page ≡ Some t.page = sym s.here ∙ there in cc) in
         let parts : part_of t.page (offset_at bits d.address) size ≡ part_of s.page (offset_at bits e.address) size =
         ap (λ (p : List ℕ). part_of p (offset_at bits d.address) size) (sym pages_same) ∙ ap (λ (a : ℕ). part_of s.page (offset_at bits a) size) (sym at) in
-        let r : record_of e ≡ record_of d = same_record key value is_key is_value ksize vsize e.address key_readable value_readable (part_of s.page (offset_at bits e.address) size)
-        (record_of e) (record_of d) s.sound (subst (λ (a : ℕ). IsRecord is_key is_value a (record_of d)) (sym at) t.sound) s.spells
-        (subst (λ (b : List ℕ). Spells key value ksize vsize b (record_of d)) parts t.spells) in
+        let r : record_of e ≡ record_of d = same_record key value e.address (part_of s.page (offset_at bits e.address) size)
+        (record_of e) (record_of d) s.sound (subst (λ (a : ℕ). IsRecord key value a (record_of d)) (sym at) t.sound) s.spells
+        (subst (λ (b : List ℕ). Spells key value b (record_of d)) parts t.spells) in
         λ i. record { address = at i; previous = (r i).previous; key = (r i).key; value = (r i).value; delta = (r i).delta }
 
     one_text-from : (tail begin : ℕ) (text other : List (Entry K V)) → IsLaidOut bits (size_of ksize vsize) begin tail text → IsLaidOut bits (size_of ksize vsize) begin tail other
-        → ((i : ℕ) (e : Entry K V) → slice_get text i ≡ Some e → IsSpelled key value is_key is_value ksize vsize bits pages e)
-        → ((i : ℕ) (e : Entry K V) → slice_get other i ≡ Some e → IsSpelled key value is_key is_value ksize vsize bits pages e) → text ≡ other
+        → ((i : ℕ) (e : Entry K V) → slice_get text i ≡ Some e → IsSpelled key value bits pages e)
+        → ((i : ℕ) (e : Entry K V) → slice_get other i ≡ Some e → IsSpelled key value bits pages e) → text ≡ other
     one_text-from tail begin [] [] h k s t = refl
     one_text-from tail begin [] (y ∷ ys) h k s t = let end : begin ≡ tail = h in let on : begin < tail = k.1 in absurd (omega arith)
     one_text-from tail begin (x ∷ xs) [] h k s t = let end : begin ≡ tail = k in let on : begin < tail = h.1 in absurd (omega arith)
@@ -88,31 +88,31 @@ module _ {K V : Type 0} (key : K → List ℕ) (value : V → List ℕ) (is_key 
         let rest : xs ≡ ys = one_text-from tail (tail_after bits (size_of ksize vsize) begin) xs ys h.2 k.2 (λ i. s (suc i)) (λ i. t (suc i)) in
         λ i. e i ∷ rest i
 
-    pub one_text : (from tail : ℕ) (text other : List (Entry K V)) → IsTextOf key value is_key is_value ksize vsize bits pages from tail text
-        → IsTextOf key value is_key is_value ksize vsize bits pages from tail other → text ≡ other
+    pub one_text : (from tail : ℕ) (text other : List (Entry K V)) → IsTextOf key value bits pages from tail text
+        → IsTextOf key value bits pages from tail other → text ≡ other
     one_text from tail text other h k = one_text-from tail from text other h.laid_out k.laid_out h.spelled k.spelled
 
-    pub the_text : Coded K → Coded V → (from tail : ℕ) (text : List (Entry K V)) → IsTextOf key value is_key is_value ksize vsize bits pages from tail text
-        → TheOne (λ t. IsTextOf key value is_key is_value ksize vsize bits pages from tail t)
-    the_text k v from tail text h = one_of (text_code k v) (λ t. IsTextOf key value is_key is_value ksize vsize bits pages from tail t) (one_text from tail) text h
+    pub the_text : Coded K → Coded V → (from tail : ℕ) (text : List (Entry K V)) → IsTextOf key value bits pages from tail text
+        → TheOne (λ t. IsTextOf key value bits pages from tail t)
+    the_text k v from tail text h = one_of (text_code k v) (λ t. IsTextOf key value bits pages from tail t) (one_text from tail) text h
 
-  pub text_is : (bits : ℕ) (pages : ℕ → Option (List ℕ)) (from tail : ℕ) (o : TheOne (λ t. IsTextOf key value is_key is_value ksize vsize bits pages from tail t)) (text : List (Entry K V))
-      → IsTextOf key value is_key is_value ksize vsize bits pages from tail text → (o.0).0 ≡ text
-  text_is bits pages from tail o text h = sym (one_is (λ t. IsTextOf key value is_key is_value ksize vsize bits pages from tail t) o text h)
+  pub text_is : (bits : ℕ) (pages : ℕ → Option (List ℕ)) (from tail : ℕ) (o : TheOne (λ t. IsTextOf key value bits pages from tail t)) (text : List (Entry K V))
+      → IsTextOf key value bits pages from tail text → (o.0).0 ≡ text
+  text_is bits pages from tail o text h = sym (one_is (λ t. IsTextOf key value bits pages from tail t) o text h)
 
   -- what is known of a text that the pages spell is known of the one
   pub log_of : (keeps : Bool) (shape : Shape) (begin closed frozen tail : ℕ) (receipts : List Standing) (ring : Ring)
-      (o : TheOne (λ t. IsTextOf key value is_key is_value ksize vsize shape.page_bits (page_in (page_at shape.page_bits closed) receipts ring) (text_begin keeps begin closed) tail t))
-      (text : List (Entry K V)) → IsPages key value is_key is_value ksize vsize keeps shape begin closed frozen tail receipts ring text
-      → IsPages key value is_key is_value ksize vsize keeps shape begin closed frozen tail receipts ring (o.0).0
+      (o : TheOne (λ t. IsTextOf key value shape.page_bits (page_in (page_at shape.page_bits closed) receipts ring) (text_begin keeps begin closed) tail t))
+      (text : List (Entry K V)) → IsPages key value keeps shape begin closed frozen tail receipts ring text
+      → IsPages key value keeps shape begin closed frozen tail receipts ring (o.0).0
   log_of keeps shape begin closed frozen tail receipts ring o text l =
-      subst (λ (t : List (Entry K V)). IsPages key value is_key is_value ksize vsize keeps shape begin closed frozen tail receipts ring t)
+      subst (λ (t : List (Entry K V)). IsPages key value keeps shape begin closed frozen tail receipts ring t)
       (sym (text_is shape.page_bits (page_in (page_at shape.page_bits closed) receipts ring) (text_begin keeps begin closed) tail o text l.spelled)) l
 
   -- what a contract sees of it
   pub view_of : (keeps : Bool) (shape : Shape) (begin closed frozen tail : ℕ) (receipts : List Standing) (ring : Ring)
-      (o : TheOne (λ t. IsTextOf key value is_key is_value ksize vsize shape.page_bits (page_in (page_at shape.page_bits closed) receipts ring) (text_begin keeps begin closed) tail t))
-      (text : List (Entry K V)) → IsPages key value is_key is_value ksize vsize keeps shape begin closed frozen tail receipts ring text
+      (o : TheOne (λ t. IsTextOf key value shape.page_bits (page_in (page_at shape.page_bits closed) receipts ring) (text_begin keeps begin closed) tail t))
+      (text : List (Entry K V)) → IsPages key value keeps shape begin closed frozen tail receipts ring text
       → view_as keeps shape begin closed frozen tail receipts ring (o.0).0 ≡ view_as keeps shape begin closed frozen tail receipts ring text
   view_of keeps shape begin closed frozen tail receipts ring o text l =
       ap (λ (t : List (Entry K V)). view_as keeps shape begin closed frozen tail receipts ring t)
@@ -121,7 +121,7 @@ module _ {K V : Type 0} (key : K → List ℕ) (value : V → List ℕ) (is_key 
   -- pages that are the same at each entry spell the same
   pub transfer : (bits : ℕ) (pages others : ℕ → Option (List ℕ)) (from tail : ℕ) (text : List (Entry K V))
       → ((i : ℕ) (e : Entry K V) → slice_get text i ≡ Some e → others (page_at bits e.address) ≡ pages (page_at bits e.address))
-      → IsTextOf key value is_key is_value ksize vsize bits pages from tail text → IsTextOf key value is_key is_value ksize vsize bits others from tail text
+      → IsTextOf key value bits pages from tail text → IsTextOf key value bits others from tail text
   transfer bits pages others from tail text same t = record {
     laid_out = t.laid_out;
     spelled = λ i e g. let s = t.spelled i e g in record { page = s.page; here = same i e g ∙ s.here; sound = s.sound; spells = s.spells };
@@ -129,7 +129,7 @@ module _ {K V : Type 0} (key : K → List ℕ) (value : V → List ℕ) (is_key 
 
   -- each place from where the text begins has an entry
   pub place_entry : (keeps : Bool) (shape : Shape) (begin closed frozen tail : ℕ) (receipts : List Standing) (ring : Ring) (text : List (Entry K V)) (a : ℕ)
-      → IsPages key value is_key is_value ksize vsize keeps shape begin closed frozen tail receipts ring text → begin ≤ a → closed ≤ a → a < tail → IsRecordStart shape.page_bits shape.record_size a → IsSome (entry_at text a)
+      → IsPages key value keeps shape begin closed frozen tail receipts ring text → begin ≤ a → closed ≤ a → a < tail → IsRecordStart shape.page_bits shape.record_size a → IsSome (entry_at text a)
   place_entry keeps shape begin closed frozen tail receipts ring text a log begun low high place =
       let o = log.ordered in
       entry_there shape.page_bits shape.record_size shape.limits (text_begin keeps begin closed) tail a text (begin_place shape.page_bits shape.record_size begin closed o.begin_place o.closed_place keeps) o.most
@@ -137,7 +137,7 @@ module _ {K V : Type 0} (key : K → List ℕ) (value : V → List ℕ) (is_key 
 
   -- and an entry stands at a place below the tail
   pub entry_place : (keeps : Bool) (shape : Shape) (begin closed frozen tail : ℕ) (receipts : List Standing) (ring : Ring) (text : List (Entry K V)) (a : ℕ)
-      → IsPages key value is_key is_value ksize vsize keeps shape begin closed frozen tail receipts ring text → IsSome (entry_at text a)
+      → IsPages key value keeps shape begin closed frozen tail receipts ring text → IsSome (entry_at text a)
       → Stands shape.page_bits shape.record_size shape.limits (text_begin keeps begin closed) tail a
   entry_place keeps shape begin closed frozen tail receipts ring text a log some =
       let o = log.ordered in
@@ -146,7 +146,7 @@ module _ {K V : Type 0} (key : K → List ℕ) (value : V → List ℕ) (is_key 
 
   -- so there is one at each of these places, and nowhere else
   pub text_places : (keeps : Bool) (shape : Shape) (begin closed frozen tail : ℕ) (receipts : List Standing) (ring : Ring) (text : List (Entry K V))
-      → IsPages key value is_key is_value ksize vsize keeps shape begin closed frozen tail receipts ring text → (a : ℕ)
+      → IsPages key value keeps shape begin closed frozen tail receipts ring text → (a : ℕ)
       → IsSome (entry_at text a) ↔ ((text_begin keeps begin closed ≤ a) × (a < tail) × IsRecordStart shape.page_bits (size_of ksize vsize) a)
   text_places keeps shape begin closed frozen tail receipts ring text log a =
       let bits = shape.page_bits in
@@ -162,14 +162,14 @@ module _ {K V : Type 0} (key : K → List ℕ) (value : V → List ℕ) (is_key 
 
   -- what holds of every text
   pub text_rises : (keeps : Bool) (shape : Shape) (begin closed frozen tail : ℕ) (receipts : List Standing) (ring : Ring) (text : List (Entry K V))
-      → IsPages key value is_key is_value ksize vsize keeps shape begin closed frozen tail receipts ring text → IsRising text
+      → IsPages key value keeps shape begin closed frozen tail receipts ring text → IsRising text
   text_rises keeps shape begin closed frozen tail receipts ring text log =
       let o = log.ordered in
       rising shape.page_bits shape.record_size shape.limits (text_begin keeps begin closed) tail text (begin_place shape.page_bits shape.record_size begin closed o.begin_place o.closed_place keeps) o.most
       (rw (← log.size) at log.spelled.laid_out)
 
   pub text_stands : (keeps : Bool) (shape : Shape) (begin closed frozen tail : ℕ) (receipts : List Standing) (ring : Ring) (text : List (Entry K V))
-      → IsPages key value is_key is_value ksize vsize keeps shape begin closed frozen tail receipts ring text → (i : ℕ) (e : Entry K V) → slice_get text i ≡ Some e
+      → IsPages key value keeps shape begin closed frozen tail receipts ring text → (i : ℕ) (e : Entry K V) → slice_get text i ≡ Some e
       → Stands shape.page_bits shape.record_size shape.limits (text_begin keeps begin closed) tail e.address
   text_stands keeps shape begin closed frozen tail receipts ring text log i e g =
       let o = log.ordered in
@@ -178,7 +178,7 @@ module _ {K V : Type 0} (key : K → List ℕ) (value : V → List ℕ) (is_key 
 
   -- ---- pages of no records
   pub empty : (keeps : Bool) (shape : Shape) (ring : Ring) (page : List ℕ) → shape.record_size ≡ size_of ksize vsize → ring.bits ≡ shape.page_bits → 0 < length ring.slots
-      → held ring 0 ≡ Some page → length page ≡ 2 ^ shape.page_bits → IsPages key value is_key is_value ksize vsize keeps shape 64 64 64 64 [] ring []
+      → held ring 0 ≡ Some page → length page ≡ 2 ^ shape.page_bits → IsPages key value keeps shape 64 64 64 64 [] ring []
   empty keeps shape ring page size same some here sized =
       let bits = shape.page_bits in
       let p = page_sized bits shape.record_size shape.limits in

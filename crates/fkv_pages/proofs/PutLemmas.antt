@@ -3,6 +3,7 @@ use Rattle.std.proofs.Common.{◌≡◌, ◌≢◌, ◌+◌, ◌-◌, ◌*◌, �
 use Rattle.std.proofs.lemmas.Bool.{cases_eq, cases_lt, eqb-true, eq-eqb}
 use Rattle.std.proofs.lemmas.Nat.{div-add-mod', pow_pos}
 use Rattle.std.proofs.lemmas.Option.{slice_get_within}
+use Rattle.fkv_functions.specs.Codecs.{Codec}
 use Rattle.fkv_records.specs.Places.{page_at, offset_at, start_at, IsRecordStart}
 use Rattle.fkv_records.specs.Records.{size_of, IsRecord, Spells}
 use Rattle.fkv_records.specs.declared.shapes.Shape.{Shape}
@@ -21,10 +22,10 @@ use Rattle.fkv_pages.proofs.ByteLemmas.{written_at, written-length, written-here
 use Rattle.fkv_pages.proofs.FrameLemmas.{page_high, page_low, page_rises, start_rises, tail_in, tail_begins, tail_inside, put_at, page_in-high, page_in-same, Puts, pages_from-same}
 use Rattle.fkv_pages.proofs.PageLemmas.{begin_place, text_is, log_of}
 
-module _ {K V : Type 0} (key : K → List ℕ) (value : V → List ℕ) (is_key : K → Type 0) (is_value : V → Type 0) (ksize vsize : ℕ) where
+module _ {K V : Type 0} {ksize vsize : ℕ} (key : Codec K ksize) (value : Codec V vsize) where
   -- ---- bytes are put into the page of an address
   module _ (keeps : Bool) (shape : Shape) (begin closed frozen tail : ℕ) (receipts : List Standing) (old new : Ring) (bytes : List ℕ) (text : List (Entry K V)) (a : ℕ)
-      (log : IsPages key value is_key is_value ksize vsize keeps shape begin closed frozen tail receipts old text) (place : IsRecordStart shape.page_bits shape.record_size a)
+      (log : IsPages key value keeps shape begin closed frozen tail receipts old text) (place : IsRecordStart shape.page_bits shape.record_size a)
       (frozen_below : frozen ≤ a)
       (puts : Puts shape.page_bits (page_at shape.page_bits closed) tail (page_at shape.page_bits a) (offset_at shape.page_bits a) bytes old new)
       (sized : length bytes ≡ shape.record_size) where
@@ -61,8 +62,8 @@ module _ {K V : Type 0} (key : K → List ℕ) (value : V → List ℕ) (is_key 
     put_here = page_in-high (page_at shape.page_bits closed) (page_at shape.page_bits a) receipts new puts.low ∙ puts.is
 
     -- an entry there is spelled where its bytes were put
-    pub put_spelled : (e : Entry K V) → e.address ≡ a → IsRecord is_key is_value a (record_of e) → Spells key value ksize vsize bytes (record_of e)
-        → IsSpelled key value is_key is_value ksize vsize shape.page_bits (page_in (page_at shape.page_bits closed) receipts new) e
+    pub put_spelled : (e : Entry K V) → e.address ≡ a → IsRecord key value a (record_of e) → Spells key value bytes (record_of e)
+        → IsSpelled key value shape.page_bits (page_in (page_at shape.page_bits closed) receipts new) e
     put_spelled e at sound spells =
         let bits = shape.page_bits in
         let page = written_at puts.page (offset_at bits a) bytes in
@@ -73,14 +74,14 @@ module _ {K V : Type 0} (key : K → List ℕ) (value : V → List ℕ) (is_key 
         record {
           page = page;
           here = ap (λ (x : ℕ). page_in (page_at bits closed) receipts new (page_at bits x)) at ∙ put_here;
-          sound = subst (λ (x : ℕ). IsRecord is_key is_value x (record_of e)) (sym at) sound;
-          spells = subst (λ (b : List ℕ). Spells key value ksize vsize b (record_of e)) (sym part) spells;
+          sound = subst (λ (x : ℕ). IsRecord key value x (record_of e)) (sym at) sound;
+          spells = subst (λ (b : List ℕ). Spells key value b (record_of e)) (sym part) spells;
         }
 
     -- and one that ends below it stays spelled
     pub put_below : (d : Entry K V) → Stands shape.page_bits shape.record_size shape.limits (text_begin keeps begin closed) tail d.address → d.address + shape.record_size ≤ a
-        → IsSpelled key value is_key is_value ksize vsize shape.page_bits (page_in (page_at shape.page_bits closed) receipts old) d
-        → IsSpelled key value is_key is_value ksize vsize shape.page_bits (page_in (page_at shape.page_bits closed) receipts new) d
+        → IsSpelled key value shape.page_bits (page_in (page_at shape.page_bits closed) receipts old) d
+        → IsSpelled key value shape.page_bits (page_in (page_at shape.page_bits closed) receipts new) d
     put_below d there low s =
         let bits = shape.page_bits in
         let begun = page_low bits d.address in
@@ -100,7 +101,7 @@ module _ {K V : Type 0} (key : K → List ℕ) (value : V → List ℕ) (is_key 
                 page = written_at puts.page (offset_at bits a) bytes;
                 here = ap (λ (n : ℕ). page_in (page_at bits closed) receipts new n) same ∙ put_here;
                 sound = s.sound;
-                spells = subst (λ (b : List ℕ). Spells key value ksize vsize b (record_of d))
+                spells = subst (λ (b : List ℕ). Spells key value b (record_of d))
                     (sym (written-below puts.page bytes (offset_at bits a) put_room (offset_at bits d.address) (size_of ksize vsize) under
                     ∙ ap (λ (q : List ℕ). part_of q (offset_at bits d.address) (size_of ksize vsize)) page_same)) s.spells;
               })
@@ -109,13 +110,13 @@ module _ {K V : Type 0} (key : K → List ℕ) (value : V → List ℕ) (is_key 
 
   -- and so does one that stands behind it
   pub put_above : (keeps : Bool) (shape : Shape) (begin closed frozen tail : ℕ) (receipts : List Standing) (old new : Ring) (bytes : List ℕ) (text : List (Entry K V)) (a : ℕ)
-      (log : IsPages key value is_key is_value ksize vsize keeps shape begin closed frozen tail receipts old text) (place : IsRecordStart shape.page_bits shape.record_size a)
+      (log : IsPages key value keeps shape begin closed frozen tail receipts old text) (place : IsRecordStart shape.page_bits shape.record_size a)
       (frozen_below : frozen ≤ a)
       (puts : Puts shape.page_bits (page_at shape.page_bits closed) tail (page_at shape.page_bits a) (offset_at shape.page_bits a) bytes old new)
       (sized : length bytes ≡ shape.record_size)
       (d : Entry K V) → Stands shape.page_bits shape.record_size shape.limits (text_begin keeps begin closed) tail d.address → a + shape.record_size ≤ d.address
-      → IsSpelled key value is_key is_value ksize vsize shape.page_bits (page_in (page_at shape.page_bits closed) receipts old) d
-      → IsSpelled key value is_key is_value ksize vsize shape.page_bits (page_in (page_at shape.page_bits closed) receipts new) d
+      → IsSpelled key value shape.page_bits (page_in (page_at shape.page_bits closed) receipts old) d
+      → IsSpelled key value shape.page_bits (page_in (page_at shape.page_bits closed) receipts new) d
   put_above keeps shape begin closed frozen tail receipts old new bytes text a log place frozen_below puts sized d there high s =
       let bits = shape.page_bits in
       let begun = page_low bits d.address in
@@ -136,7 +137,7 @@ module _ {K V : Type 0} (key : K → List ℕ) (value : V → List ℕ) (is_key 
               here = ap (λ (n : ℕ). page_in (page_at bits closed) receipts new n) same
                   ∙ put_here keeps shape begin closed frozen tail receipts old new bytes text a log place frozen_below puts sized;
               sound = s.sound;
-              spells = subst (λ (b : List ℕ). Spells key value ksize vsize b (record_of d))
+              spells = subst (λ (b : List ℕ). Spells key value b (record_of d))
                   (sym (written-above puts.page bytes (offset_at bits a) (offset_at bits d.address) (size_of ksize vsize)
                   (put_room keeps shape begin closed frozen tail receipts old new bytes text a log place frozen_below puts sized) over
                   ∙ ap (λ (q : List ℕ). part_of q (offset_at bits d.address) (size_of ksize vsize)) page_same)) s.spells;
@@ -151,10 +152,10 @@ module _ {K V : Type 0} (key : K → List ℕ) (value : V → List ℕ) (is_key 
 
   -- ---- one more entry
   pub grown : (keeps : Bool) (shape : Shape) (begin closed frozen tail : ℕ) (receipts : List Standing) (old new : Ring) (bytes : List ℕ) (text : List (Entry K V)) (e : Entry K V)
-      → IsPages key value is_key is_value ksize vsize keeps shape begin closed frozen tail receipts old text → tail < 2 ^ 48 → e.address ≡ tail
+      → IsPages key value keeps shape begin closed frozen tail receipts old text → tail < 2 ^ 48 → e.address ≡ tail
       → Puts shape.page_bits (page_at shape.page_bits closed) tail (page_at shape.page_bits tail) (offset_at shape.page_bits tail) bytes old new
-      → length bytes ≡ shape.record_size → IsRecord is_key is_value tail (record_of e) → Spells key value ksize vsize bytes (record_of e)
-      → IsPages key value is_key is_value ksize vsize keeps shape begin closed frozen (tail_after shape.page_bits shape.record_size tail) receipts new (text ++ e ∷ [])
+      → length bytes ≡ shape.record_size → IsRecord key value tail (record_of e) → Spells key value bytes (record_of e)
+      → IsPages key value keeps shape begin closed frozen (tail_after shape.page_bits shape.record_size tail) receipts new (text ++ e ∷ [])
   grown keeps shape begin closed frozen tail receipts old new bytes text e log below at puts sized sound spells =
       let bits = shape.page_bits in
       let size = shape.record_size in
@@ -173,7 +174,7 @@ module _ {K V : Type 0} (key : K → List ℕ) (value : V → List ℕ) (is_key 
             | inl was ↦
                 (let there = stands bits size shape.limits (text_begin keeps begin closed) tail text from_place o.most laid i d was in
                 put_below keeps shape begin closed frozen tail receipts old new bytes text tail log place o.frozen_tail puts sized d there there.high (log.spelled.spelled i d was))
-            | inr last ↦ subst (λ (x : Entry K V). IsSpelled key value is_key is_value ksize vsize bits (page_in (page_at bits closed) receipts new) x) last.1
+            | inr last ↦ subst (λ (x : Entry K V). IsSpelled key value bits (page_in (page_at bits closed) receipts new) x) last.1
                 (put_spelled keeps shape begin closed frozen tail receipts old new bytes text tail log place o.frozen_tail puts sized e at sound spells)
           ];
         };
@@ -219,7 +220,7 @@ module _ {K V : Type 0} (key : K → List ℕ) (value : V → List ℕ) (is_key 
 
   -- an append puts bytes into the page of the tail: the page is opened where the tail begins it, and there is room then
   pub append_puts : (keeps : Bool) (shape : Shape) (begin closed frozen tail : ℕ) (receipts : List Standing) (old new : Ring) (bytes : List ℕ) (text : List (Entry K V)) (page offset : ℕ)
-      → IsPages key value is_key is_value ksize vsize keeps shape begin closed frozen tail receipts old text
+      → IsPages key value keeps shape begin closed frozen tail receipts old text
       → page ≡ page_at shape.page_bits tail → offset ≡ offset_at shape.page_bits tail
       → (offset ≡ 0 → page_at shape.page_bits closed + length old.slots ≤ page → ⊥)
       → OpensAndWrites (offset == 0) page (offset_at old.bits tail) bytes old new
@@ -245,16 +246,16 @@ module _ {K V : Type 0} (key : K → List ℕ) (value : V → List ℕ) (is_key 
 
   -- what is known where the tail is given by an equation
   pub log_at : (keeps : Bool) (shape : Shape) (begin closed frozen tail at : ℕ) (receipts : List Standing) (ring : Ring)
-      (o : TheOne (λ t. IsTextOf key value is_key is_value ksize vsize shape.page_bits (page_in (page_at shape.page_bits closed) receipts ring) (text_begin keeps begin closed) at t))
-      (text : List (Entry K V)) → at ≡ tail → IsPages key value is_key is_value ksize vsize keeps shape begin closed frozen tail receipts ring text
-      → IsPages key value is_key is_value ksize vsize keeps shape begin closed frozen at receipts ring (o.0).0
+      (o : TheOne (λ t. IsTextOf key value shape.page_bits (page_in (page_at shape.page_bits closed) receipts ring) (text_begin keeps begin closed) at t))
+      (text : List (Entry K V)) → at ≡ tail → IsPages key value keeps shape begin closed frozen tail receipts ring text
+      → IsPages key value keeps shape begin closed frozen at receipts ring (o.0).0
   log_at keeps shape begin closed frozen tail at receipts ring o text e l =
-      log_of key value is_key is_value ksize vsize keeps shape begin closed frozen at receipts ring o text
-      (subst (λ (n : ℕ). IsPages key value is_key is_value ksize vsize keeps shape begin closed frozen n receipts ring text) (sym e) l)
+      log_of key value keeps shape begin closed frozen at receipts ring o text
+      (subst (λ (n : ℕ). IsPages key value keeps shape begin closed frozen n receipts ring text) (sym e) l)
 
   -- the pages that wait lie below what bytes are put into
   pub put_waiting : (keeps : Bool) (shape : Shape) (begin closed frozen tail : ℕ) (receipts : List Standing) (old new : Ring) (bytes : List ℕ) (text : List (Entry K V)) (a : ℕ)
-      → IsPages key value is_key is_value ksize vsize keeps shape begin closed frozen tail receipts old text → frozen ≤ a
+      → IsPages key value keeps shape begin closed frozen tail receipts old text → frozen ≤ a
       → Puts shape.page_bits (page_at shape.page_bits closed) tail (page_at shape.page_bits a) (offset_at shape.page_bits a) bytes old new
       → pages_from new (length receipts) (page_at shape.page_bits frozen - length receipts) ≡ pages_from old (length receipts) (page_at shape.page_bits frozen - length receipts)
   put_waiting keeps shape begin closed frozen tail receipts old new bytes text a log above puts =
@@ -272,14 +273,14 @@ module _ {K V : Type 0} (key : K → List ℕ) (value : V → List ℕ) (is_key 
 
   -- what a contract sees once an entry is appended
   pub view_at : (keeps : Bool) (shape : Shape) (begin closed frozen tail at size : ℕ) (receipts : List Standing) (was ring : Ring)
-      (o : TheOne (λ t. IsTextOf key value is_key is_value ksize vsize shape.page_bits (page_in (page_at shape.page_bits closed) receipts ring) (text_begin keeps begin closed) at t))
+      (o : TheOne (λ t. IsTextOf key value shape.page_bits (page_in (page_at shape.page_bits closed) receipts ring) (text_begin keeps begin closed) at t))
       (old : List (Entry K V)) (e : Entry K V) → e.address ≡ tail → shape.record_size ≡ size → at ≡ tail_after shape.page_bits shape.record_size tail → length ring.slots ≡ length was.slots
       → pages_from ring (length receipts) (page_at shape.page_bits frozen - length receipts) ≡ pages_from was (length receipts) (page_at shape.page_bits frozen - length receipts)
-      → IsPages key value is_key is_value ksize vsize keeps shape begin closed frozen (tail_after shape.page_bits shape.record_size tail) receipts ring (old ++ e ∷ [])
+      → IsPages key value keeps shape begin closed frozen (tail_after shape.page_bits shape.record_size tail) receipts ring (old ++ e ∷ [])
       → view_as keeps shape begin closed frozen at receipts ring (o.0).0 ≡ with_entry size (view_as keeps shape begin closed frozen tail receipts was old) e.previous e.key e.value e.delta
   view_at keeps shape begin closed frozen tail at size receipts was ring o old e here same is count waits l =
-      let text = text_is key value is_key is_value ksize vsize shape.page_bits (page_in (page_at shape.page_bits closed) receipts ring) (text_begin keeps begin closed) at o (old ++ e ∷ [])
-      (subst (λ (n : ℕ). IsTextOf key value is_key is_value ksize vsize shape.page_bits (page_in (page_at shape.page_bits closed) receipts ring) (text_begin keeps begin closed) n (old ++ e ∷ [])) (sym is) l.spelled)
+      let text = text_is key value shape.page_bits (page_in (page_at shape.page_bits closed) receipts ring) (text_begin keeps begin closed) at o (old ++ e ∷ [])
+      (subst (λ (n : ℕ). IsTextOf key value shape.page_bits (page_in (page_at shape.page_bits closed) receipts ring) (text_begin keeps begin closed) n (old ++ e ∷ [])) (sym is) l.spelled)
       ∙ (λ j. old ++ record { address = here j; previous = e.previous; key = e.key; value = e.value; delta = e.delta } ∷ []) in
       let tail_same : at ≡ tail_after shape.page_bits size tail = is ∙ ap (λ (n : ℕ). tail_after shape.page_bits n tail) same in
       λ j. record {

@@ -2,6 +2,7 @@
 use Rattle.std.proofs.Common.{◌≡◌, ◌<◌, ◌≤◌, ◌==◌, inl, inr, ℕ, Bool, true, false, List, Option, Some, None, is_none, slice_get, refl, sym, ◌∙◌, ap, subst, arith}
 use Rattle.std.specs.Prelude.{IsTrue, IsSome, Result, Ok, Err}
 use Rattle.std.proofs.lemmas.Bool.{cases_lt, ne_eqb}
+use Rattle.fkv_functions.specs.Codecs.{Codec}
 use Rattle.fkv_records.specs.Places.{IsShape, page_at, offset_at, start_at, IsRecordStart}
 use Rattle.fkv_records.specs.Records.{size_of, IsRecord, Spells}
 use Rattle.fkv_records.specs.declared.shapes.Shape.{Shape}
@@ -27,10 +28,10 @@ use Rattle.fkv_records.proofs.RecordLemmas.{same_record}
 use Rattle.fkv_pages.specs.Loads.{IsReached, below, none, found, on, first_place}
 use Rattle.fkv_pages.proofs.PageLemmas.{begin_place}
 
-module _ {K V : Type 0} (key : K → List ℕ) (value : V → List ℕ) (is_key : K → Type 0) (is_value : V → Type 0) (ksize vsize : ℕ) where
+module _ {K V : Type 0} {ksize vsize : ℕ} (key : Codec K ksize) (value : Codec V vsize) where
   pub entry_in : (keeps : Bool) (shape : Shape) (begin closed frozen tail : ℕ) (receipts : List Standing) (ring : Ring) (text : List (Entry K V)) (a : ℕ) (s : Standing) (e : Entry K V)
-      → IsPages key value is_key is_value ksize vsize keeps shape begin closed frozen tail receipts ring text → IsTrue keeps → slice_get receipts (page_at shape.page_bits a) ≡ Some s
-      → entry_at text a ≡ Some e → IsEntryIn key value is_key is_value ksize vsize shape.page_bits s.bytes a e
+      → IsPages key value keeps shape begin closed frozen tail receipts ring text → IsTrue keeps → slice_get receipts (page_at shape.page_bits a) ≡ Some s
+      → entry_at text a ≡ Some e → IsEntryIn key value shape.page_bits s.bytes a e
   entry_in keeps shape begin closed frozen tail receipts ring text a s e log h g is =
       let bits = shape.page_bits in
       let o = log.ordered in
@@ -49,8 +50,8 @@ module _ {K V : Type 0} (key : K → List ℕ) (value : V → List ℕ) (is_key 
       record {
         stands = found.1;
         place = subst (λ (n : ℕ). IsRecordStart bits n a) log.size stands.place;
-        sound = subst (λ (b : ℕ). IsRecord is_key is_value b (record_of e)) found.1 t.sound;
-        spells = subst (λ (b : List ℕ). Spells key value ksize vsize b (record_of e)) part t.spells;
+        sound = subst (λ (b : ℕ). IsRecord key value b (record_of e)) found.1 t.sound;
+        spells = subst (λ (b : List ℕ). Spells key value b (record_of e)) part t.spells;
       }
 
   -- what is reached along the entries of one page is what the chain of the text, down to the page's start, comes to
@@ -78,19 +79,18 @@ module _ {K V : Type 0} (key : K → List ℕ) (value : V → List ℕ) (is_key 
         reached_is d.previous ds r (omega arith) chain on_rest ∙ rw mine refl
 
   -- the bytes of a page spell one entry at most at an address
-  pub one_entry_in : (key_readable : (a b : K) → is_key a → is_key b → key a ≡ key b → a ≡ b) (value_readable : (a b : V) → is_value a → is_value b → value a ≡ value b → a ≡ b)
-      (bits : ℕ) (bytes : List ℕ) (a : ℕ) (d e : Entry K V) → IsEntryIn key value is_key is_value ksize vsize bits bytes a d → IsEntryIn key value is_key is_value ksize vsize bits bytes a e → d ≡ e
-  one_entry_in key_readable value_readable bits bytes a d e h k =
-      let r : record_of d ≡ record_of e = same_record key value is_key is_value ksize vsize a key_readable value_readable (part_of bytes (offset_at bits a) (size_of ksize vsize))
+  pub one_entry_in : (bits : ℕ) (bytes : List ℕ) (a : ℕ) (d e : Entry K V) → IsEntryIn key value bits bytes a d → IsEntryIn key value bits bytes a e → d ≡ e
+  one_entry_in bits bytes a d e h k =
+      let r : record_of d ≡ record_of e = same_record key value a (part_of bytes (offset_at bits a) (size_of ksize vsize))
       (record_of d) (record_of e) h.sound k.sound h.spells k.spells in
       let at : d.address ≡ e.address = h.stands ∙ sym k.stands in
       λ i. record { address = at i; previous = (r i).previous; key = (r i).key; value = (r i).value; delta = (r i).delta }
 
   -- the entries of the text in a flushed page are those that its receipt's bytes spell
   pub entries_in : (keeps : Bool) (shape : Shape) (begin closed frozen tail : ℕ) (receipts : List Standing) (ring : Ring) (text : List (Entry K V)) (from page : ℕ) (s : Standing)
-      → IsPages key value is_key is_value ksize vsize keeps shape begin closed frozen tail receipts ring text → IsTrue keeps → slice_get receipts page ≡ Some s → page_at shape.page_bits from ≤ page
+      → IsPages key value keeps shape begin closed frozen tail receipts ring text → IsTrue keeps → slice_get receipts page ≡ Some s → page_at shape.page_bits from ≤ page
       → (b : ℕ) (e : Entry K V) → first_place shape.page_bits page ≤ b → b ≤ from → entry_at text b ≡ Some e
-      → IsEntryIn key value is_key is_value ksize vsize shape.page_bits s.bytes b e
+      → IsEntryIn key value shape.page_bits s.bytes b e
   entries_in keeps shape begin closed frozen tail receipts ring text from page s log h g within b e low high is =
       let bits = shape.page_bits in
       let up = page_rises bits b from high in
@@ -119,9 +119,9 @@ module _ {K V : Type 0} (cmp : K → K → Ordering) (k : K) (low : ℕ) (text :
   reached_rest = subst (λ (x : Entry K V). IsChainFrom low text x.previous s.rest) own_entry s.on
 
 -- from an entry in a page the way falls
-pub entry_falls : {K V : Type 0} (key : K → List ℕ) (value : V → List ℕ) (is_key : K → Type 0) (is_value : V → Type 0) (ksize vsize bits size : ℕ) (bytes : List ℕ) (a : ℕ) (e : Entry K V)
-    → IsShape bits size → size ≡ size_of ksize vsize → IsEntryIn key value is_key is_value ksize vsize bits bytes a e → e.previous < a
-entry_falls key value is_key is_value ksize vsize bits size bytes a e s same h =
+pub entry_falls : {K V : Type 0} {ksize vsize : ℕ} (key : Codec K ksize) (value : Codec V vsize) (bits size : ℕ) (bytes : List ℕ) (a : ℕ) (e : Entry K V)
+    → IsShape bits size → size ≡ size_of ksize vsize → IsEntryIn key value bits bytes a e → e.previous < a
+entry_falls {K} {V} {ksize} {vsize} key value bits size bytes a e s same h =
     let low = place_low bits size s a (rw same h.place) in
     elim h.sound.previous [ inl one ↦ omega (arith, one, low) | inr less ↦ less.1 ]
 

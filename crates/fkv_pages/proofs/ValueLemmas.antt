@@ -1,6 +1,7 @@
 -- A value's bytes, written alone: the record of which they are a part is edited.
 use Rattle.std.proofs.Common.{◌≡◌, ◌+◌, ◌-◌, ◌^◌, ◌≤◌, ℕ, List, ◌++◌, length, take, drop, Option, None, Some, IsSome, refl, sym, ◌∙◌, ap, arith, append_assoc, length-append, length-take, length-drop}
 use Rattle.std.specs.Prelude.{IfSome}
+use Rattle.fkv_functions.specs.Codecs.{Codec}
 use Rattle.fkv_records.specs.Places.{page_at, offset_at}
 use Rattle.fkv_records.specs.Records.{size_of, with_value_part, Spells}
 use Rattle.fkv_records.specs.declared.records.Record.{Record}
@@ -24,17 +25,17 @@ written_whole page bytes offset ksize vsize room long =
     ∙ inside
     ∙ rw (whole, long) (sym (append_assoc (take offset page) (with_value_part ksize vsize part bytes) (drop (offset + length (with_value_part ksize vsize part bytes)) page)))
 
-module _ {K V : Type 0} (key : K → List ℕ) (value : V → List ℕ) (ksize vsize : ℕ) where
+module _ {K V : Type 0} {ksize vsize : ℕ} (key : Codec K ksize) (value : Codec V vsize) where
   pub value_edited : (old new : Ring) (bits a page offset : ℕ) (bytes : List ℕ) (v : V)
       → page ≡ page_at bits a → offset ≡ offset_at bits a + (8 + ksize) → offset_at bits a + size_of ksize vsize ≤ 2 ^ bits
       → ((n : ℕ) → IfSome (held old n) (λ b. length b ≡ 2 ^ bits)) → length bytes ≡ vsize
-      → ((b : List ℕ) (r : Record K V) → length b ≡ size_of ksize vsize → IsSome r.value → Spells key value ksize vsize b r
-      → Spells key value ksize vsize (with_value_part ksize vsize b bytes) (record r { value = Some v }))
+      → ((b : List ℕ) (r : Record K V) → length b ≡ size_of ksize vsize → IsSome r.value → Spells key value b r
+      → Spells key value (with_value_part ksize vsize b bytes) (record r { value = Some v }))
       → Writes page offset bytes old new
-      → IfSome (held old (page_at bits a)) (IsEdited key value ksize vsize (λ r. IsSome r.value) (Some v) bits a old new)
+      → IfSome (held old (page_at bits a)) (IsEdited key value (λ r. IsSome r.value) (Some v) bits a old new)
   value_edited old new bits a page offset bytes v page_is offset_is fits sizes long spells w = by (held old (page_at bits a)) refl
     where
-      by : (o : Option (List ℕ)) → held old (page_at bits a) ≡ o → IfSome o (IsEdited key value ksize vsize (λ r. IsSome r.value) (Some v) bits a old new)
+      by : (o : Option (List ℕ)) → held old (page_at bits a) ≡ o → IfSome o (IsEdited key value (λ r. IsSome r.value) (Some v) bits a old new)
       by None e = tt
       by (Some b) e =
           let size = size_of ksize vsize in

@@ -1,6 +1,7 @@
 -- What pages in frames and on a device keep.
 use Rattle.std.specs.Prelude.{◌≡◌, ◌+◌, ◌-◌, ◌^◌, ◌<◌, ◌≤◌, ℕ, zero, suc, Bool, true, false, IsTrue, cond, List, [], ◌∷◌}
 use Rattle.std.specs.Prelude.{length, Option, Some, nat_lt, slice_get, option_map, unwrap_or}
+use Rattle.fkv_functions.specs.Codecs.{Codec}
 use Rattle.fkv_records.specs.Places.{page_at, offset_at, start_at, IsRecordStart}
 use Rattle.fkv_records.specs.Records.{size_of, Spells}
 use Rattle.fkv_records.specs.declared.records.Record.{Record}
@@ -54,15 +55,15 @@ pub data OpensAndWrites (is_new : Bool) (n offset : ℕ) (bytes : List ℕ) (old
 
 -- in the page that had these bytes, those at an address are others: those of a record that may be edited spell it with
 -- this value
-pub record IsEdited {K V : Type 0} (key : K → List ℕ) (value : V → List ℕ) (ksize vsize : ℕ)
+pub record IsEdited {K V : Type 0} {ksize vsize : ℕ} (key : Codec K ksize) (value : Codec V vsize)
     (may : Record K V → Type 0) (v : Option V) (bits address : ℕ) (old new : Ring) (page : List ℕ) : Type 0 where
   pub bytes : List ℕ
   pub sized : length bytes ≡ size_of ksize vsize
   pub written : Writes (page_at bits address) (offset_at bits address) bytes old new
   pub spells : (r : Record K V)
       → may r
-      → Spells key value ksize vsize (part_of page (offset_at bits address) (size_of ksize vsize)) r
-      → Spells key value ksize vsize bytes (record r { value = v })
+      → Spells key value (part_of page (offset_at bits address) (size_of ksize vsize)) r
+      → Spells key value bytes (record r { value = v })
 
 -- the offsets rise, and are places
 pub record IsOrdered (bits size begin closed frozen tail flushed : ℕ) : Type 0 where
@@ -95,12 +96,11 @@ pub record IsFlushed (keeps : Bool) (bits closed : ℕ) (receipts : List Standin
       → held ring n ≡ Some s.bytes
 
 -- all that holds at any time
-pub record IsPages {K V : Type 0} (key : K → List ℕ) (value : V → List ℕ)
-    (is_key : K → Type 0) (is_value : V → Type 0) (ksize vsize : ℕ) (keeps : Bool)
+pub record IsPages {K V : Type 0} {ksize vsize : ℕ} (key : Codec K ksize) (value : Codec V vsize) (keeps : Bool)
     (shape : Shape) (begin closed frozen tail : ℕ) (receipts : List Standing) (ring : Ring)
     (text : List (Entry K V)) : Type 0 where
   pub size : shape.record_size ≡ size_of ksize vsize
-  pub spelled : IsTextOf key value is_key is_value ksize vsize shape.page_bits
+  pub spelled : IsTextOf key value shape.page_bits
       (page_in (page_at shape.page_bits closed) receipts ring) (text_begin keeps begin closed) tail text
   pub ordered : IsOrdered shape.page_bits shape.record_size begin closed frozen tail (length receipts)
   pub ringed : IsRinged shape.page_bits closed tail ring

@@ -1,5 +1,6 @@
 -- What the definitions refuse, on small pages: keys and values are numbers.
 use Rattle.std.specs.Prelude.{◌≡◌, ℕ, Bool, List, [], ◌∷◌, Option, Some, None, true, false}
+use Rattle.fkv_functions.specs.Integers.{word_codec}
 use Rattle.fkv_functions.specs.declared.refusals.Refused.TheVariants.{NotDue, Stranger}
 use Rattle.fkv_functions.specs.declared.refusals.What.TheVariants.{Page, Bytes}
 use Rattle.fkv_records.specs.Records.{Spells}
@@ -23,10 +24,10 @@ AppendsItWhole = (p k : ℕ) (v : Option ℕ) (d : Bool)
 
 -- an entry is spelled in the page of its address
 abbrev pub SpelledInItsPage : Type 0
-SpelledInItsPage = (bytes : ℕ → List ℕ) (a b : List ℕ) (p k : ℕ) (v : Option ℕ)
-    → IsSpelled bytes bytes (λ _. Unit {0}) (λ _. Unit {0}) 8 8 8
+SpelledInItsPage = (a b : List ℕ) (p k : ℕ) (v : Option ℕ)
+    → IsSpelled word_codec word_codec 8
     (page_in 1 (receipt 0 a ∷ []) (record { bits = 8; slots = (Some 2, a) ∷ (Some 1, b) ∷ [] })) (entry 288 p k v)
-    → Spells bytes bytes 8 8 (part_of b 32 24) (record_of (entry 288 p k v))
+    → Spells word_codec word_codec (part_of b 32 24) (record_of (entry 288 p k v))
 
 -- a page below the first is its receipt's, though its frame has another; a page above is its frame's, though it has a
 -- receipt; and a page that is in no frame is nowhere

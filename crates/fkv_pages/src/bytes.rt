@@ -34,12 +34,12 @@ pub(crate) fn put_record<K: Fixed, V: Fixed>(
     requires fits { offset_at frames.old.bits address + size ≤ 2 ^ frames.old.bits }
     requires previous { entry.now.previous < 2 ^ 48 }
     ensures written { OpensAndWrites is_new page (offset_at frames.old.bits address)
-        (record_bytes K.bytes_of V.bytes_of K.SIZE V.SIZE entry.now) frames.old frames.new }
-    ensures sized { length (record_bytes K.bytes_of V.bytes_of K.SIZE V.SIZE entry.now) ≡ size }
-    ensures spells { Spells K.bytes_of V.bytes_of K.SIZE V.SIZE
-        (record_bytes K.bytes_of V.bytes_of K.SIZE V.SIZE entry.now) entry.now }
-    ensures key { K.is_known entry.now.key }
-    ensures value { IfSome entry.now.value V.is_known }
+        (record_bytes K.codec V.codec entry.now) frames.old frames.new }
+    ensures sized { length (record_bytes K.codec V.codec entry.now) ≡ size }
+    ensures spells { Spells K.codec V.codec
+        (record_bytes K.codec V.codec entry.now) entry.now }
+    ensures key { K.codec.is_known entry.now.key }
+    ensures value { IfSome entry.now.value V.codec.is_known }
 {
     let mut buffer = [0u8; 192];
     let bytes = &mut buffer[..size];
@@ -62,9 +62,9 @@ pub(crate) fn put_value<K: Fixed, V: Fixed>(
     requires held { IsSome (held frames.old (page_at frames.old.bits address)) }
     requires place { IsRecordStart shape.page_bits shape.record_size address }
     ensures edited { IfSome (held frames.old (page_at frames.old.bits address))
-        (IsEdited K.bytes_of V.bytes_of K.SIZE V.SIZE (λ r. IsSome r.value) (Some value.now)
+        (IsEdited K.codec V.codec (λ r. IsSome r.value) (Some value.now)
         frames.old.bits address frames.old frames.new) }
-    ensures known { V.is_known value.now }
+    ensures known { V.codec.is_known value.now }
 {
     frames.known();
     let page = shape.page_of(address);
@@ -82,7 +82,7 @@ pub(crate) fn put_tombstone<K: Fixed, V: Fixed>(frames: &mut Frames, shape: Shap
     requires held { IsSome (held frames.old (page_at frames.old.bits address)) }
     requires place { IsRecordStart shape.page_bits shape.record_size address }
     ensures { IfSome (held frames.old (page_at frames.old.bits address))
-        (IsEdited K.bytes_of V.bytes_of K.SIZE V.SIZE (λ r. (r.delta ≡ false) × (r.previous < 2 ^ 48)) None
+        (IsEdited K.codec V.codec (λ r. (r.delta ≡ false) × (r.previous < 2 ^ 48)) None
         frames.old.bits address frames.old frames.new) }
 {
     let page = shape.page_of(address);

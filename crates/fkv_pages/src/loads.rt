@@ -20,10 +20,10 @@ pub(crate) fn entry_in<K: Fixed, V: Fixed>(
 ) -> Result<Entry<K, V>, Refused>
     requires size { shape.record_size ≡ size_of K.SIZE V.SIZE }
     requires sized { length page.now ≡ 2 ^ shape.page_bits }
-    ensures only { IfOk result (IsEntryIn K.bytes_of V.bytes_of K.is_known V.is_known K.SIZE V.SIZE shape.page_bits
+    ensures only { IfOk result (IsEntryIn K.codec V.codec shape.page_bits
         page.now address) }
     ensures found { (e : Entry K V)
-        → IsEntryIn K.bytes_of V.bytes_of K.is_known V.is_known K.SIZE V.SIZE shape.page_bits page.now address e
+        → IsEntryIn K.codec V.codec shape.page_bits page.now address e
         → result ≡ Ok e }
     ensures damaged { IfErr result (λ refused. refused ≡ Refused.Damaged (page_at shape.page_bits address)) }
 {
@@ -52,7 +52,7 @@ pub(crate) fn reached_in<K: FixedKey, V: Fixed>(
 ) -> Result<ChainPosition<K, V>, Refused>
     requires size { shape.record_size ≡ size_of K.SIZE V.SIZE }
     requires sized { length page.now ≡ 2 ^ shape.page_bits }
-    ensures { IsReached (IsEntryIn K.bytes_of V.bytes_of K.is_known V.is_known K.SIZE V.SIZE shape.page_bits page.now)
+    ensures { IsReached (IsEntryIn K.codec V.codec shape.page_bits page.now)
         K.cmp key.now shape.page_bits low from result }
 {
     let mut address = from;

@@ -40,7 +40,7 @@ pub struct Pages<K: Fixed, V: Fixed, R: Receipt> {
     receipts: Vec<R>,
     keys: PhantomData<K>,
     values: PhantomData<V>,
-    ghost text: { TheOne (λ t. IsTextOf K.bytes_of V.bytes_of K.is_known V.is_known K.SIZE V.SIZE shape.page_bits
+    ghost text: { TheOne (λ t. IsTextOf K.codec V.codec shape.page_bits
         (page_in (page_at shape.page_bits closed) (map R.stands receipts.items) frames)
         (text_begin R.keeps begin closed) tail t) } by { IsContr-prop },
 }
@@ -55,7 +55,7 @@ impl<K: Fixed, V: Fixed, R: Receipt> Model for Pages<K, V, R> {
     ghost view = { λ p. view_as R.keeps p.shape p.begin p.closed p.frozen p.tail
         (map R.stands p.receipts.items) p.frames p.text.0.0 };
 
-    ghost invariant = { λ p. IsPages K.bytes_of V.bytes_of K.is_known V.is_known K.SIZE V.SIZE R.keeps
+    ghost invariant = { λ p. IsPages K.codec V.codec R.keeps
         p.shape p.begin p.closed p.frozen p.tail (map R.stands p.receipts.items) p.frames p.text.0.0 };
 }
 
@@ -188,7 +188,7 @@ impl<K: Fixed, V: Fixed, R: Receipt> Pages<K, V, R> {
         ensures sized { length result.now ≡ size_of K.SIZE V.SIZE }
         ensures most { size_of K.SIZE V.SIZE ≤ 192 }
         ensures spelled { IfSome (entry_at self.now.text address)
-            (IsIn K.bytes_of V.bytes_of K.is_known V.is_known K.SIZE V.SIZE address result.now) }
+            (IsIn K.codec V.codec address result.now) }
     {
         let page = self.shape.page_of(address);
         let offset = self.shape.offset_of(address);
@@ -236,7 +236,7 @@ impl<K: Fixed, V: Fixed, R: Receipt> Pages<K, V, R> {
             ≡ page_at self.now.bits self.now.frozen - length self.now.receipts }
         ensures spelled { (i : ℕ) (page : List ℕ)
             → slice_get self.now.waiting i ≡ Some page
-            → IsPageOf K.bytes_of V.bytes_of K.SIZE V.SIZE self.now.bits (length self.now.receipts + i)
+            → IsPageOf K.codec V.codec self.now.bits (length self.now.receipts + i)
             self.now.text page }
     {
         self.frames.known();

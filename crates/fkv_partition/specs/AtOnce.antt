@@ -1,12 +1,13 @@
--- An update that is issued and done in one call.
+-- An update that is issued and done in one call, and a read that changes nothing.
 use Rattle.std.specs.Prelude.{ℕ, Some, Ok}
 use Rattle.std.specs.declared.cmp.Ordering.{Ordering}
 use Rattle.fkv_functions.specs.Meanings.{Meanings}
 use Rattle.fkv_device.specs.Standing.{Standing}
 use Rattle.fkv_operations.specs.declared.operations.Op.TheVariants.{Rmw}
+use Rattle.fkv_operations.specs.declared.operations.Answer.{Answer}
 use Rattle.fkv_operations.specs.declared.operations.Answer.TheVariants.{Value}
 use Rattle.fkv_core.specs.declared.contexts.Progress.TheVariants.{Done}
-use Rattle.fkv_core.specs.AtOnce as key_update
+use Rattle.fkv_core.specs.AtOnce as on_key
 use Rattle.fkv_core.specs.Beginning.{IsEntered}
 use Rattle.fkv_partition.specs.Views.{PartitionView}
 use Rattle.fkv_partition.specs.Beginning.{IsFirstFree}
@@ -19,7 +20,7 @@ pub record IsAtHand {K V I : Type 0} (cmp : K → K → Ordering) (join : V → 
   pub entered : IsEntered v.core slot
   pub context : ℕ
   pub free : IsFirstFree v slot (Some context)
-  pub hand : key_update.IsAtHand cmp join code v.core slot key held
+  pub hand : on_key.IsAtHand cmp join code v.core slot key held
 
 -- the update is issued at one moment, and done with this answer when it goes on at another: what stands between them is
 -- what the issue makes
@@ -32,3 +33,9 @@ pub record IsDoneAtOnce {K V I O R : Type 0} (stands : R → Standing) (cmp : K 
   pub issue : IsIssue code old between slot context (Rmw key input) issued
   pub goes : Goes stands cmp join f code between new slot context now (Ok (Done (Value shown) now))
   pub event : IsEvent {R = R} cmp f between new slot context now (Done (Value shown) now)
+
+-- a read of a key in a session is done by what this meets, and this answer shows what the key has
+pub record IsReadAtOnce {K V I O : Type 0} (cmp : K → K → Ordering) (join : V → V → V) (f : Meanings K V I O) (code : K → ℕ)
+    (v : PartitionView K V I) (slot : ℕ) (key : K) (input : I) (answer : Answer O) : Type 0 where
+  pub entered : IsEntered v.core slot
+  pub read : on_key.IsReadAtOnce cmp join f code v.core slot key input answer

@@ -32,3 +32,4 @@ pub use Rattle.fkv_core.specs.Looking as CoreLooking
 pub use Rattle.fkv_core.specs.Effect as CoreEffect
 pub use Rattle.fkv_core.specs.Sound as CoreSound
 pub use Rattle.fkv_core.specs.Claiming as CoreClaiming
+pub use Rattle.fkv_core.specs.AtOnce as CoreAtOnce

@@ -134,8 +134,7 @@ impl<F: Mergeable, R: Receipt> Partition<F, R> {
         now: u64,
     ) -> Result<ProgressOf<F, R>, Refused>
         requires later { self.old.core.moment < now }
-        ensures effect { Loads R.stands (IsEntryIn F.Key.bytes_of F.Value.bytes_of F.Key.is_known F.Value.is_known
-            F.Key.SIZE F.Value.SIZE) F.Key.cmp F.parts.joined F.meaning self.old.core self.new.core
+        ensures effect { Loads R.stands (IsEntryIn F.Key.codec F.Value.codec) F.Key.cmp F.parts.joined F.meaning self.old.core self.new.core
             slot context came now result }
         ensures rest { self.new ≡ with_core self.old self.new.core }
         ensures event { IsTrue R.keeps → IfOk result (λ progress.
@@ -162,8 +161,7 @@ impl<F: Mergeable, R: Receipt> Partition<F, R> {
         now: u64,
     ) -> Result<ProgressOf<F, R>, Refused>
         requires later { self.old.core.moment < now }
-        ensures effect { LoadsBy R.stands (IsEntryIn F.Key.bytes_of F.Value.bytes_of F.Key.is_known F.Value.is_known
-            F.Key.SIZE F.Value.SIZE) F.Key.cmp F.parts.joined F.meaning self.old.core self.new.core
+        ensures effect { LoadsBy R.stands (IsEntryIn F.Key.codec F.Value.codec) F.Key.cmp F.parts.joined F.meaning self.old.core self.new.core
             slot context now (P.failures reader.old) (P.failures reader.new) result }
         ensures rest { self.new ≡ with_core self.old self.new.core }
         ensures event { IsTrue R.keeps → IfOk result (λ progress.

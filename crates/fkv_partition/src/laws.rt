@@ -60,8 +60,7 @@ pub fn merges_load_nothing<F: Mergeable, R: Receipt>()
         (result : Result (Progress F.Key F.Value F.Input F.Output R) Refused)
         → IsSound keeps F.Key.cmp join code old.core → IsCompacting keeps F.Key.cmp join code old
         → asked old slot c ≡ Some x → x.op ≡ Merge k i
-        → Loads R.stands (IsEntryIn F.Key.bytes_of F.Value.bytes_of F.Key.is_known F.Value.is_known
-        F.Key.SIZE F.Value.SIZE) F.Key.cmp join F.meaning code old new slot c came now result
+        → Loads R.stands (IsEntryIn F.Key.codec F.Value.codec) F.Key.cmp join F.meaning code old new slot c came now result
         → result ≡ Err Refused.NotReady }
 {
     merges_take_no_page::<F, R>();

@@ -1,6 +1,7 @@
 //! Operations: on keys, which are the core's, and relocations. Each stands in a context of a session from its issue on, and
 //! goes on by events of its own session.
 ghost use Rattle.std.specs.Prelude.{◌≡◌, ◌≢◌, ◌<◌, ◌≤◌, ◌⊎◌, ℕ, IsTrue, None, Ok, IfOk, IfErr, IfSome, IsSome, OnOk, OnErr};
+ghost use Rattle.fkv_pages.specs.Loads.{IsHeldBy};
 ghost use Rattle.fkv_pages.specs.Spelled.{IsEntryIn};
 ghost use Rattle.fkv_hybrid.specs.Scans.{MayFail};
 ghost use Rattle.fkv_operations.specs.declared.operations.Answer.TheVariants.{Cleared};
@@ -11,6 +12,7 @@ ghost use Rattle.fkv_core.specs.Pending.{AllPend, OthersPend};
 ghost use Rattle.fkv_partition.specs.Views.{relocation_at};
 ghost use Rattle.fkv_partition.specs.Effect.{IsIssue, IsEvent, IsLoad, IsGiveUp, Finds};
 ghost use Rattle.fkv_partition.specs.Relocating.{IsRelocating};
+ghost use Rattle.fkv_partition.specs.Reading.{WaitsOn};
 ghost use Rattle.fkv_partition.specs.Events.{Issues, Goes, Installs, Loads, LoadsBy, WaitsFor, GivesUp};
 
 use crate::partitions::Partition;
@@ -167,8 +169,7 @@ impl<F: Mergeable, R: Receipt> Partition<F, R> {
         now: u64,
     ) -> Result<ProgressOf<F, R>, Refused>
         requires later { self.old.core.moment < now }
-        ensures effect { Loads R.stands (IsEntryIn F.Key.bytes_of F.Value.bytes_of F.Key.is_known F.Value.is_known
-            F.Key.SIZE F.Value.SIZE) F.Key.cmp F.parts.joined F.meaning F.code self.old self.new slot context came now result }
+        ensures effect { Loads R.stands (IsEntryIn F.Key.codec F.Value.codec) F.Key.cmp F.parts.joined F.meaning F.code self.old self.new slot context came now result }
         // on a device that keeps, what comes of it is what the look-up was to find
         ensures event { IsTrue R.keeps → IfOk result (λ progress.
             IsLoad F.Key.cmp F.meaning self.old self.new slot context now progress) }
@@ -209,8 +210,7 @@ impl<F: Mergeable, R: Receipt> Partition<F, R> {
         now: u64,
     ) -> Result<ProgressOf<F, R>, Refused>
         requires later { self.old.core.moment < now }
-        ensures effect { LoadsBy R.stands (IsEntryIn F.Key.bytes_of F.Value.bytes_of F.Key.is_known F.Value.is_known
-            F.Key.SIZE F.Value.SIZE) F.Key.cmp F.parts.joined F.meaning F.code self.old self.new slot context now
+        ensures effect { LoadsBy R.stands (IsEntryIn F.Key.codec F.Value.codec) F.Key.cmp F.parts.joined F.meaning F.code self.old self.new slot context now
             (P.failures reader.old) (P.failures reader.new) result }
         // on a device that keeps, what comes of it is what the look-up was to find
         ensures event { IsTrue R.keeps → IfOk result (λ progress.
@@ -234,6 +234,42 @@ impl<F: Mergeable, R: Receipt> Partition<F, R> {
         match self.relocation(slot, context) {
             None => self.load_by_on_key(slot, context, functions, reader, now),
             Some(_relocation) => self.load_on_by(slot, context, functions, reader, now),
+        }
+    }
+
+    /// Goes on with what waits for a page in a context, as [`Partition::load`] does, with a page that the caller knows to be the
+    /// one that is kept, where a relocation waits for it: then it is compared with no receipt, and the call is never refused by
+    /// `Stranger`.
+    pub fn load_own(
+        &mut self,
+        slot: usize,
+        context: usize,
+        loaded: Loaded<R>,
+        functions: &F,
+        now: u64,
+    ) -> Result<ProgressOf<F, R>, Refused>
+        requires later { self.old.core.moment < now }
+        requires own { (page : ℕ) → WaitsOn self.old slot context page
+            → IsHeldBy self.old.core.records.receipts page (R.stands loaded.receipt) }
+        ensures effect { Loads R.stands (IsEntryIn F.Key.codec F.Value.codec) F.Key.cmp F.parts.joined F.meaning F.code self.old self.new slot context (Ok loaded) now result }
+        // on a device that keeps, what comes of it is what the look-up was to find
+        ensures event { IsTrue R.keeps → IfOk result (λ progress.
+            IsLoad F.Key.cmp F.meaning self.old self.new slot context now progress) }
+        // of a relocation also where the device does not keep
+        ensures relocating { IsSome (relocation_at self.old slot context) → IfOk result (λ _.
+            IsRelocating R.keeps F.Key.cmp self.old self.new slot context now) }
+        ensures fails { IfErr result (λ _. (self.new ≡ self.old) ⊎ IsGiveUp self.old self.new slot context now) }
+        ensures others { IsTrue R.keeps → OthersPend F.Key.cmp self.old.core self.new.core slot context }
+        ensures cleared { result ≡ Ok (Done Cleared now)
+            → IfSome (relocation_at self.old slot context) (λ x. x.target < self.new.cleared) }
+        ensures within { IfOk result (λ _. (slot < 16) × (context < 8)) }
+        ensures moment { self.new.core.moment ≤ now }
+    {
+        loads_end::<F, R>();
+        self.known();
+        match self.relocation(slot, context) {
+            None => self.load_on_key(slot, context, Ok(loaded), functions, now),
+            Some(_relocation) => self.load_on_own(slot, context, loaded, functions, now),
         }
     }
 

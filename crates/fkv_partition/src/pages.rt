@@ -68,7 +68,7 @@ impl<F: Mergeable, R: Receipt> Partition<F, R> {
     pub fn unflushed(&self) -> u64
         ensures { result ≡ length self.now.core.records.receipts }
     {
-        self.core.unflushed()
+        self.core.records().log().pages().unflushed()
     }
 
     /// What holds of all pages that are kept or wait. It does nothing when it runs.
@@ -82,10 +82,10 @@ impl<F: Mergeable, R: Receipt> Partition<F, R> {
             - length self.now.core.records.receipts }
         ensures spelled { (i : ℕ) (page : List ℕ)
             → slice_get self.now.core.records.waiting i ≡ Some page
-            → IsPageOf F.Key.bytes_of F.Value.bytes_of F.Key.SIZE F.Value.SIZE self.now.core.records.page_bits
+            → IsPageOf F.Key.codec F.Value.codec self.now.core.records.page_bits
             (length self.now.core.records.receipts + i) self.now.core.records.entries page }
     {
-        self.core.pages_known();
+        self.core.records().log().known();
     }
 
     /// A copy of the lowest page that is not flushed, to be written. Nothing changes but the moment. Refused, and then
@@ -103,7 +103,7 @@ impl<F: Mergeable, R: Receipt> Partition<F, R> {
         ensures unchanged { OnErr result (self.new ≡ self.old) }
         ensures moment { self.new.core.moment ≤ now }
     {
-        let job = match self.core.flush_take(alloc) {
+        let job = match self.core.records().log().pages().flush_take(alloc) {
             Err(refused) => return Err(refused),
             Ok(job) => job,
         };

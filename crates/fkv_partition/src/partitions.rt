@@ -130,21 +130,21 @@ impl<F: Mergeable, R: Receipt> Partition<F, R> {
     pub fn tail(&self) -> Address
         ensures { result ≡ self.now.core.records.tail }
     {
-        self.core.tail()
+        self.core.records().log().pages().tail()
     }
 
     /// Head: records below it are read from the device by sessions that are refreshed from now on.
     pub fn head(&self) -> Address
         ensures { result ≡ self.now.core.records.regions.offsets.head }
     {
-        self.core.head()
+        self.core.records().log().regions().offsets().head
     }
 
     /// The bytes of a page.
     pub fn page_size(&self) -> usize
         ensures { result ≡ 2 ^ self.now.core.records.page_bits }
     {
-        self.core.page_size()
+        self.core.records().log().pages().shape().page_size()
     }
 
     /// The number of the partition.

@@ -1,6 +1,7 @@
 //! What a relocation does with the page that it waited for.
 ghost use Rattle.std.specs.Prelude.{◌≡◌, ◌≢◌, ◌<◌, ◌≤◌, ℕ, IfOk, IfSome, Ok, length};
 ghost use Rattle.fkv_records.specs.Places.{page_at};
+ghost use Rattle.fkv_pages.specs.Loads.{IsHeldBy};
 ghost use Rattle.fkv_pages.specs.Spelled.{IsEntryIn};
 ghost use Rattle.fkv_hybrid.specs.Scans.{MayFail};
 ghost use Rattle.fkv_partition.specs.declared.relocations.Stage.TheVariants.{Reading, Tracing};
@@ -39,8 +40,7 @@ impl<F: Mergeable, R: Receipt> Partition<F, R> {
         now: u64,
     ) -> Result<ProgressOf<F, R>, Refused>
         requires later { self.old.core.moment < now }
-        ensures effect { LoadsOn R.stands (IsEntryIn F.Key.bytes_of F.Value.bytes_of F.Key.is_known F.Value.is_known
-            F.Key.SIZE F.Value.SIZE) F.Key.cmp F.parts.joined F.code self.old self.new slot context came now result }
+        ensures effect { LoadsOn R.stands (IsEntryIn F.Key.codec F.Value.codec) F.Key.cmp F.parts.joined F.code self.old self.new slot context came now result }
         ensures event { IfOk result (λ _. IsRelocating R.keeps F.Key.cmp self.old self.new slot context now) }
         ensures cleared { result ≡ Ok (Progress.Done Answer.Cleared now)
             → IfSome (relocation_at self.old slot context) (λ x. x.target < self.new.cleared) }
@@ -84,8 +84,7 @@ impl<F: Mergeable, R: Receipt> Partition<F, R> {
         now: u64,
     ) -> Result<ProgressOf<F, R>, Refused>
         requires later { self.old.core.moment < now }
-        ensures effect { LoadsOnBy R.stands (IsEntryIn F.Key.bytes_of F.Value.bytes_of F.Key.is_known F.Value.is_known
-            F.Key.SIZE F.Value.SIZE) F.Key.cmp F.parts.joined F.code self.old self.new slot context now
+        ensures effect { LoadsOnBy R.stands (IsEntryIn F.Key.codec F.Value.codec) F.Key.cmp F.parts.joined F.code self.old self.new slot context now
             (P.failures reader.old) (P.failures reader.new) result }
         ensures event { IfOk result (λ _. IsRelocating R.keeps F.Key.cmp self.old self.new slot context now) }
         ensures cleared { result ≡ Ok (Progress.Done Answer.Cleared now)
@@ -115,6 +114,40 @@ impl<F: Mergeable, R: Receipt> Partition<F, R> {
         }
     }
 
+    /// Goes on with a relocation that waits for a page, as [`Partition::load_on`] does, with a page that is the one that is kept,
+    /// where it waits for that: it is compared with no receipt. Refused as `load_on` is, but never by `Stranger`.
+    pub(crate) fn load_on_own(
+        &mut self,
+        slot: usize,
+        context: usize,
+        loaded: Loaded<R>,
+        functions: &F,
+        now: u64,
+    ) -> Result<ProgressOf<F, R>, Refused>
+        requires later { self.old.core.moment < now }
+        requires own { (page : ℕ) → WaitsOn self.old slot context page
+            → IsHeldBy self.old.core.records.receipts page (R.stands loaded.receipt) }
+        ensures effect { LoadsOn R.stands (IsEntryIn F.Key.codec F.Value.codec) F.Key.cmp F.parts.joined F.code self.old self.new slot context (Ok loaded) now result }
+        ensures event { IfOk result (λ _. IsRelocating R.keeps F.Key.cmp self.old self.new slot context now) }
+        ensures cleared { result ≡ Ok (Progress.Done Answer.Cleared now)
+            → IfSome (relocation_at self.old slot context) (λ x. x.target < self.new.cleared) }
+        ensures within { IfOk result (λ _. (slot < 16) × (context < 8)) }
+        ensures moment { self.new.core.moment ≤ now }
+    {
+        let Some(relocation) = self.relocation(slot, context) else {
+            return Err(Refused::Unknown);
+        };
+        let Some((begin, _wanted)) = awaited(relocation.target, &relocation.stage) else {
+            return Err(Refused::NotReady);
+        };
+        let begins = self.core.records().begin();
+        if begin != begins {
+            self.set_stage(slot, context, &relocation, Stage::Fresh, now);
+            return Ok(Progress::Next);
+        }
+        self.read_on(slot, context, &relocation, loaded, functions, now)
+    }
+
     /// Takes a page that came for a relocation, where it is the one that is kept.
     fn receive(
         &mut self,
@@ -130,8 +163,7 @@ impl<F: Mergeable, R: Receipt> Partition<F, R> {
         requires session { slot < 16 }
         requires context { context < 8 }
         requires awaits { AwaitsPage self.old slot context relocation.now wanted }
-        ensures effect { LoadsOn R.stands (IsEntryIn F.Key.bytes_of F.Value.bytes_of F.Key.is_known F.Value.is_known
-            F.Key.SIZE F.Value.SIZE) F.Key.cmp F.parts.joined F.code self.old self.new slot context (Ok loaded) now result }
+        ensures effect { LoadsOn R.stands (IsEntryIn F.Key.codec F.Value.codec) F.Key.cmp F.parts.joined F.code self.old self.new slot context (Ok loaded) now result }
         ensures event { IfOk result (λ _. IsRelocating R.keeps F.Key.cmp self.old self.new slot context now) }
         ensures cleared { result ≡ Ok (Progress.Done Answer.Cleared now) → relocation.now.target < self.new.cleared }
         ensures moment { self.new.core.moment ≤ now }
@@ -158,8 +190,7 @@ impl<F: Mergeable, R: Receipt> Partition<F, R> {
         requires session { slot < 16 }
         requires context { context < 8 }
         requires has { (wanted : _) × HasPage self.old slot context relocation.now wanted (R.stands loaded.receipt) }
-        ensures effect { LoadsOn R.stands (IsEntryIn F.Key.bytes_of F.Value.bytes_of F.Key.is_known F.Value.is_known
-            F.Key.SIZE F.Value.SIZE) F.Key.cmp F.parts.joined F.code self.old self.new slot context (Ok loaded) now result }
+        ensures effect { LoadsOn R.stands (IsEntryIn F.Key.codec F.Value.codec) F.Key.cmp F.parts.joined F.code self.old self.new slot context (Ok loaded) now result }
         ensures event { IfOk result (λ _. IsRelocating R.keeps F.Key.cmp self.old self.new slot context now) }
         ensures cleared { result ≡ Ok (Progress.Done Answer.Cleared now) → relocation.now.target < self.new.cleared }
         ensures moment { self.new.core.moment ≤ now }
@@ -192,8 +223,7 @@ impl<F: Mergeable, R: Receipt> Partition<F, R> {
         requires context { context < 8 }
         requires has { HasPage self.old slot context relocation.now relocation.now.target (R.stands loaded.now.receipt) }
         requires reads { relocation.now.stage ≡ Reading self.old.core.records.begin }
-        ensures effect { LoadsOn R.stands (IsEntryIn F.Key.bytes_of F.Value.bytes_of F.Key.is_known F.Value.is_known
-            F.Key.SIZE F.Value.SIZE) F.Key.cmp F.parts.joined F.code self.old self.new slot context (Ok loaded.now) now result }
+        ensures effect { LoadsOn R.stands (IsEntryIn F.Key.codec F.Value.codec) F.Key.cmp F.parts.joined F.code self.old self.new slot context (Ok loaded.now) now result }
         ensures event { IfOk result (λ _. IsRelocating R.keeps F.Key.cmp self.old self.new slot context now) }
         ensures cleared { result ≡ Ok (Progress.Done Answer.Cleared now) → relocation.now.target < self.new.cleared }
         ensures moment { self.new.core.moment ≤ now }
@@ -227,8 +257,7 @@ impl<F: Mergeable, R: Receipt> Partition<F, R> {
         requires context { context < 8 }
         requires has { HasPage self.old slot context relocation.now loading.wanted (R.stands loaded.now.receipt) }
         requires traces { relocation.now.stage ≡ Tracing entry loading }
-        ensures effect { LoadsOn R.stands (IsEntryIn F.Key.bytes_of F.Value.bytes_of F.Key.is_known F.Value.is_known
-            F.Key.SIZE F.Value.SIZE) F.Key.cmp F.parts.joined F.code self.old self.new slot context (Ok loaded.now) now result }
+        ensures effect { LoadsOn R.stands (IsEntryIn F.Key.codec F.Value.codec) F.Key.cmp F.parts.joined F.code self.old self.new slot context (Ok loaded.now) now result }
         ensures event { IfOk result (λ _. IsRelocating R.keeps F.Key.cmp self.old self.new slot context now) }
         ensures cleared { result ≡ Ok (Progress.Done Answer.Cleared now) → relocation.now.target < self.new.cleared }
         ensures moment { self.new.core.moment ≤ now }

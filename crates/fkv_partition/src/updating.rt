@@ -1,11 +1,15 @@
-//! Updates of values where they stand, each in one call: most updates of a feed are such.
+//! Operations that are done in one call: updates of values where they stand, and reads of keys in memory. Most operations are such.
 ghost use Rattle.std.specs.Prelude.{◌≡◌, ◌<◌, ◌≤◌, None, IfSome};
-ghost use Rattle.fkv_partition.specs.AtOnce.{IsAtHand, IsDoneAtOnce};
+ghost use Rattle.fkv_core.specs.AtOnce.{AsksForPage};
+ghost use Rattle.fkv_core.specs.Beginning.{IsEntered};
+ghost use Rattle.fkv_core.specs.Views.{partition_of};
+ghost use Rattle.fkv_partition.specs.AtOnce.{IsAtHand, IsDoneAtOnce, IsReadAtOnce};
 
 use crate::partitions::Partition;
 use fkv_core::preserving::{events_preserve, sessions_preserved};
 use fkv_device::Receipt;
 use fkv_functions::Mergeable;
+use fkv_operations::AnswerOf;
 
 impl<F: Mergeable, R: Receipt> Partition<F, R> {
     /// Issues an update at one moment and goes on with it at another, where that gives its key a value: where the last
@@ -45,5 +49,28 @@ impl<F: Mergeable, R: Receipt> Partition<F, R> {
             .update_at_once(slot, context, key, input, functions, issued, now);
         self.core.known();
         shown
+    }
+
+    /// Reads a key in a session, where no page is to be read for that. It answers what a read that is issued by
+    /// [`Partition::issue`] is finished with when it goes on by [`Partition::go`], but takes no context, and no moment passes.
+    /// Answers `None` where the slot is that of no session, the key belongs to another partition, or the read would ask for a
+    /// page.
+    pub fn read_at_once(
+        &self,
+        slot: usize,
+        key: &F::Key,
+        input: &F::Input,
+        functions: &F,
+    ) -> Option<AnswerOf<F>>
+        ensures done { IfSome result (IsReadAtOnce F.Key.cmp F.parts.joined F.meaning F.code self.now slot key.now input.now) }
+        ensures left { result ≡ None → IsEntered self.now.core slot
+            → partition_of self.now.core.count (F.code key.now) ≡ self.now.core.number
+            → AsksForPage F.Key.cmp F.parts.joined F.meaning F.code self.now.core slot key.now input.now }
+        ensures within { IfSome result (λ _. slot < 16) }
+    {
+        if !self.core.is_session(slot) {
+            return None;
+        }
+        self.core.read_at_once(slot, key, input, functions)
     }
 }

@@ -3,6 +3,7 @@ use Rattle.std.proofs.Common.{◌≡◌, ◌+◌, ◌-◌, ◌≤◌, ◌<◌, �
 use Rattle.std.proofs.lemmas.List.{take-append-drop, take-append-le, drop-drop, drop-set-lt, get_or-take}
 use Rattle.std.proofs.Math.Seq.{take-set-lt}
 use Rattle.std.specs.Prelude.{is_none, slice_index}
+use Rattle.fkv_functions.specs.Codecs.{Codec}
 use Rattle.fkv_records.specs.Headers.{header_bytes}
 use Rattle.fkv_records.specs.Records.{header_part, key_part, padding_part, Spells}
 use Rattle.fkv_records.specs.declared.records.Record.{Record}
@@ -26,25 +27,25 @@ front_key front t ksize size =
     ap (key_part ksize) apart ∙ part_at (take 8 front) (drop 8 front) t 8 (8 + ksize) (omega arith) (omega arith)
 
 -- other bytes of a value
-pub value_written : {K V : Type 0} (key : K → List ℕ) (value : V → List ℕ) (ksize vsize : ℕ) (bytes : List ℕ) (r : Record K V) (v : V)
-    → 8 + ksize + vsize ≤ length bytes → length (value v) ≡ vsize → IsSome r.value → Spells key value ksize vsize bytes r
-    → Spells key value ksize vsize (take (8 + ksize) bytes ++ (value v ++ drop (8 + ksize + vsize) bytes)) (record r { value = Some v })
-value_written key value ksize vsize bytes r v room sized some s =
+pub value_written : {K V : Type 0} {ksize vsize : ℕ} (key : Codec K ksize) (value : Codec V vsize) (bytes : List ℕ) (r : Record K V) (v : V)
+    → 8 + ksize + vsize ≤ length bytes → length (value.bytes_of v) ≡ vsize → IsSome r.value → Spells key value bytes r
+    → Spells key value (take (8 + ksize) bytes ++ (value.bytes_of v ++ drop (8 + ksize + vsize) bytes)) (record r { value = Some v })
+value_written {K} {V} {ksize} {vsize} key value bytes r v room sized some s =
     let front : List ℕ = take (8 + ksize) bytes in
     let size : length front ≡ 8 + ksize = omega (arith, length-take (8 + ksize) bytes) in
     let whole : front ++ drop (8 + ksize) bytes ≡ bytes = take-append-drop (8 + ksize) bytes in
-    let rest : List ℕ = value v ++ drop (8 + ksize + vsize) bytes in
+    let rest : List ℕ = value.bytes_of v ++ drop (8 + ksize + vsize) bytes in
     let header : header_part (front ++ rest) ≡ header_part bytes =
     front_header front rest ksize size ∙ sym (front_header front (drop (8 + ksize) bytes) ksize size) ∙ ap header_part whole in
     let key_kept : key_part ksize (front ++ rest) ≡ key_part ksize bytes =
     front_key front rest ksize size ∙ sym (front_key front (drop (8 + ksize) bytes) ksize size) ∙ ap (key_part ksize) whole in
-    let two : length (front ++ value v) ≡ 8 + ksize + vsize = omega (arith, length-append front (value v)) in
-    let apart : front ++ rest ≡ (front ++ value v) ++ drop (8 + ksize + vsize) bytes = sym (append_assoc front (value v) (drop (8 + ksize + vsize) bytes)) in
+    let two : length (front ++ value.bytes_of v) ≡ 8 + ksize + vsize = omega (arith, length-append front (value.bytes_of v)) in
+    let apart : front ++ rest ≡ (front ++ value.bytes_of v) ++ drop (8 + ksize + vsize) bytes = sym (append_assoc front (value.bytes_of v) (drop (8 + ksize + vsize) bytes)) in
     record {
       header = header ∙ s.header ∙ ap (λ t. header_bytes r.previous t r.delta) (no_tombstone r.value some);
       key_same = key_kept ∙ s.key_same;
-      value_same = part_at front (value v) (drop (8 + ksize + vsize) bytes) (8 + ksize) (8 + ksize + vsize) (omega arith) (omega arith);
-      padding = ap (padding_part ksize vsize) apart ∙ rest_at (front ++ value v) (drop (8 + ksize + vsize) bytes) (8 + ksize + vsize) (omega arith) ∙ s.padding;
+      value_same = part_at front (value.bytes_of v) (drop (8 + ksize + vsize) bytes) (8 + ksize) (8 + ksize + vsize) (omega arith) (omega arith);
+      padding = ap (padding_part ksize vsize) apart ∙ rest_at (front ++ value.bytes_of v) (drop (8 + ksize + vsize) bytes) (8 + ksize + vsize) (omega arith) ∙ s.padding;
     }
 
 -- the parts behind the header are those of what is behind it
@@ -55,10 +56,10 @@ same_behind one other ksize vsize e =
     split one ∙ ap (drop (ksize + vsize)) e ∙ sym (split other)
 
 -- the tombstone bit
-pub tombstone_set : {K V : Type 0} (key : K → List ℕ) (value : V → List ℕ) (ksize vsize : ℕ) (bytes : List ℕ) (r : Record K V)
-    → r.delta ≡ false → r.previous < 2 ^ 48 → Spells key value ksize vsize bytes r
-    → Spells key value ksize vsize (slice_set bytes 6 (bit_or (slice_index bytes 6) 1)) (record r { value = None })
-tombstone_set key value ksize vsize bytes r no_delta fits s =
+pub tombstone_set : {K V : Type 0} {ksize vsize : ℕ} (key : Codec K ksize) (value : Codec V vsize) (bytes : List ℕ) (r : Record K V)
+    → r.delta ≡ false → r.previous < 2 ^ 48 → Spells key value bytes r
+    → Spells key value (slice_set bytes 6 (bit_or (slice_index bytes 6) 1)) (record r { value = None })
+tombstone_set {K} {V} {ksize} {vsize} key value bytes r no_delta fits s =
     let now : List ℕ = slice_set bytes 6 (bit_or (slice_index bytes 6) 1) in
     let behind : drop 8 now ≡ drop 8 bytes = drop-set-lt 8 bytes 6 (bit_or (slice_index bytes 6) 1) (omega arith) in
     let flag : slice_index (take 8 bytes) 6 ≡ slice_index bytes 6 = get_or-take 8 bytes 6 0 (omega arith) in

@@ -17,12 +17,12 @@ pub fn value_offset<K: Fixed, V: Fixed>() -> usize
 /// Writes another value over the bytes of the value of a record that has one.
 pub fn write_value<K: Fixed, V: Fixed>(value: &V, place: &mut [u8])
     requires room { length place.old ≡ V.SIZE }
-    ensures bytes { place.new ≡ V.bytes_of value.now }
+    ensures bytes { place.new ≡ V.codec.bytes_of value.now }
     ensures spells { (bytes : List ℕ) (r : Record K V) → length bytes ≡ size_of K.SIZE V.SIZE → IsSome r.value
-        → Spells K.bytes_of V.bytes_of K.SIZE V.SIZE bytes r
-        → Spells K.bytes_of V.bytes_of K.SIZE V.SIZE (with_value_part K.SIZE V.SIZE bytes place.new)
+        → Spells K.codec V.codec bytes r
+        → Spells K.codec V.codec (with_value_part K.SIZE V.SIZE bytes place.new)
         (record r { value = Some value.now }) }
-    ensures known { V.is_known value.now }
+    ensures known { V.codec.is_known value.now }
 {
     value.known();
     value.put(place);
@@ -33,8 +33,8 @@ pub fn set_tombstone<K: Fixed, V: Fixed>(bytes: &mut [u8])
     requires { length bytes.old ≡ size_of K.SIZE V.SIZE }
     ensures bytes { bytes.new ≡ slice_set bytes.old 6 (bit_or (slice_index bytes.old 6) 1) }
     ensures spells { (r : Record K V) → r.delta ≡ false → r.previous < 2 ^ 48
-        → Spells K.bytes_of V.bytes_of K.SIZE V.SIZE bytes.old r
-        → Spells K.bytes_of V.bytes_of K.SIZE V.SIZE bytes.new (record r { value = None }) }
+        → Spells K.codec V.codec bytes.old r
+        → Spells K.codec V.codec bytes.new (record r { value = None }) }
 {
     // bit 48 of the header
     bytes[6] |= 1;

@@ -11,7 +11,7 @@ use fkv_functions::Fixed;
 pub fn is_of<K: Fixed, V: Fixed>(bytes: &[u8], key: &K) -> bool
     requires most { size_of K.SIZE V.SIZE ≤ 192 }
     requires room { length bytes.now ≡ size_of K.SIZE V.SIZE }
-    ensures { (r : Record K V) → K.is_known r.key → Spells K.bytes_of V.bytes_of K.SIZE V.SIZE bytes.now r
+    ensures { (r : Record K V) → K.codec.is_known r.key → Spells K.codec V.codec bytes.now r
         → (IsTrue result ↔ (r.key ≡ key.now)) }
 {
     key.known();
@@ -22,7 +22,7 @@ pub fn is_of<K: Fixed, V: Fixed>(bytes: &[u8], key: &K) -> bool
 pub fn link_of<K: Fixed, V: Fixed>(bytes: &[u8]) -> Header
     requires most { size_of K.SIZE V.SIZE ≤ 192 }
     requires room { length bytes.now ≡ size_of K.SIZE V.SIZE }
-    ensures { (r : Record K V) → r.previous < 2 ^ 48 → Spells K.bytes_of V.bytes_of K.SIZE V.SIZE bytes.now r
+    ensures { (r : Record K V) → r.previous < 2 ^ 48 → Spells K.codec V.codec bytes.now r
         → result ≡ record { previous = r.previous; is_tombstone = is_none r.value; is_delta = r.delta } }
 {
     Header::held_in(&bytes[..8])
@@ -32,8 +32,8 @@ pub fn link_of<K: Fixed, V: Fixed>(bytes: &[u8]) -> Header
 pub fn value_of<K: Fixed, V: Fixed>(bytes: &[u8]) -> Option<V>
     requires most { size_of K.SIZE V.SIZE ≤ 192 }
     requires room { length bytes.now ≡ size_of K.SIZE V.SIZE }
-    ensures { (r : Record K V) (v : V) → r.value ≡ Some v → V.is_known v
-        → Spells K.bytes_of V.bytes_of K.SIZE V.SIZE bytes.now r
+    ensures { (r : Record K V) (v : V) → r.value ≡ Some v → V.codec.is_known v
+        → Spells K.codec V.codec bytes.now r
         → result ≡ Some v }
 {
     let start = 8 + K::SIZE;
@@ -45,10 +45,10 @@ pub fn value_of<K: Fixed, V: Fixed>(bytes: &[u8]) -> Option<V>
 pub fn record_of<K: Fixed, V: Fixed>(bytes: &[u8]) -> Record<K, V>
     requires most { size_of K.SIZE V.SIZE ≤ 192 }
     requires room { length bytes.now ≡ size_of K.SIZE V.SIZE }
-    requires stands { (address : ℕ) × (r : Record K V) × IsRecord K.is_known V.is_known address r
-        × Spells K.bytes_of V.bytes_of K.SIZE V.SIZE bytes.now r }
-    ensures { (address : ℕ) (r : Record K V) → IsRecord K.is_known V.is_known address r
-        → Spells K.bytes_of V.bytes_of K.SIZE V.SIZE bytes.now r
+    requires stands { (address : ℕ) × (r : Record K V) × IsRecord K.codec V.codec address r
+        × Spells K.codec V.codec bytes.now r }
+    ensures { (address : ℕ) (r : Record K V) → IsRecord K.codec V.codec address r
+        → Spells K.codec V.codec bytes.now r
         → result ≡ r }
 {
     let header = link_of::<K, V>(bytes);

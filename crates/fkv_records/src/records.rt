@@ -44,10 +44,10 @@ pub fn write_record<K: Fixed, V: Fixed>(entry: &Record<K, V>, out: &mut [u8])
     requires most { size_of K.SIZE V.SIZE ≤ 192 }
     requires room { length out.old ≡ size_of K.SIZE V.SIZE }
     requires previous { entry.now.previous < 2 ^ 48 }
-    ensures bytes { out.new ≡ record_bytes K.bytes_of V.bytes_of K.SIZE V.SIZE entry.now }
-    ensures spells { Spells K.bytes_of V.bytes_of K.SIZE V.SIZE out.new entry.now }
-    ensures key { K.is_known entry.now.key }
-    ensures value { IfSome entry.now.value V.is_known }
+    ensures bytes { out.new ≡ record_bytes K.codec V.codec entry.now }
+    ensures spells { Spells K.codec V.codec out.new entry.now }
+    ensures key { K.codec.is_known entry.now.key }
+    ensures value { IfSome entry.now.value V.codec.is_known }
 {
     fill_record(entry, out)
 }
@@ -57,11 +57,11 @@ fn fill_record<K: Fixed, V: Fixed>(entry: &Record<K, V>, out: &mut [u8])
     requires most { size_of K.SIZE V.SIZE ≤ 192 }
     requires room { length out.old ≡ size_of K.SIZE V.SIZE }
     requires previous { entry.now.previous < 2 ^ 48 }
-    ensures bytes { out.new ≡ record_bytes K.bytes_of V.bytes_of K.SIZE V.SIZE entry.now }
-    ensures key { K.is_known entry.now.key }
-    ensures value { IfSome entry.now.value V.is_known }
-    ensures key_sized { length (K.bytes_of entry.now.key) ≡ K.SIZE }
-    ensures value_sized { length (value_bytes V.bytes_of V.SIZE entry.now.value) ≡ V.SIZE }
+    ensures bytes { out.new ≡ record_bytes K.codec V.codec entry.now }
+    ensures key { K.codec.is_known entry.now.key }
+    ensures value { IfSome entry.now.value V.codec.is_known }
+    ensures key_sized { length (K.codec.bytes_of entry.now.key) ≡ K.SIZE }
+    ensures value_sized { length (value_bytes V.codec entry.now.value) ≡ V.SIZE }
 {
     entry.key.known();
     let header = Header {
@@ -92,14 +92,14 @@ pub fn read_record<K: Fixed, V: Fixed>(
 ) -> Result<Record<K, V>, Damaged>
     requires most { size_of K.SIZE V.SIZE ≤ 192 }
     requires room { length bytes.now ≡ size_of K.SIZE V.SIZE }
-    ensures found { IfOk result (λ r. IsRecord K.is_known V.is_known address r
-        × Spells K.bytes_of V.bytes_of K.SIZE V.SIZE bytes.now r) }
-    ensures only { (r : Record K V) → IsRecord K.is_known V.is_known address r
-        → Spells K.bytes_of V.bytes_of K.SIZE V.SIZE bytes.now r → result ≡ Ok r }
+    ensures found { IfOk result (λ r. IsRecord K.codec V.codec address r
+        × Spells K.codec V.codec bytes.now r) }
+    ensures only { (r : Record K V) → IsRecord K.codec V.codec address r
+        → Spells K.codec V.codec bytes.now r → result ≡ Ok r }
 
     // one spelling: but for the value's bytes the record determines all bytes, and a value determines those
     ensures spelling { IfOk result (λ r. bytes.now
-        ≡ spelling K.bytes_of K.SIZE V.SIZE r (value_part K.SIZE V.SIZE bytes.now)) }
+        ≡ spelling K.codec V.SIZE r (value_part K.SIZE V.SIZE bytes.now)) }
 {
     let key_end = 8 + K::SIZE;
     let value_end = key_end + V::SIZE;

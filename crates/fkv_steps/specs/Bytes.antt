@@ -1,6 +1,7 @@
 -- What the pages of a script's store hold: records of names, on a device in memory.
 use Rattle.std.specs.Prelude.{ℕ, List, [], length}
-use Rattle.fkv_functions.specs.Names.{name_bytes}
+use Rattle.fkv_functions.specs.Codecs.{Codec}
+use Rattle.fkv_functions.specs.Names.{name_codec}
 use Rattle.fkv_functions.specs.declared.names.Name.{Name}
 use Rattle.fkv_texts.specs.declared.entries.Entry.{Entry}
 use Rattle.fkv_device.specs.Standing.{Standing}
@@ -17,6 +18,6 @@ standing_of r = record {
   mark = [];
 }
 
--- the bytes of a page spell this entry of a name at an address, where values have these bytes, so many each
-abbrev pub IsNamedEntry : {V : Type 0} → (V → List ℕ) → (V → Type 0) → ℕ → ℕ → List ℕ → ℕ → Entry Name V → Type 0
-IsNamedEntry value is_value size = IsEntryIn name_bytes value (λ _. Unit {0}) is_value 32 size
+-- the bytes of a page spell this entry of a name at an address, where values are written so
+abbrev pub IsNamedEntry : {V : Type 0} {size : ℕ} → Codec V size → ℕ → List ℕ → ℕ → Entry Name V → Type 0
+IsNamedEntry value = IsEntryIn name_codec value

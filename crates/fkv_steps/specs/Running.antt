@@ -1,14 +1,13 @@
 -- What the lines of a script do, and what a whole script prints.
-use Rattle.std.specs.Prelude.{◌≡◌, ◌≤◌, ◌<◌, ◌^◌, length, FitsSigned, ℕ, ℤ, pos, negsuc, List, [], ◌∷◌, ◌++◌, map, Bool, true, false, Option, Some, None, Result, Ok}
+use Rattle.std.specs.Prelude.{◌≡◌, ◌≤◌, length, ℕ, ℤ, pos, negsuc, List, [], ◌∷◌, ◌++◌, map, Bool, true, false, Option, Some, None, Result, Ok}
 use Rattle.std.specs.declared.cmp.Ordering.{Ordering}
 use Rattle.std.specs.Fmt.{decimal, signed_decimal}
 use Rattle.std.specs.BTreeMap.{is_at}
 use Rattle.std.specs.Map.{lookup, keys_of}
 use Rattle.std.specs.List.Sorted.{IsStrictlySortedBy}
 use Rattle.fkv_functions.specs.Meanings.{Meanings}
-use Rattle.std.specs.Int.{w64, w128, to_le_bytes}
 use Rattle.fkv_functions.specs.Names.{name_cmp, text_of}
-use Rattle.fkv_functions.specs.Integers.{signed_bytes, long_bytes}
+use Rattle.fkv_functions.specs.Integers.{word_codec, signed_codec, long_codec}
 use Rattle.fkv_functions.specs.Sets.{counts, sums, maxima, capped_sums, count_parts, sum_parts, max_parts}
 use Rattle.fkv_functions.specs.Hashes.{fnv_1a}
 use Rattle.fkv_functions.specs.declared.names.Name.{Name}
@@ -191,16 +190,16 @@ hash_of name = fnv_1a (text_of name)
 -- the text that a script prints with the functions that its first line names
 abbrev pub Prints : FunctionsName → Config → List Line → List ℕ → Type 0
 Prints Count config lines text =
-    IsPrintedBy standing_of (IsNamedEntry (to_le_bytes w64) (λ n. n < 2 ^ 64) 8) name_cmp (count_parts {K = Name}).joined
+    IsPrintedBy standing_of (IsNamedEntry word_codec) name_cmp (count_parts {K = Name}).joined
     counts hash_of count_of decimal decimal true config (record_size Count) lines text
 Prints Sum config lines text =
-    IsPrintedBy standing_of (IsNamedEntry long_bytes (FitsSigned w128) 16) name_cmp (sum_parts {K = Name}).joined
+    IsPrintedBy standing_of (IsNamedEntry long_codec) name_cmp (sum_parts {K = Name}).joined
     sums hash_of (λ n. n) signed_decimal signed_decimal true config (record_size Sum) lines text
 Prints Max config lines text =
-    IsPrintedBy standing_of (IsNamedEntry signed_bytes (FitsSigned w64) 8) name_cmp (max_parts {K = Name}).joined
+    IsPrintedBy standing_of (IsNamedEntry signed_codec) name_cmp (max_parts {K = Name}).joined
     maxima hash_of (λ n. n) signed_decimal signed_decimal true config (record_size Max) lines text
 Prints Capped config lines text =
-    IsPrintedBy standing_of (IsNamedEntry long_bytes (FitsSigned w128) 16) name_cmp (λ v w. w)
+    IsPrintedBy standing_of (IsNamedEntry long_codec) name_cmp (λ v w. w)
     capped_sums hash_of (λ n. n) signed_decimal signed_decimal false config (record_size Capped) lines text
 
 -- the output of an input: it says a script of at most 1,000,000 lines, whose numbers are within the limits, and this is

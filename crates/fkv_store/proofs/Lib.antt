@@ -1,5 +1,6 @@
 pub mod StopLemmas
 pub mod ClosingLemmas
+mod PartedLemmas
 pub mod PassLemmas
 mod RunLemmas
 pub mod StrangeLemmas

@@ -1,5 +1,5 @@
 -- What a contract sees of a store, and what it refuses.
-use Rattle.std.specs.Prelude.{◌≡◌, ◌⊎◌, ◌<◌, ◌-◌, ◌^◌, ℕ, Bool, true, false, ⊤}
+use Rattle.std.specs.Prelude.{◌≡◌, ◌⊎◌, ◌<◌, ◌-◌, ◌^◌, ℕ, Bool, true, false, List, slice_get, Some, ⊤}
 use Rattle.fkv_functions.specs.declared.refusals.Refused.{Refused}
 use Rattle.fkv_functions.specs.declared.refusals.Refused.TheVariants.{NoMemory, NoSlot, Unknown, Stranger, Worn, Device, Damaged, Stalled, Mismatch, NoMerge}
 use Rattle.fkv_functions.specs.declared.refusals.What.TheVariants as what
@@ -109,6 +109,10 @@ IsUncompacted other = ⊥
 abbrev pub IsUnopened : Refused → Type 0
 IsUnopened refused = (refused ≡ NoMemory) ⊎ (refused ≡ Device 1 0)
 
+-- each of these readers reads the pages of the partition at its place
+abbrev pub AreReaders : {P : Type 0} → (P → ℕ) → List P → Type 0
+AreReaders part readers = (p : ℕ) (r : _) → slice_get readers p ≡ Some r → part r ≡ p
+
 -- what the end of a store may be refused by: a device by code 1 where it does not open a partition's pages, by code 3 where a page
 -- is not read
 abbrev pub IsClosing : Refused → Type 0
@@ -118,3 +122,18 @@ IsClosing (Device code page) = ((code ≡ 1) × (page ≡ 0)) ⊎ (code ≡ 3)
 IsClosing (Damaged page) = ⊤
 IsClosing Mismatch = ⊤
 IsClosing other = ⊥
+
+-- what it may be refused by before its pages are read
+abbrev pub IsEnding : Refused → Type 0
+IsEnding NoMemory = ⊤
+IsEnding Worn = ⊤
+IsEnding (Device code page) = (code ≡ 1) × (page ≡ 0)
+IsEnding Mismatch = ⊤
+IsEnding other = ⊥
+
+-- what the list of a partition may be refused by
+abbrev pub IsUnlisted : Refused → Type 0
+IsUnlisted NoMemory = ⊤
+IsUnlisted (Device code page) = code ≡ 3
+IsUnlisted (Damaged page) = ⊤
+IsUnlisted other = ⊥

@@ -3,14 +3,16 @@ ghost use Rattle.std.specs.Prelude.{◌≡◌, ◌≤◌, ◌^◌, ◌⊎◌, �
 ghost use Rattle.std.specs.List.{All};
 ghost use Rattle.std.specs.BTreeMap.{get};
 ghost use Rattle.fkv_locked.specs.Kept.{seen, IsEnded};
-ghost use Rattle.fkv_closing.specs.Closing.{IsClosed, AreMerged};
+ghost use Rattle.fkv_partition.specs.Unions.{union_of};
+ghost use Rattle.fkv_closing.specs.Closing.{IsClosed, AreMerged, AreNumbered};
 ghost use Rattle.fkv_closing.specs.Lists.{lists_of};
 ghost use Rattle.fkv_store.specs.Passes.{IsPassOf};
-ghost use Rattle.fkv_store.specs.Stores.{IsClosing, IsUnopened};
+ghost use Rattle.fkv_store.specs.Stores.{AreReaders, IsClosing, IsEnding, IsUnopened};
 
 use crate::passes::Pass;
 use crate::stores::{Store, readers_of};
-use fkv_closing::{Closed, close_parts};
+use crate::unlisted::{Ended, Parted, take_apart};
+use fkv_closing::{Closed, Settled, close_parts, close_unlisted};
 use fkv_device::{Disk, Receipt};
 use fkv_functions::{Mergeable, Refused};
 use fkv_histories::Recorder;
@@ -72,6 +74,17 @@ fn parts_of<F: Mergeable, R: Receipt, H: Recorder<F>>(
     Ok(parts)
 }
 
+/// What is left of a store and its passes: the functions, the parts of its partitions with a reader of the pages of each, and what
+/// the passes keep.
+#[derive(Drop)]
+struct Left<F: Mergeable, D: Disk, H: Recorder<F>> {
+    functions: F,
+    parts: Vec<Part<F, D::Receipt>>,
+    readers: Vec<D::Reader>,
+    owns: Vec<Vec<H>>,
+    shares: Vec<u64>,
+}
+
 impl<F: Mergeable, D: Disk, H: Recorder<F>> Store<F, D, H> {
     /// Whether each pass is of this store.
     fn knows_all(&self, passes: &[Pass<F, D, H>]) -> bool
@@ -84,6 +97,55 @@ impl<F: Mergeable, D: Disk, H: Recorder<F>> Store<F, D, H> {
             }
         }
         true
+    }
+
+    /// What is left of a store and its passes, which are gone then. Refused, in this order: `Mismatch` where a pass is not of this
+    /// store; `NoMemory` and `Device` with code 1 where the device does not open a partition's pages.
+    fn leave(self, alloc: Global, passes: Vec<Pass<F, D, H>>) -> Result<Left<F, D, H>, Refused>
+        ensures ended { IfOk result (λ left. H.keeps ≡ true → IsTrue D.Receipt.keeps → All (λ part. IsEnded F.Key.cmp F.meaning
+            (seen F.Key.cmp part.partition) part.history.items part.book) left.parts.items) }
+        ensures parts { IfOk result (λ left. length left.parts.items ≡ self.count) }
+        ensures readers { IfOk result (λ left. length left.readers.items ≡ self.count) }
+        ensures places { IfOk result (λ left. AreReaders D.Reader.part left.readers.items) }
+        ensures sized { IfOk result (λ left. All (λ own. vec_len own ≡ vec_len left.parts) left.owns.items) }
+        ensures owns { IfOk result (λ left. map (λ own. map H.entries own.items) left.owns.items
+            ≡ map (λ pass. pass.own) passes.items) }
+        ensures shares { IfOk result (λ left. left.shares.items ≡ map (λ pass. pass.share) passes.items) }
+        ensures own { OnOk result (All (IsPassOf self) passes.items) }
+        ensures foreign { ¬ All (IsPassOf self) passes.items → result ≡ Err Refused.Mismatch }
+        ensures known { All (IsPassOf self) passes.items → IfErr result IsUnopened }
+        ensures only { IfErr result IsEnding }
+    {
+        if !self.knows_all(passes.as_slice()) {
+            return Err(Refused::Mismatch);
+        }
+        let Store {
+            functions,
+            device,
+            locks,
+            ..
+        } = self;
+        let mut device = device.into_inner();
+        let readers = match readers_of(alloc, &mut device, locks.len()) {
+            Ok(readers) => readers,
+            Err(refused) => return Err(refused),
+        };
+        let parts = match parts_of(alloc, locks) {
+            Ok(parts) => parts,
+            Err(refused) => return Err(refused),
+        };
+        let kept = match kept_by(alloc, passes, parts.len()) {
+            Ok(kept) => kept,
+            Err(refused) => return Err(refused),
+        };
+        let Kept { owns, shares } = kept;
+        Ok(Left {
+            functions,
+            parts,
+            readers,
+            owns,
+            shares,
+        })
     }
 
     /// Ends a store with all its passes: each live key with its value, the history of each partition, and how many operations
@@ -111,29 +173,17 @@ impl<F: Mergeable, D: Disk, H: Recorder<F>> Store<F, D, H> {
             → IfErr result (λ why. (why ≡ Refused.Worn) ⊎ IsUnopened why) }
         ensures only { IfErr result IsClosing }
     {
-        if !self.knows_all(passes.as_slice()) {
-            return Err(Refused::Mismatch);
-        }
-        let Store {
+        let left = match self.leave(alloc, passes) {
+            Ok(left) => left,
+            Err(refused) => return Err(refused),
+        };
+        let Left {
             functions,
-            device,
-            locks,
-            ..
-        } = self;
-        let mut device = device.into_inner();
-        let mut readers = match readers_of(alloc, &mut device, locks.len()) {
-            Ok(readers) => readers,
-            Err(refused) => return Err(refused),
-        };
-        let parts = match parts_of(alloc, locks) {
-            Ok(parts) => parts,
-            Err(refused) => return Err(refused),
-        };
-        let kept = match kept_by(alloc, passes, parts.len()) {
-            Ok(kept) => kept,
-            Err(refused) => return Err(refused),
-        };
-        let Kept { owns, shares } = kept;
+            parts,
+            mut readers,
+            owns,
+            shares,
+        } = left;
         match close_parts::<F, D::Receipt, H, D::Reader>(
             &functions,
             alloc,
@@ -143,6 +193,72 @@ impl<F: Mergeable, D: Disk, H: Recorder<F>> Store<F, D, H> {
             shares.as_slice(),
         ) {
             Ok(closed) => Ok(closed),
+            Err(refused) => Err(refused),
+        }
+    }
+
+    /// Ends a store with all its passes, as [`Store::close`] does, but reads no page: it hands its partitions out, each with what
+    /// reads its pages, to be listed (`Unlisted::list`), with the history of each, and how many operations were finished. What is
+    /// live in them is the map of `close`.
+    ///
+    /// # Errors
+    ///
+    /// The store and the passes are gone then. As those of `close`, in the same order, but for those of pages.
+    pub fn close_unlisted(
+        self,
+        alloc: Global,
+        passes: Vec<Pass<F, D, H>>,
+    ) -> Result<Ended<F, D>, Refused>
+        ensures closed { H.keeps ≡ true → IsTrue D.Receipt.keeps → IfOk result (λ ended. IsClosed F.Key.cmp F.meaning F.code
+            (map (λ pass. pass.own) passes.items) (map (λ pass. pass.share) passes.items)
+            (union_of F.Key.cmp F.code (map (λ part. part.partition) ended.partitions.items))
+            (map (λ history. history.items) ended.histories.items) ended.finished) }
+        ensures numbered { IfOk result (λ ended. AreNumbered (map (λ part. part.partition) ended.partitions.items)) }
+        ensures shared { IfOk result (λ ended. ended.finished ≡ sum (map (λ pass. pass.share) passes.items)) }
+        ensures merged { IfOk result (λ ended. AreMerged (map (λ history. history.items) ended.histories.items)
+            (lists_of (map (λ pass. pass.own) passes.items))) }
+        ensures partitions { IfOk result (λ ended. length ended.partitions.items ≡ self.count) }
+        ensures readers { IfOk result (λ ended. AreReaders D.Reader.part (map (λ part. part.reader) ended.partitions.items)) }
+        ensures len { IfOk result (λ ended. length ended.histories.items ≡ self.count) }
+        ensures own { OnOk result (All (IsPassOf self) passes.items) }
+        ensures foreign { ¬ All (IsPassOf self) passes.items → result ≡ Err Refused.Mismatch }
+        ensures worn { All (IsPassOf self) passes.items → 2 ^ 64 ≤ sum (map (λ pass. pass.share) passes.items)
+            → IfErr result (λ why. (why ≡ Refused.Worn) ⊎ IsUnopened why) }
+        ensures only { IfErr result IsEnding }
+    {
+        let left = match self.leave(alloc, passes) {
+            Ok(left) => left,
+            Err(refused) => return Err(refused),
+        };
+        let Left {
+            functions,
+            parts,
+            readers,
+            owns,
+            shares,
+        } = left;
+        let settled = match close_unlisted::<F, D::Receipt, H>(
+            alloc,
+            parts,
+            owns,
+            shares.as_slice(),
+        ) {
+            Ok(settled) => settled,
+            Err(refused) => return Err(refused),
+        };
+        let Settled { parts, finished } = settled;
+        match take_apart(alloc, parts, readers) {
+            Ok(
+                Parted {
+                    partitions,
+                    histories,
+                },
+            ) => Ok(Ended {
+                functions,
+                partitions,
+                histories,
+                finished,
+            }),
             Err(refused) => Err(refused),
         }
     }

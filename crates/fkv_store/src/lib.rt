@@ -17,9 +17,11 @@ pub(crate) mod refusals;
 pub(crate) mod running;
 pub mod stores;
 pub mod tidying;
+pub mod unlisted;
 pub(crate) mod waiting;
 
 pub use gates::{Gate, Open, Place};
 pub use passes::Pass;
 pub use stores::Store;
 pub use tidying::KEEPER;
+pub use unlisted::{Ended, Unlisted};

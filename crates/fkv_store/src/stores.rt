@@ -4,7 +4,7 @@ ghost use Rattle.fkv_records.specs.Records.{size_of};
 ghost use Rattle.fkv_partition.specs.CoreViews.{partition_of};
 ghost use Rattle.fkv_partition.specs.Limits.{IsWithinLimits};
 ghost use Rattle.fkv_device.specs.Failing.{FailsOnlyBy};
-ghost use Rattle.fkv_store.specs.Stores.{IsUnopened};
+ghost use Rattle.fkv_store.specs.Stores.{AreReaders, IsUnopened};
 
 use crate::holds::Turned;
 use crate::lists::{no_seats, zeros};
@@ -107,6 +107,7 @@ pub(crate) fn readers_of<D: Disk>(
     count: usize,
 ) -> Result<Vec<D::Reader>, Refused>
     ensures ok { IfOk result (λ readers. length readers.items ≡ count) }
+    ensures places { IfOk result (λ readers. AreReaders D.Reader.part readers.items) }
     ensures only { IfErr result IsUnopened }
 {
     let mut readers = Vec::new(alloc);

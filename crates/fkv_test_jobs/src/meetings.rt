@@ -3,7 +3,7 @@ ghost use Rattle.std.specs.Prelude.{◌≡◌, ⊤};
 ghost use Rattle.fkv_functions.specs.declared.refusals.Refused.{Refused};
 
 use fkv_functions::Refused;
-use fkv_jobs::{Job, Keeper, run_jobs};
+use fkv_jobs::{Job, Keeper, run_jobs, run_spread};
 use std::alloc::{AllocError, Global};
 use std::rt::Clock;
 use std::sync::Wait;
@@ -176,6 +176,51 @@ fn jobs_meet_beside_a_keeper(rt: HostRuntime) -> Result<(), Fail> {
     Ok(())
 }
 
+/// Whether so many jobs, spread over so many threads, give their numbers in order, where each waits until so many have begun.
+fn spread_so<T: Threads + Wait + Clock + Sync>(
+    rt: &T,
+    alloc: Global,
+    threads: usize,
+    jobs: u64,
+    others: u64,
+) -> Result<bool, Refused> {
+    let place = Place {
+        begun: AtomicU64::new(0),
+        turns: AtomicU64::new(0),
+        missed: AtomicBool::new(false),
+    };
+    let row = Row {
+        jobs,
+        others,
+        ..ALONE
+    };
+    let Ok(jobs) = jobs_of(alloc, &place, &row) else {
+        return Err(Refused::NoMemory);
+    };
+    let results = run_spread(rt, alloc, threads.max(1), jobs)?;
+    let is_in_order = results.iter().copied().eq(0..row.jobs);
+    Ok(is_in_order && !place.missed.load(Ordering::SeqCst))
+}
+
+/// How many threads there are, how many jobs, and how many of these run at the same time.
+const SPREAD: [(usize, u64, u64); 6] = [
+    (1, 0, 0),
+    (1, 3, 1),
+    (3, 3, 3),
+    (4, 2, 2),
+    (2, 7, 2),
+    (16, 64, 16),
+];
+
+#[test]
+fn jobs_meet_in_a_few_threads(rt: HostRuntime) -> Result<(), Fail> {
+    for (threads, jobs, others) in SPREAD {
+        let came = spread_so(&rt, rt.alloc(), threads, jobs, others);
+        assert!(rt; came == Ok(true), "{threads} {jobs}: {came:?}");
+    }
+    Ok(())
+}
+
 /// Jobs that wait for nothing.
 const ALONE: Row = Row {
     jobs: 3,
@@ -189,6 +234,11 @@ const ALONE: Row = Row {
 fn refused_growths_are_made_again(rt: HostRuntime) {
     let came = match comes_so(&rt, rt.alloc(), &ALONE) {
         Err(Refused::NoMemory) => comes_so(&rt, rt.alloc(), &ALONE),
+        came => came,
+    };
+    assert!(rt; came == Ok(true), "{came:?}");
+    let came = match spread_so(&rt, rt.alloc(), 2, 3, 0) {
+        Err(Refused::NoMemory) => spread_so(&rt, rt.alloc(), 2, 3, 0),
         came => came,
     };
     assert!(rt; came == Ok(true), "{came:?}");

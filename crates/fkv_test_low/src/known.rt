@@ -24,7 +24,7 @@ fn read_back<K: Fixed, V: Fixed>(
 ) -> Result<Record<K, V>, Damaged>
     requires most { size_of K.SIZE V.SIZE ≤ 192 }
     requires room { length out.old ≡ size_of K.SIZE V.SIZE }
-    requires record { IsRecord K.is_known V.is_known address entry.now }
+    requires record { IsRecord K.codec V.codec address entry.now }
     ensures { result ≡ Ok entry.now }
 {
     write_record(entry, out);

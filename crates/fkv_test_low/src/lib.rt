@@ -1,5 +1,5 @@
 //! Tests of functions, laws and devices. What the calls of epochs, regions, frames, the index, pages, records and names
-//! answer stands in `fkv_call_rows`.
+//! answer stands in `fkv_test_calls`.
 //!
 //! What is to come is written as constant rows, and a helper a kind says whether a row comes so. No crate below
 //! is proved a second time for its tests.

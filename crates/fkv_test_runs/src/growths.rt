@@ -3,7 +3,7 @@
 use crate::folds::Fold;
 use crate::letters::is_map;
 use fkv_functions::{Refused, SumFns};
-use fkv_world_lines::{Call, driven, part_of};
+use fkv_test_world_lines::{Call, driven, part_of};
 use fkv_worlds::{End, ReportOf, replay};
 use std::alloc::Global;
 

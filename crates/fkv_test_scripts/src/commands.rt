@@ -1,4 +1,4 @@
-//! Whole runs as rows: their statuses, their texts, and streams that fail. Scripts stand in `fkv_rows`.
+//! Whole runs as rows: their statuses, their texts, and streams that fail. Scripts stand in `fkv_test_steps`.
 use fkv_commands::FeedFiles;
 use fkv_commands::running::{refuse_words, run, tell};
 use fkv_functions::{Refused, What};

@@ -1,5 +1,5 @@
 //! Tests of scripts and of the command line: what is printed, how runs end, and readers and writers that fail. Whole
-//! scripts, and what their lines say, stand in `fkv_rows`.
+//! scripts, and what their lines say, stand in `fkv_test_steps`.
 #![tactic(auto)]
 
 #[cfg(test)]

@@ -6,6 +6,8 @@ mod faults;
 #[cfg(test)]
 mod gated;
 #[cfg(test)]
+mod listing;
+#[cfg(test)]
 mod merging;
 #[cfg(test)]
 mod stalling;

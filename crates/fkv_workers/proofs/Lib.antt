@@ -12,3 +12,4 @@ pub mod StoppedLemmas
 pub mod SplitLemmas
 pub mod MadeLemmas
 pub mod EmptiedLemmas
+pub mod ListingLemmas

@@ -10,6 +10,7 @@ pub(crate) mod dealing;
 pub mod deals;
 pub(crate) mod keeping;
 pub mod laws;
+pub(crate) mod listing;
 pub mod running;
 pub(crate) mod waiting;
 pub(crate) mod working;

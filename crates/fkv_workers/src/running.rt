@@ -11,14 +11,15 @@ use crate::dealing::{passes_of, works};
 use crate::deals::deal;
 use crate::keeping::{StoreKeeper, fresh_heads, span_of};
 use crate::laws::tables_join;
+use crate::listing::table_of;
 use crate::working::Worked;
 use fkv_device::Disk;
-use fkv_feeds::{Counts, Plan, RowMode, Run, Table};
+use fkv_feeds::{Counts, Plan, RowMode, Run};
 use fkv_functions::{Fixed, Mergeable, Name, OrderFree, Refused};
 use fkv_histories::Recorder;
 use fkv_jobs::{Ran, run_jobs};
 use fkv_partition::Config;
-use fkv_store::{Gate, Pass, Store};
+use fkv_store::{Ended, Gate, Pass, Store};
 use fkv_streams::Source;
 use std::alloc::Global;
 use std::rt::Clock;
@@ -239,19 +240,25 @@ where
         Err(refused) => return Err(refused),
     };
     let Fed { passes, mode } = fed;
-    let closed = match store.close(alloc, passes) {
-        Ok(closed) => closed,
+    let ended = match store.close_unlisted(alloc, passes) {
+        Ok(ended) => ended,
         Err(refused) => return Err(refused),
     };
+    let Ended {
+        functions,
+        partitions,
+        finished,
+        ..
+    } = ended;
     tables_join::<F>();
-    let table = match Table::of_map(alloc, &closed.map) {
+    let table = match table_of(rt, alloc, workers, &functions, partitions) {
         Ok(table) => table,
         Err(refused) => return Err(refused),
     };
     Ok(Run {
         table,
         counts: Counts {
-            rows: closed.finished,
+            rows: finished,
             appended: None,
         },
         plan: Plan {

@@ -53,8 +53,7 @@ impl<F: Mergeable> State<F> {
     /// Takes the lowest page that is not flushed, to be written.
     pub(crate) fn take_at(&mut self, partition: usize, now: u64) -> Result<OutcomeOf<F>, Refused>
         requires due { IsMomentIn self.old partition now }
-        ensures effect { Acts ⟦<MemoryReceipt as Receipt>⟧.stands (IsEntryIn F.Key.bytes_of F.Value.bytes_of F.Key.is_known F.Value.is_known
-            F.Key.SIZE F.Value.SIZE) F.Key.cmp F.parts.joined F.meaning F.code
+        ensures effect { Acts ⟦<MemoryReceipt as Receipt>⟧.stands (IsEntryIn F.Key.codec F.Value.codec) F.Key.cmp F.parts.joined F.meaning F.code
             self.old self.new (Take partition) result }
     {
         match self.partitions[partition].flush_take(self.alloc, now) {
@@ -74,8 +73,7 @@ impl<F: Mergeable> State<F> {
         partition: usize,
         access: Access,
     ) -> Result<OutcomeOf<F>, Refused>
-        ensures effect { Acts ⟦<MemoryReceipt as Receipt>⟧.stands (IsEntryIn F.Key.bytes_of F.Value.bytes_of F.Key.is_known F.Value.is_known
-            F.Key.SIZE F.Value.SIZE) F.Key.cmp F.parts.joined F.meaning F.code
+        ensures effect { Acts ⟦<MemoryReceipt as Receipt>⟧.stands (IsEntryIn F.Key.codec F.Value.codec) F.Key.cmp F.parts.joined F.meaning F.code
             self.old self.new (Write partition access) result }
     {
         if partition >= self.partitions.len() {
@@ -98,8 +96,7 @@ impl<F: Mergeable> State<F> {
     ) -> Result<OutcomeOf<F>, Refused>
         requires due { IsMomentIn self.old partition now }
         requires asked { is_unasked self.old (Write partition access) ≡ false }
-        ensures effect { Acts ⟦<MemoryReceipt as Receipt>⟧.stands (IsEntryIn F.Key.bytes_of F.Value.bytes_of F.Key.is_known F.Value.is_known
-            F.Key.SIZE F.Value.SIZE) F.Key.cmp F.parts.joined F.meaning F.code
+        ensures effect { Acts ⟦<MemoryReceipt as Receipt>⟧.stands (IsEntryIn F.Key.codec F.Value.codec) F.Key.cmp F.parts.joined F.meaning F.code
             self.old self.new (Write partition access) result }
     {
         match self.flush_slots[partition].write(self.alloc, access) {
@@ -124,8 +121,7 @@ impl<F: Mergeable> State<F> {
         place: ContextId,
         access: Access,
     ) -> Result<OutcomeOf<F>, Refused>
-        ensures effect { Acts ⟦<MemoryReceipt as Receipt>⟧.stands (IsEntryIn F.Key.bytes_of F.Value.bytes_of F.Key.is_known F.Value.is_known
-            F.Key.SIZE F.Value.SIZE) F.Key.cmp F.parts.joined F.meaning F.code
+        ensures effect { Acts ⟦<MemoryReceipt as Receipt>⟧.stands (IsEntryIn F.Key.codec F.Value.codec) F.Key.cmp F.parts.joined F.meaning F.code
             self.old self.new (Load place access) result }
     {
         let now = match self.moment_in(place.partition) {
@@ -147,8 +143,7 @@ impl<F: Mergeable> State<F> {
     ) -> Result<OutcomeOf<F>, Refused>
         requires due { IsMomentIn self.old place.partition now }
         requires asked { is_unasked self.old (Load place access) ≡ false }
-        ensures effect { Acts ⟦<MemoryReceipt as Receipt>⟧.stands (IsEntryIn F.Key.bytes_of F.Value.bytes_of F.Key.is_known F.Value.is_known
-            F.Key.SIZE F.Value.SIZE) F.Key.cmp F.parts.joined F.meaning F.code
+        ensures effect { Acts ⟦<MemoryReceipt as Receipt>⟧.stands (IsEntryIn F.Key.codec F.Value.codec) F.Key.cmp F.parts.joined F.meaning F.code
             self.old self.new (Load place access) result }
     {
         let came = read_asked(self.alloc, &self.tables.receipts, place, access);

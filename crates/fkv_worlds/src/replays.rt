@@ -20,8 +20,7 @@ fn step_all<F: Mergeable>(
     functions: &F,
     steps: &[StepOf<F>],
 ) -> Result<(), Refused>
-    ensures ok { OnOk result (RunsTo ⟦<MemoryReceipt as Receipt>⟧.stands (IsEntryIn F.Key.bytes_of F.Value.bytes_of F.Key.is_known F.Value.is_known
-        F.Key.SIZE F.Value.SIZE) F.Key.cmp F.parts.joined F.meaning F.code world.old steps.now world.new) }
+    ensures ok { OnOk result (RunsTo ⟦<MemoryReceipt as Receipt>⟧.stands (IsEntryIn F.Key.codec F.Value.codec) F.Key.cmp F.parts.joined F.meaning F.code world.old steps.now world.new) }
     ensures only { IfErr result (λ refused. refused ≡ Refused.NoMemory) }
 {
     for step in steps {
@@ -39,8 +38,7 @@ fn run<F: Mergeable>(
     functions: &F,
     steps: &[StepOf<F>],
 ) -> Result<ReportOf<F>, Refused>
-    ensures ok { IfOk result (λ r. RunsTo ⟦<MemoryReceipt as Receipt>⟧.stands (IsEntryIn F.Key.bytes_of F.Value.bytes_of F.Key.is_known F.Value.is_known
-        F.Key.SIZE F.Value.SIZE) F.Key.cmp F.parts.joined F.meaning F.code world.old steps.now world.new
+    ensures ok { IfOk result (λ r. RunsTo ⟦<MemoryReceipt as Receipt>⟧.stands (IsEntryIn F.Key.codec F.Value.codec) F.Key.cmp F.parts.joined F.meaning F.code world.old steps.now world.new
         × IsReport F.Key.cmp F.code world.new r.outcomes.items r.lives.items r.map.items) }
     ensures headline { IsHeadline F.Key.cmp F.meaning F.code world.new }
     ensures only { IfErr result (λ refused. refused ≡ Refused.NoMemory) }
@@ -62,8 +60,7 @@ pub fn replay<F: Mergeable>(
     functions: &F,
     steps: &[StepOf<F>],
 ) -> Result<ReportOf<F>, Refused>
-    ensures ok { IfOk result (λ r. IsReplay ⟦<MemoryReceipt as Receipt>⟧.stands (IsEntryIn F.Key.bytes_of F.Value.bytes_of F.Key.is_known F.Value.is_known
-        F.Key.SIZE F.Value.SIZE) F.Key.cmp F.parts.joined F.meaning F.code F.MERGES config.now (size_of F.Key.SIZE F.Value.SIZE)
+    ensures ok { IfOk result (λ r. IsReplay ⟦<MemoryReceipt as Receipt>⟧.stands (IsEntryIn F.Key.codec F.Value.codec) F.Key.cmp F.parts.joined F.meaning F.code F.MERGES config.now (size_of F.Key.SIZE F.Value.SIZE)
         steps.now
         r.outcomes.items r.lives.items r.map.items) }
     ensures good { result ≢ Err Refused.BadConfig → IsWithinLimits config.now (size_of F.Key.SIZE F.Value.SIZE) }

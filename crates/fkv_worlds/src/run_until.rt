@@ -51,8 +51,7 @@ impl<F: Mergeable> World<F> {
     /// among the outcomes. Refused with `NoMemory` where an outcome could not be kept, and else as
     /// [`World::step`] is.
     pub fn ready(&mut self, functions: &F, place: ContextId) -> Result<OutcomeOf<F>, Refused>
-        ensures runs { IsRunUntil ⟦<MemoryReceipt as Receipt>⟧.stands (IsEntryIn F.Key.bytes_of F.Value.bytes_of F.Key.is_known F.Value.is_known
-            F.Key.SIZE F.Value.SIZE) F.Key.cmp F.parts.joined F.meaning F.code Ready place self.old self.new result }
+        ensures runs { IsRunUntil ⟦<MemoryReceipt as Receipt>⟧.stands (IsEntryIn F.Key.codec F.Value.codec) F.Key.cmp F.parts.joined F.meaning F.code Ready place self.old self.new result }
         ensures headline { IsHeadline F.Key.cmp F.meaning F.code self.new }
     {
         self.run_until(functions, Until::Ready, place)
@@ -62,8 +61,7 @@ impl<F: Mergeable> World<F> {
     /// Goes on with an operation or a relocation, installs what it asks for and loads the pages that it asks for, until it is
     /// done, waits, or is refused, and answers that. Where it waits for a page it begins with the load. `Stalled` and `NoMemory` as in [`World::ready`].
     pub fn finish(&mut self, functions: &F, place: ContextId) -> Result<OutcomeOf<F>, Refused>
-        ensures runs { IsRunUntil ⟦<MemoryReceipt as Receipt>⟧.stands (IsEntryIn F.Key.bytes_of F.Value.bytes_of F.Key.is_known F.Value.is_known
-            F.Key.SIZE F.Value.SIZE) F.Key.cmp F.parts.joined F.meaning F.code Finish place self.old self.new result }
+        ensures runs { IsRunUntil ⟦<MemoryReceipt as Receipt>⟧.stands (IsEntryIn F.Key.codec F.Value.codec) F.Key.cmp F.parts.joined F.meaning F.code Finish place self.old self.new result }
         ensures headline { IsHeadline F.Key.cmp F.meaning F.code self.new }
     {
         self.run_until(functions, Until::Finish, place)
@@ -79,8 +77,7 @@ impl<F: Mergeable> World<F> {
         until: Until,
         place: ContextId,
     ) -> Option<Result<OutcomeOf<F>, Refused>>
-        ensures runs { RunsUntil ⟦<MemoryReceipt as Receipt>⟧.stands (IsEntryIn F.Key.bytes_of F.Value.bytes_of F.Key.is_known F.Value.is_known
-            F.Key.SIZE F.Value.SIZE) F.Key.cmp F.parts.joined F.meaning F.code until place self.new result 10000
+        ensures runs { RunsUntil ⟦<MemoryReceipt as Receipt>⟧.stands (IsEntryIn F.Key.codec F.Value.codec) F.Key.cmp F.parts.joined F.meaning F.code until place self.new result 10000
             (first_step self.old.state.partitions until place) self.old }
         ensures headline { IsHeadline F.Key.cmp F.meaning F.code self.new }
     {
@@ -112,8 +109,7 @@ impl<F: Mergeable> World<F> {
         until: Until,
         place: ContextId,
     ) -> Option<Result<OutcomeOf<F>, Refused>>
-        ensures { RunsUntil ⟦<MemoryReceipt as Receipt>⟧.stands (IsEntryIn F.Key.bytes_of F.Value.bytes_of F.Key.is_known F.Value.is_known
-            F.Key.SIZE F.Value.SIZE) F.Key.cmp F.parts.joined F.meaning F.code until place self.new result 10000
+        ensures { RunsUntil ⟦<MemoryReceipt as Receipt>⟧.stands (IsEntryIn F.Key.codec F.Value.codec) F.Key.cmp F.parts.joined F.meaning F.code until place self.new result 10000
             (first_step self.old.state.partitions until place) self.old }
     {
         let mut step = self.first(until, place);

@@ -183,8 +183,7 @@ impl<F: Mergeable> State<F> {
 
     fn enter_at(&mut self, partition: usize, now: u64) -> Result<OutcomeOf<F>, Refused>
         requires due { IsMomentIn self.old partition now }
-        ensures effect { Acts ⟦<MemoryReceipt as Receipt>⟧.stands (IsEntryIn F.Key.bytes_of F.Value.bytes_of F.Key.is_known F.Value.is_known
-            F.Key.SIZE F.Value.SIZE) F.Key.cmp F.parts.joined F.meaning F.code
+        ensures effect { Acts ⟦<MemoryReceipt as Receipt>⟧.stands (IsEntryIn F.Key.codec F.Value.codec) F.Key.cmp F.parts.joined F.meaning F.code
             self.old self.new (Enter partition) result }
     {
         match self.partitions[partition].enter(now) {
@@ -204,8 +203,7 @@ impl<F: Mergeable> State<F> {
 
     fn leave_at(&mut self, partition: usize, slot: usize, now: u64) -> Result<OutcomeOf<F>, Refused>
         requires due { IsMomentIn self.old partition now }
-        ensures effect { Acts ⟦<MemoryReceipt as Receipt>⟧.stands (IsEntryIn F.Key.bytes_of F.Value.bytes_of F.Key.is_known F.Value.is_known
-            F.Key.SIZE F.Value.SIZE) F.Key.cmp F.parts.joined F.meaning F.code
+        ensures effect { Acts ⟦<MemoryReceipt as Receipt>⟧.stands (IsEntryIn F.Key.codec F.Value.codec) F.Key.cmp F.parts.joined F.meaning F.code
             self.old self.new (Leave partition slot) result }
     {
         match self.partitions[partition].leave(slot, now) {
@@ -224,8 +222,7 @@ impl<F: Mergeable> State<F> {
         now: u64,
     ) -> Result<OutcomeOf<F>, Refused>
         requires due { IsMomentIn self.old partition now }
-        ensures effect { Acts ⟦<MemoryReceipt as Receipt>⟧.stands (IsEntryIn F.Key.bytes_of F.Value.bytes_of F.Key.is_known F.Value.is_known
-            F.Key.SIZE F.Value.SIZE) F.Key.cmp F.parts.joined F.meaning F.code
+        ensures effect { Acts ⟦<MemoryReceipt as Receipt>⟧.stands (IsEntryIn F.Key.codec F.Value.codec) F.Key.cmp F.parts.joined F.meaning F.code
             self.old self.new (Refresh partition slot) result }
     {
         match self.partitions[partition].refresh(slot, now) {
@@ -239,8 +236,7 @@ impl<F: Mergeable> State<F> {
 
     fn shift_at(&mut self, partition: usize, page: u64, now: u64) -> Result<OutcomeOf<F>, Refused>
         requires due { IsMomentIn self.old partition now }
-        ensures effect { Acts ⟦<MemoryReceipt as Receipt>⟧.stands (IsEntryIn F.Key.bytes_of F.Value.bytes_of F.Key.is_known F.Value.is_known
-            F.Key.SIZE F.Value.SIZE) F.Key.cmp F.parts.joined F.meaning F.code
+        ensures effect { Acts ⟦<MemoryReceipt as Receipt>⟧.stands (IsEntryIn F.Key.codec F.Value.codec) F.Key.cmp F.parts.joined F.meaning F.code
             self.old self.new (ReadOnly partition page) result }
     {
         match self.partitions[partition].shift_read_only(page, now) {
@@ -254,8 +250,7 @@ impl<F: Mergeable> State<F> {
 
     fn evict_at(&mut self, partition: usize, page: u64, now: u64) -> Result<OutcomeOf<F>, Refused>
         requires due { IsMomentIn self.old partition now }
-        ensures effect { Acts ⟦<MemoryReceipt as Receipt>⟧.stands (IsEntryIn F.Key.bytes_of F.Value.bytes_of F.Key.is_known F.Value.is_known
-            F.Key.SIZE F.Value.SIZE) F.Key.cmp F.parts.joined F.meaning F.code
+        ensures effect { Acts ⟦<MemoryReceipt as Receipt>⟧.stands (IsEntryIn F.Key.codec F.Value.codec) F.Key.cmp F.parts.joined F.meaning F.code
             self.old self.new (Head partition page) result }
     {
         match self.partitions[partition].shift_head(page, now) {
@@ -276,8 +271,7 @@ impl<F: Mergeable> State<F> {
         now: u64,
     ) -> Result<OutcomeOf<F>, Refused>
         requires due { IsMomentIn self.old partition now }
-        ensures effect { Acts ⟦<MemoryReceipt as Receipt>⟧.stands (IsEntryIn F.Key.bytes_of F.Value.bytes_of F.Key.is_known F.Value.is_known
-            F.Key.SIZE F.Value.SIZE) F.Key.cmp F.parts.joined F.meaning F.code
+        ensures effect { Acts ⟦<MemoryReceipt as Receipt>⟧.stands (IsEntryIn F.Key.codec F.Value.codec) F.Key.cmp F.parts.joined F.meaning F.code
             self.old self.new (Issue partition slot op) result }
     {
         let Ok(()) = self.lives.try_reserve(1) else {
@@ -300,8 +294,7 @@ impl<F: Mergeable> State<F> {
 
     fn go_at(&mut self, functions: &F, place: ContextId, now: u64) -> Result<OutcomeOf<F>, Refused>
         requires due { IsMomentIn self.old place.partition now }
-        ensures effect { Acts ⟦<MemoryReceipt as Receipt>⟧.stands (IsEntryIn F.Key.bytes_of F.Value.bytes_of F.Key.is_known F.Value.is_known
-            F.Key.SIZE F.Value.SIZE) F.Key.cmp F.parts.joined F.meaning F.code self.old self.new (Go place) result }
+        ensures effect { Acts ⟦<MemoryReceipt as Receipt>⟧.stands (IsEntryIn F.Key.codec F.Value.codec) F.Key.cmp F.parts.joined F.meaning F.code self.old self.new (Go place) result }
     {
         let partition = &mut self.partitions[place.partition];
         match partition.go(place.slot, place.context, functions, now) {
@@ -315,8 +308,7 @@ impl<F: Mergeable> State<F> {
 
     /// Installs what an operation asked for last.
     fn install(&mut self, functions: &F, place: ContextId) -> Result<OutcomeOf<F>, Refused>
-        ensures effect { Acts ⟦<MemoryReceipt as Receipt>⟧.stands (IsEntryIn F.Key.bytes_of F.Value.bytes_of F.Key.is_known F.Value.is_known
-            F.Key.SIZE F.Value.SIZE) F.Key.cmp F.parts.joined F.meaning F.code
+        ensures effect { Acts ⟦<MemoryReceipt as Receipt>⟧.stands (IsEntryIn F.Key.codec F.Value.codec) F.Key.cmp F.parts.joined F.meaning F.code
             self.old self.new (Install place) result }
     {
         match self.asked(place) {
@@ -330,8 +322,7 @@ impl<F: Mergeable> State<F> {
         ensures ok { IfOk result (λ due. (question_in self.now.questions place ≡ Some due.0)
             × IsMomentIn self.now place.partition due.1) }
         ensures refused { IfErr result
-            (λ refused. Acts ⟦<MemoryReceipt as Receipt>⟧.stands (IsEntryIn F.Key.bytes_of F.Value.bytes_of F.Key.is_known F.Value.is_known
-            F.Key.SIZE F.Value.SIZE) F.Key.cmp F.parts.joined F.meaning F.code self.now self.now (Install place)
+            (λ refused. Acts ⟦<MemoryReceipt as Receipt>⟧.stands (IsEntryIn F.Key.codec F.Value.codec) F.Key.cmp F.parts.joined F.meaning F.code self.now self.now (Install place)
             (Err refused)) }
     {
         if place.partition >= self.partitions.len() {
@@ -351,8 +342,7 @@ impl<F: Mergeable> State<F> {
     fn why_uninstalled(&self, place: ContextId) -> Refused
         requires there { place.partition < length self.now.partitions }
         requires unasked { is_unasked self.now (Install place) ≡ true }
-        ensures { Acts ⟦<MemoryReceipt as Receipt>⟧.stands (IsEntryIn F.Key.bytes_of F.Value.bytes_of F.Key.is_known F.Value.is_known
-            F.Key.SIZE F.Value.SIZE) F.Key.cmp F.parts.joined F.meaning F.code self.now self.now (Install place) (Err result) }
+        ensures { Acts ⟦<MemoryReceipt as Receipt>⟧.stands (IsEntryIn F.Key.codec F.Value.codec) F.Key.cmp F.parts.joined F.meaning F.code self.now self.now (Install place) (Err result) }
     {
         match self.partitions[place.partition].asked(place.slot, place.context) {
             Ok(_) => Refused::NotReady,
@@ -365,8 +355,7 @@ impl<F: Mergeable> State<F> {
         requires there { place.partition < length self.now.partitions }
         requires unasked { is_unasked self.now (Install place) ≡ true }
         requires none { asked_in self.now.partitions place ≡ None }
-        ensures { Acts ⟦<MemoryReceipt as Receipt>⟧.stands (IsEntryIn F.Key.bytes_of F.Value.bytes_of F.Key.is_known F.Value.is_known
-            F.Key.SIZE F.Value.SIZE) F.Key.cmp F.parts.joined F.meaning F.code self.now self.now (Install place) (Err result) }
+        ensures { Acts ⟦<MemoryReceipt as Receipt>⟧.stands (IsEntryIn F.Key.codec F.Value.codec) F.Key.cmp F.parts.joined F.meaning F.code self.now self.now (Install place) (Err result) }
     {
         match self.moment_in(place.partition) {
             Ok(_now) => Refused::Unknown,
@@ -379,8 +368,7 @@ impl<F: Mergeable> State<F> {
         requires there { place.partition < length self.now.partitions }
         requires moment { self.now.moment < 2 ^ 64 - 1 }
         requires unasked { is_unasked self.now (Load place access) ≡ true }
-        ensures { Acts ⟦<MemoryReceipt as Receipt>⟧.stands (IsEntryIn F.Key.bytes_of F.Value.bytes_of F.Key.is_known F.Value.is_known
-            F.Key.SIZE F.Value.SIZE) F.Key.cmp F.parts.joined F.meaning F.code self.now self.now (Load place access) (Err result) }
+        ensures { Acts ⟦<MemoryReceipt as Receipt>⟧.stands (IsEntryIn F.Key.codec F.Value.codec) F.Key.cmp F.parts.joined F.meaning F.code self.now self.now (Load place access) (Err result) }
     {
         match self.partitions[place.partition].asked(place.slot, place.context) {
             Ok(_) => Refused::NotReady,
@@ -397,8 +385,7 @@ impl<F: Mergeable> State<F> {
     ) -> Result<OutcomeOf<F>, Refused>
         requires moment { IsMomentIn self.old place.partition now }
         requires asked { question_in self.old.questions place ≡ Some ask }
-        ensures effect { Acts ⟦<MemoryReceipt as Receipt>⟧.stands (IsEntryIn F.Key.bytes_of F.Value.bytes_of F.Key.is_known F.Value.is_known
-            F.Key.SIZE F.Value.SIZE) F.Key.cmp F.parts.joined F.meaning F.code
+        ensures effect { Acts ⟦<MemoryReceipt as Receipt>⟧.stands (IsEntryIn F.Key.codec F.Value.codec) F.Key.cmp F.parts.joined F.meaning F.code
             self.old self.new (Install place) result }
     {
         let built = Built::make(functions, ask);
@@ -414,8 +401,7 @@ impl<F: Mergeable> State<F> {
 
     fn give_up_at(&mut self, place: ContextId, now: u64) -> Result<OutcomeOf<F>, Refused>
         requires due { IsMomentIn self.old place.partition now }
-        ensures effect { Acts ⟦<MemoryReceipt as Receipt>⟧.stands (IsEntryIn F.Key.bytes_of F.Value.bytes_of F.Key.is_known F.Value.is_known
-            F.Key.SIZE F.Value.SIZE) F.Key.cmp F.parts.joined F.meaning F.code self.old self.new (GiveUp place) result }
+        ensures effect { Acts ⟦<MemoryReceipt as Receipt>⟧.stands (IsEntryIn F.Key.codec F.Value.codec) F.Key.cmp F.parts.joined F.meaning F.code self.old self.new (GiveUp place) result }
     {
         let partition = &mut self.partitions[place.partition];
         match partition.give_up(place.slot, place.context, now) {
@@ -436,8 +422,7 @@ impl<F: Mergeable> State<F> {
         now: u64,
     ) -> Result<OutcomeOf<F>, Refused>
         requires due { IsMomentIn self.old partition now }
-        ensures effect { Acts ⟦<MemoryReceipt as Receipt>⟧.stands (IsEntryIn F.Key.bytes_of F.Value.bytes_of F.Key.is_known F.Value.is_known
-            F.Key.SIZE F.Value.SIZE) F.Key.cmp F.parts.joined F.meaning F.code
+        ensures effect { Acts ⟦<MemoryReceipt as Receipt>⟧.stands (IsEntryIn F.Key.codec F.Value.codec) F.Key.cmp F.parts.joined F.meaning F.code
             self.old self.new (Truncate partition) result }
     {
         match self.partitions[partition].truncate_cleared(now) {
@@ -451,8 +436,7 @@ impl<F: Mergeable> State<F> {
 
     /// Does a step.
     pub fn act(&mut self, functions: &F, step: StepOf<F>) -> Result<OutcomeOf<F>, Refused>
-        ensures effect { Acts ⟦<MemoryReceipt as Receipt>⟧.stands (IsEntryIn F.Key.bytes_of F.Value.bytes_of F.Key.is_known F.Value.is_known
-            F.Key.SIZE F.Value.SIZE) F.Key.cmp F.parts.joined F.meaning F.code self.old self.new step result }
+        ensures effect { Acts ⟦<MemoryReceipt as Receipt>⟧.stands (IsEntryIn F.Key.codec F.Value.codec) F.Key.cmp F.parts.joined F.meaning F.code self.old self.new step result }
     {
         // whether what is to be installed or written was asked for comes before whether there is a moment
         match step {
@@ -469,8 +453,7 @@ impl<F: Mergeable> State<F> {
     /// Does a step that answers nothing, at this moment.
     fn act_at(&mut self, functions: &F, step: StepOf<F>, now: u64) -> Result<OutcomeOf<F>, Refused>
         requires due { IsMomentIn self.old (partition_in step) now }
-        ensures effect { Acts ⟦<MemoryReceipt as Receipt>⟧.stands (IsEntryIn F.Key.bytes_of F.Value.bytes_of F.Key.is_known F.Value.is_known
-            F.Key.SIZE F.Value.SIZE) F.Key.cmp F.parts.joined F.meaning F.code self.old self.new step result }
+        ensures effect { Acts ⟦<MemoryReceipt as Receipt>⟧.stands (IsEntryIn F.Key.codec F.Value.codec) F.Key.cmp F.parts.joined F.meaning F.code self.old self.new step result }
     {
         match step {
             Step::Enter(partition) => self.enter_at(partition, now),

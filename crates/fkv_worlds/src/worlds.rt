@@ -63,8 +63,7 @@ impl<F: Mergeable> World<F> {
         functions: &F,
         step: StepOf<F>,
     ) -> Option<Result<OutcomeOf<F>, Refused>>
-        ensures kept { IfSome result (IsKept ⟦<MemoryReceipt as Receipt>⟧.stands (IsEntryIn F.Key.bytes_of F.Value.bytes_of F.Key.is_known F.Value.is_known
-            F.Key.SIZE F.Value.SIZE) F.Key.cmp F.parts.joined F.meaning F.code self.old self.new step) }
+        ensures kept { IfSome result (IsKept ⟦<MemoryReceipt as Receipt>⟧.stands (IsEntryIn F.Key.codec F.Value.codec) F.Key.cmp F.parts.joined F.meaning F.code self.old self.new step) }
         ensures none { IfNone result (self.new ≡ self.old) }
     {
         let Ok(()) = self.outcomes.try_reserve(1) else {
@@ -87,8 +86,7 @@ impl<F: Mergeable> World<F> {
     /// the page that was taken, and a load whose page could not be read, or is damaged, ends its operation without effect
     /// and takes its moment.
     pub fn step(&mut self, functions: &F, step: StepOf<F>) -> Result<OutcomeOf<F>, Refused>
-        ensures effect { Steps ⟦<MemoryReceipt as Receipt>⟧.stands (IsEntryIn F.Key.bytes_of F.Value.bytes_of F.Key.is_known F.Value.is_known
-            F.Key.SIZE F.Value.SIZE) F.Key.cmp F.parts.joined F.meaning F.code self.old self.new step result }
+        ensures effect { Steps ⟦<MemoryReceipt as Receipt>⟧.stands (IsEntryIn F.Key.codec F.Value.codec) F.Key.cmp F.parts.joined F.meaning F.code self.old self.new step result }
         ensures headline { IsHeadline F.Key.cmp F.meaning F.code self.new }
     {
         let told = self.try_step(functions, step);

@@ -1,44 +1,15 @@
-//! Pages on their way to a device.
-ghost use Rattle.std.specs.Prelude.{◌≡◌, ◌<◌, ◌↔◌, ◌⊎◌, [], Some, None, Err, IfOk, IfErr, IfSome, OnOk, OnErr};
-ghost use Rattle.std.specs.Prelude.{length, slice_get};
-ghost use Rattle.fkv_pages.specs.Loads.{IsHeldBy};
+//! Pages that were written to a device.
+ghost use Rattle.std.specs.Prelude.{◌≡◌, None, Err, IfErr, IfSome, OnOk, OnErr};
 ghost use Rattle.fkv_hybrid.specs.Flushes.{flush_refusal};
 ghost use Rattle.fkv_hybrid.specs.Views.{with_receipt};
 
 use crate::log::Log;
-use fkv_device::{FlushJob, Receipt, Written};
+use fkv_device::{Receipt, Written};
 use fkv_functions::{Fixed, Refused};
-use std::alloc::Global;
 
 impl<K: Fixed, V: Fixed, R: Receipt> Log<K, V, R> {
-    /// The lowest page that is not flushed.
-    pub fn unflushed(&self) -> u64
-        ensures { result ≡ length self.now.receipts }
-    {
-        self.pages.unflushed()
-    }
-
-    /// A copy of the lowest page that is not flushed. Refused: `NotDue` where it does not end at or below SafeReadOnly,
-    /// `NoMemory`.
-    pub fn flush_take(&self, alloc: Global) -> Result<FlushJob, Refused>
-        ensures page { IfOk result (λ job. job.page ≡ length self.now.receipts) }
-        ensures bytes { IfOk result (λ job. slice_get self.now.waiting 0 ≡ Some job.bytes) }
-        ensures due { (result ≡ Err Refused.NotDue) ↔ (self.now.waiting ≡ []) }
-        ensures only { IfErr result (λ refused. (refused ≡ Refused.NotDue) ⊎ (refused ≡ Refused.NoMemory)) }
-    {
-        self.pages.flush_take(alloc)
-    }
-
-    /// Why a written page would not be taken in, but for want of memory: `Stranger` where another page is the lowest
-    /// that is not flushed, `NotDue` where that one does not wait, `Stranger` where its bytes are others.
-    pub fn flush_refusal(&self, written: &Written<R>) -> Option<Refused>
-        ensures { result ≡ flush_refusal self.now (R.stands written.now.receipt).page written.now.bytes }
-    {
-        self.pages.flush_refusal(written)
-    }
-
     /// Takes in that the lowest page that is not flushed was written, and keeps its receipt. Refused, and then nothing
-    /// changes: as [`Log::flush_refusal`] says, and then `NoMemory`.
+    /// changes: as [`fkv_pages::Pages::flush_refusal`] says, and then `NoMemory`.
     pub fn flush_done(&mut self, written: Written<R>) -> Result<(), Refused>
         ensures refused { IfSome (flush_refusal self.old (R.stands written.receipt).page written.bytes)
             (λ why. result ≡ Err why) }
@@ -56,14 +27,5 @@ impl<K: Fixed, V: Fixed, R: Receipt> Log<K, V, R> {
             }
             Err(refused) => Err(refused),
         }
-    }
-
-    /// A receipt of a flushed page, by which it can be read. Refused: `NoMemory`.
-    pub fn receipt(&self, page: u64) -> Result<R, Refused>
-        requires { page < length self.now.receipts }
-        ensures stands { IfOk result (λ r. IsHeldBy self.now.receipts page (R.stands r)) }
-        ensures memory { IfErr result (λ refused. refused ≡ Refused.NoMemory) }
-    {
-        self.pages.receipt(page)
     }
 }

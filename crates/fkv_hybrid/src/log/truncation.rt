@@ -31,10 +31,10 @@ impl<K: Fixed, V: Fixed, R: Receipt> Log<K, V, R> {
         ensures { IsTrue result ↔ IsTruncationDue self.now page }
     {
         self.known();
-        if page > self.unflushed() {
+        if page > self.pages.unflushed() {
             return false;
         }
-        let start = self.shape().start(page);
-        self.begin() < start && start <= self.regions.offsets().head
+        let start = self.pages.shape().start(page);
+        self.pages.begin() < start && start <= self.regions.offsets().head
     }
 }

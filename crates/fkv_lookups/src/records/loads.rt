@@ -22,14 +22,14 @@ impl<F: Mergeable, R: Receipt> Records<F, R> {
     pub fn page_of(&self, address: Address) -> u64
         ensures { result ≡ page_at self.now.page_bits address }
     {
-        self.log.shape().page_of(address)
+        self.log.pages().shape().page_of(address)
     }
 
     /// Whether a record may stand at an address.
     pub fn is_place(&self, address: Address) -> bool
         ensures { IsTrue result ↔ IsRecordStart self.now.page_bits self.now.record_size address }
     {
-        self.log.shape().is_place(address)
+        self.log.pages().shape().is_place(address)
     }
 
     /// Whether a page was read by the receipt that is kept of it. Refused: `Stranger` where it was read by another.
@@ -41,7 +41,7 @@ impl<F: Mergeable, R: Receipt> Records<F, R> {
             × (refused
             ≡ Refused.Stranger what.Receipt s.number (R.stands loaded.now.receipt).number))) }
     {
-        self.log.is_own(loaded, page)
+        self.log.pages().is_own(loaded, page)
     }
 
     /// The record at an address of a flushed page, from the page as a device gave it by the receipt that is kept of it
@@ -54,16 +54,14 @@ impl<F: Mergeable, R: Receipt> Records<F, R> {
     ) -> Result<Entry<F::Key, F::Value>, Refused>
         requires own { IsHeldBy self.now.receipts (page_at self.now.page_bits address)
             (R.stands loaded.now.receipt) }
-        ensures only { IfOk result (IsEntryIn F.Key.bytes_of F.Value.bytes_of F.Key.is_known F.Value.is_known
-            F.Key.SIZE F.Value.SIZE self.now.page_bits loaded.now.bytes address) }
+        ensures only { IfOk result (IsEntryIn F.Key.codec F.Value.codec self.now.page_bits loaded.now.bytes address) }
         ensures found { (e : Entry F.Key F.Value)
-            → IsEntryIn F.Key.bytes_of F.Value.bytes_of F.Key.is_known F.Value.is_known
-            F.Key.SIZE F.Value.SIZE self.now.page_bits loaded.now.bytes address e
+            → IsEntryIn F.Key.codec F.Value.codec self.now.page_bits loaded.now.bytes address e
             → result ≡ Ok e }
         ensures damaged { IfErr result (λ refused. refused ≡ Refused.Damaged (page_at self.now.page_bits address)) }
         ensures kept { IsTrue R.keeps → IfSome (entry_at self.now.entries address) (λ e. result ≡ Ok e) }
     {
-        self.log.own_record_in(loaded, address)
+        self.log.pages().own_record_in(loaded, address)
     }
 
     /// Where the first record of a flushed page stands.
@@ -71,7 +69,7 @@ impl<F: Mergeable, R: Receipt> Records<F, R> {
         requires { page < length self.now.receipts }
         ensures { result ≡ first_place self.now.page_bits page }
     {
-        self.log.first_of(page)
+        self.log.pages().first_of(page)
     }
 
     /// Goes from an address of a flushed page along previous addresses, in the page as a device gave it by the receipt that
@@ -91,8 +89,7 @@ impl<F: Mergeable, R: Receipt> Records<F, R> {
         requires own { IsHeldBy self.now.receipts (page_at self.now.page_bits from) (R.stands loaded.now.receipt) }
         requires floor { first_place self.now.page_bits (page_at self.now.page_bits from) ≤ low }
         ensures damaged { IfErr result (λ refused. refused ≡ Refused.Damaged (page_at self.now.page_bits from)) }
-        ensures read { IsGathered F.parts.joined (IsEntryIn F.Key.bytes_of F.Value.bytes_of F.Key.is_known F.Value.is_known
-            F.Key.SIZE F.Value.SIZE self.now.page_bits loaded.now.bytes) F.Key.cmp key.now self.now.page_bits low
+        ensures read { IsGathered F.parts.joined (IsEntryIn F.Key.codec F.Value.codec self.now.page_bits loaded.now.bytes) F.Key.cmp key.now self.now.page_bits low
             from parts result }
         ensures kept { IsTrue R.keeps
             → self.now.begin ≤ from
@@ -102,17 +99,15 @@ impl<F: Mergeable, R: Receipt> Records<F, R> {
             × GoesOn F.Key.cmp F.parts.joined F.code self.now key.now low from parts r }
     {
         let page = self.page_of(from);
+        let pages = self.log.pages();
         let mut parts = parts;
-        let mut position = match self.log.own_first_in_page(loaded, key, from, page, low) {
+        let mut position = match pages.own_first_in_page(loaded, key, from, page, low) {
             Ok(position) => position,
             Err(refused) => return Err(refused),
         };
         while let Some(last) = delta_at(&position) {
             parts = onto(functions, last.value, parts);
-            position = match self
-                .log
-                .own_first_in_page(loaded, key, last.previous, page, low)
-            {
+            position = match pages.own_first_in_page(loaded, key, last.previous, page, low) {
                 Ok(position) => position,
                 Err(refused) => return Err(refused),
             };

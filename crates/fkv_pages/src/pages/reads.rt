@@ -28,11 +28,11 @@ impl<K: Fixed, V: Fixed, R: Receipt> Pages<K, V, R> {
         ensures own { OnOk result (IsHeldBy self.now.receipts (page_at self.now.bits address)
             (R.stands loaded.now.receipt)) }
         ensures only { IsHeldBy self.now.receipts (page_at self.now.bits address) (R.stands loaded.now.receipt)
-            → IfOk result (IsEntryIn K.bytes_of V.bytes_of K.is_known V.is_known K.SIZE V.SIZE self.now.bits
+            → IfOk result (IsEntryIn K.codec V.codec self.now.bits
             loaded.now.bytes address) }
         ensures found { IsHeldBy self.now.receipts (page_at self.now.bits address) (R.stands loaded.now.receipt)
             → (e : Entry K V)
-            → IsEntryIn K.bytes_of V.bytes_of K.is_known V.is_known K.SIZE V.SIZE self.now.bits
+            → IsEntryIn K.codec V.codec self.now.bits
             loaded.now.bytes address e
             → result ≡ Ok e }
         ensures damaged { IsHeldBy self.now.receipts (page_at self.now.bits address)
@@ -58,10 +58,10 @@ impl<K: Fixed, V: Fixed, R: Receipt> Pages<K, V, R> {
         address: Address,
     ) -> Result<Entry<K, V>, Refused>
         requires own { IsHeldBy self.now.receipts (page_at self.now.bits address) (R.stands loaded.now.receipt) }
-        ensures only { IfOk result (IsEntryIn K.bytes_of V.bytes_of K.is_known V.is_known K.SIZE V.SIZE self.now.bits
+        ensures only { IfOk result (IsEntryIn K.codec V.codec self.now.bits
             loaded.now.bytes address) }
         ensures found { (e : Entry K V)
-            → IsEntryIn K.bytes_of V.bytes_of K.is_known V.is_known K.SIZE V.SIZE self.now.bits
+            → IsEntryIn K.codec V.codec self.now.bits
             loaded.now.bytes address e
             → result ≡ Ok e }
         ensures damaged { IfErr result (λ refused. refused ≡ Refused.Damaged (page_at self.now.bits address)) }
@@ -110,7 +110,7 @@ impl<K: FixedKey, V: Fixed, R: Receipt> Pages<K, V, R> {
         requires within { page_at self.now.bits from ≤ page }
         requires floor { first_place self.now.bits page ≤ low }
         ensures damaged { IfErr result (λ refused. refused ≡ Refused.Damaged page) }
-        ensures read { IsReached (IsEntryIn K.bytes_of V.bytes_of K.is_known V.is_known K.SIZE V.SIZE self.now.bits
+        ensures read { IsReached (IsEntryIn K.codec V.codec self.now.bits
             loaded.now.bytes) K.cmp key.now self.now.bits low from result }
         // on a device that keeps, it is the text's chain
         ensures kept { IsTrue R.keeps

@@ -48,8 +48,8 @@ fn run_line<F: Mergeable<Key = Name, Input = i64>>(
 ) -> Option<Result<OutcomeOf<F>, Refused>>
 where
     F::Value: Written,
-    ensures { IfSome result (λ told. RunsLine standing_of (IsNamedEntry F.Value.bytes_of F.Value.is_known F.Value.SIZE)
-        name_cmp F.parts.joined F.meaning F.code F.Value.written world.old world.new told line.now) }
+    ensures { IfSome result (λ told. RunsLine standing_of (IsNamedEntry F.Value.codec)
+        name_cmp F.parts.joined F.meaning F.code F.Value.Written.written world.old world.new told line.now) }
 {
     let step = match *line {
         Line::Enter { partition } => Step::Enter(partition as usize),
@@ -114,8 +114,8 @@ fn do_operation<F: Mergeable<Key = Name, Input = i64>>(
 ) -> Option<Result<OutcomeOf<F>, Refused>>
 where
     F::Value: Written,
-    ensures { IfSome result (λ told. RunsLine standing_of (IsNamedEntry F.Value.bytes_of F.Value.is_known F.Value.SIZE)
-        name_cmp F.parts.joined F.meaning F.code F.Value.written world.old world.new told (Line.Do partition slot op)) }
+    ensures { IfSome result (λ told. RunsLine standing_of (IsNamedEntry F.Value.codec)
+        name_cmp F.parts.joined F.meaning F.code F.Value.Written.written world.old world.new told (Line.Do partition slot op)) }
 {
     let Some(issued) = world.try_step(functions, Step::Issue(partition, slot, on_values(op))) else {
         return None;
@@ -132,8 +132,8 @@ fn compact<F: Mergeable<Key = Name, Input = i64>>(
 ) -> Option<Result<OutcomeOf<F>, Refused>>
 where
     F::Value: Written,
-    ensures { IfSome result (λ told. RunsLine standing_of (IsNamedEntry F.Value.bytes_of F.Value.is_known F.Value.SIZE)
-        name_cmp F.parts.joined F.meaning F.code F.Value.written
+    ensures { IfSome result (λ told. RunsLine standing_of (IsNamedEntry F.Value.codec)
+        name_cmp F.parts.joined F.meaning F.code F.Value.Written.written
         world.old world.new told (Line.Compact partition slot)) }
 {
     let Some(issued) = world.try_step(functions, Step::Issue(partition, slot, Op::Relocate)) else {
@@ -151,7 +151,7 @@ fn finish_issued<F: Mergeable<Key = Name, Input = i64>>(
     issued: Result<OutcomeOf<F>, Refused>,
 ) -> Option<Result<OutcomeOf<F>, Refused>>
     ensures { IfSome result (λ told. FollowsIssue standing_of
-        (IsNamedEntry F.Value.bytes_of F.Value.is_known F.Value.SIZE) name_cmp F.parts.joined F.meaning F.code
+        (IsNamedEntry F.Value.codec) name_cmp F.parts.joined F.meaning F.code
         partition slot
         world.old world.new told issued) }
 {
@@ -176,8 +176,8 @@ fn flush<F: Mergeable<Key = Name, Input = i64>>(
 ) -> Option<Result<OutcomeOf<F>, Refused>>
 where
     F::Value: Written,
-    ensures { IfSome result (λ told. RunsLine standing_of (IsNamedEntry F.Value.bytes_of F.Value.is_known F.Value.SIZE)
-        name_cmp F.parts.joined F.meaning F.code F.Value.written
+    ensures { IfSome result (λ told. RunsLine standing_of (IsNamedEntry F.Value.codec)
+        name_cmp F.parts.joined F.meaning F.code F.Value.Written.written
         world.old world.new told (Line.Flush partition access)) }
 {
     let Some(taken) = world.try_step(functions, Step::Take(partition)) else {
@@ -198,8 +198,8 @@ fn run_lines<F: Mergeable<Key = Name, Input = i64>>(
 ) -> Result<Vec<Result<OutcomeOf<F>, Refused>>, Refused>
 where
     F::Value: Written,
-    ensures ok { IfOk result (λ told. RunLines standing_of (IsNamedEntry F.Value.bytes_of F.Value.is_known F.Value.SIZE)
-        name_cmp F.parts.joined F.meaning F.code F.Value.written world.old lines.now told.items world.new) }
+    ensures ok { IfOk result (λ told. RunLines standing_of (IsNamedEntry F.Value.codec)
+        name_cmp F.parts.joined F.meaning F.code F.Value.Written.written world.old lines.now told.items world.new) }
     ensures only { IfErr result (λ refused. refused ≡ Refused.NoMemory) }
 {
     let mut told = Vec::new(alloc);
@@ -226,8 +226,8 @@ where
     F::Value: Written + Printed,
     F::Output: Printed,
     ensures ok { IfOk result (λ text. IsPrintedBy standing_of
-        (IsNamedEntry F.Value.bytes_of F.Value.is_known F.Value.SIZE) name_cmp F.parts.joined F.meaning F.code
-        F.Value.written
+        (IsNamedEntry F.Value.codec) name_cmp F.parts.joined F.meaning F.code
+        F.Value.Written.written
         F.Value.text F.Output.text F.MERGES config.now (size_of 32 F.Value.SIZE) lines.now text.items) }
     ensures good { result ≢ Err Refused.BadConfig → IsWithinLimits config.now (size_of 32 F.Value.SIZE) }
     ensures bad { result ≡ Err Refused.BadConfig → ¬ IsWithinLimits config.now (size_of 32 F.Value.SIZE) }
@@ -251,9 +251,9 @@ where
     F::Output: Printed,
     // Of whatever configuration the world is, with nothing in it.
     ensures ok { IfOk result (λ text. (config : Config) (size : ℕ) → world.old ≡ empty_world F.MERGES config size
-        → IsPrintedBy standing_of (IsNamedEntry F.Value.bytes_of F.Value.is_known F.Value.SIZE) name_cmp
+        → IsPrintedBy standing_of (IsNamedEntry F.Value.codec) name_cmp
         F.parts.joined F.meaning
-        F.code F.Value.written F.Value.text F.Output.text F.MERGES config size lines.now text.items) }
+        F.code F.Value.Written.written F.Value.text F.Output.text F.MERGES config size lines.now text.items) }
     ensures only { IfErr result (λ refused. refused ≡ Refused.NoMemory) }
 {
     let told = match run_lines(alloc, world, functions, lines) {

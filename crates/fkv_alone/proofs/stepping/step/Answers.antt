@@ -44,7 +44,7 @@ pub returns-in-NeedsLoad-clause-advances : goal.returns-in-NeedsLoad-clause-adva
 returns-in-NeedsLoad-clause-advances g c = λ op old started h.
     let v = c.args.partition.now in
     let w = c.load_by.new.self in
-    let entry = IsEntryIn g.F.Key.Fixed.bytes_of g.F.Value.Fixed.bytes_of g.F.Key.Known.is_known g.F.Value.Known.is_known g.F.Key.Fixed.SIZE g.F.Value.Fixed.SIZE in
+    let entry = IsEntryIn g.F.Key.Fixed.codec g.F.Value.Fixed.codec in
     let on = reads-on-key v w c.args.slot c.args.context c.args.now c.requires.none g.R.Receipt.stands entry g.F.Key.Ord.cmp g.F.Mergeable.parts.joined g.F.Functions.meaning g.F.Functions.code (g.P.PageReader.failures c.args.reader.now) (g.P.PageReader.failures c.load_by.new.reader) c.load_by.result c.load_by.ensures.effect in
     reads-advances g.R.Receipt.keeps g.R.Receipt.stands g.F.Key.Ord.cmp g.F.Mergeable.parts.joined g.F.Functions.meaning g.F.Functions.code op old v.core w.core c.args.slot c.args.context started c.args.now c.requires.later
     entry
@@ -55,7 +55,7 @@ pub returns-in-NeedsLoad-clause-nearer : goal.returns-in-NeedsLoad-clause-nearer
 returns-in-NeedsLoad-clause-nearer g c = λ n kept near.
     let v = c.args.partition.now in
     let w = c.load_by.new.self in
-    let entry = IsEntryIn g.F.Key.Fixed.bytes_of g.F.Value.Fixed.bytes_of g.F.Key.Known.is_known g.F.Value.Known.is_known g.F.Key.Fixed.SIZE g.F.Value.Fixed.SIZE in
+    let entry = IsEntryIn g.F.Key.Fixed.codec g.F.Value.Fixed.codec in
     let on = reads-on-key v w c.args.slot c.args.context c.args.now c.requires.none g.R.Receipt.stands entry g.F.Key.Ord.cmp g.F.Mergeable.parts.joined g.F.Functions.meaning g.F.Functions.code (g.P.PageReader.failures c.args.reader.now) (g.P.PageReader.failures c.load_by.new.reader) c.load_by.result c.load_by.ensures.effect in
     reads-nearer g.R.Receipt.keeps g.F.Key.Ord.cmp g.F.Mergeable.parts.joined g.F.Functions.code v.core c.args.slot c.args.context n c.known.ensures.core g.R.Receipt.stands g.F.Functions.meaning w.core c.args.now kept
     entry
@@ -65,7 +65,7 @@ pub returns-in-NeedsLoad-clause-rest : goal.returns-in-NeedsLoad-clause-rest
 returns-in-NeedsLoad-clause-rest g c =
     let v = c.args.partition.now in
     let w = c.load_by.new.self in
-    let entry = IsEntryIn g.F.Key.Fixed.bytes_of g.F.Value.Fixed.bytes_of g.F.Key.Known.is_known g.F.Value.Known.is_known g.F.Key.Fixed.SIZE g.F.Value.Fixed.SIZE in
+    let entry = IsEntryIn g.F.Key.Fixed.codec g.F.Value.Fixed.codec in
     let on = reads-on-key v w c.args.slot c.args.context c.args.now c.requires.none g.R.Receipt.stands entry g.F.Key.Ord.cmp g.F.Mergeable.parts.joined g.F.Functions.meaning g.F.Functions.code (g.P.PageReader.failures c.args.reader.now) (g.P.PageReader.failures c.load_by.new.reader) c.load_by.result c.load_by.ensures.effect in
     on.1
 
@@ -73,7 +73,7 @@ pub returns-in-NeedsLoad-clause-spoilt : goal.returns-in-NeedsLoad-clause-spoilt
 returns-in-NeedsLoad-clause-spoilt g c = λ page told same.
     let v = c.args.partition.now in
     let w = c.load_by.new.self in
-    let entry = IsEntryIn g.F.Key.Fixed.bytes_of g.F.Value.Fixed.bytes_of g.F.Key.Known.is_known g.F.Value.Known.is_known g.F.Key.Fixed.SIZE g.F.Value.Fixed.SIZE in
+    let entry = IsEntryIn g.F.Key.Fixed.codec g.F.Value.Fixed.codec in
     let on = reads-on-key v w c.args.slot c.args.context c.args.now c.requires.none g.R.Receipt.stands entry g.F.Key.Ord.cmp g.F.Mergeable.parts.joined g.F.Functions.meaning g.F.Functions.code (g.P.PageReader.failures c.args.reader.now) (g.P.PageReader.failures c.load_by.new.reader) c.load_by.result c.load_by.ensures.effect in
     reads-spoilt entry same (rw told at on.0)
 

@@ -5,6 +5,6 @@ use Rattle.fkv_feeds.proofs.reading.read_feed.Goals as goal
 pub returns-clause-told : goal.returns-clause-told
 returns-clause-told g c =
     err_weaker _ c.read_feed.result
-    (λ e t. feed-told (IsRunFault g.D.Receipt.Receipt.keeps g.D.Disk.failures g.D.Writer.PageWriter.failures g.D.Reader.PageReader.failures g.F.Value.Fixed.bytes_of g.F.Value.Known.is_known g.F.Value.Fixed.SIZE) c.args.feed c.args.limit (g.S.Source.remaining c.args.source.now) (g.S.Source.failures c.args.source.now) (g.S.Source.failures c.read_feed.new.source) e
+    (λ e t. feed-told (IsRunFault g.D.Receipt.Receipt.keeps g.D.Disk.failures g.D.Writer.PageWriter.failures g.D.Reader.PageReader.failures g.F.Value.Fixed.codec) c.args.feed c.args.limit (g.S.Source.remaining c.args.source.now) (g.S.Source.failures c.args.source.now) (g.S.Source.failures c.read_feed.new.source) e
     (devices-by g.D.Receipt.Receipt.keeps g.D.Disk.failures g.D.Writer.PageWriter.failures g.D.Reader.PageReader.failures _ _ e) t)
     c.read_feed.ensures.told

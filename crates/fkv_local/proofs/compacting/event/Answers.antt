@@ -2,7 +2,7 @@ use Rattle.std.proofs.Common.{refl}
 use Rattle.std.proofs.lemmas.Result.{IfErr-weaker}
 use Rattle.fkv_local.specs.Refusing.{IsWorkRefusal}
 use Rattle.fkv_local.proofs.ClearLemmas.{but-same, go-stays, load-stays}
-use Rattle.fkv_local.proofs.RelocateLemmas.{wanted-here, wanted-held, go-wants, load-wants, load-receipts, load-told, kept-then}
+use Rattle.fkv_local.proofs.RelocateLemmas.{wanted-here, wanted-held, go-wants, load-wants, load-receipts, load-told, kept-then, own-waits}
 use Rattle.fkv_local.proofs.WorkLemmas.{same-both, work-since}
 use Rattle.fkv_local.proofs.compacting.event.Goals as goal
 
@@ -22,22 +22,28 @@ pub returns-in-None-clause-wants : goal.returns-in-None-clause-wants
 returns-in-None-clause-wants g c = go-wants c.go.result (rw c.in-None.is at c.requires.wanted) c.go.ensures.effect
 
 pub returns-in-Ok-fetch-clause-stays : goal.returns-in-Ok-fetch-clause-stays
-returns-in-Ok-fetch-clause-stays g c = load-stays c.in-Ok.now c.load.result c.requires.only (c.load.ensures.relocating (wanted-here c.requires.wanted)) c.load.ensures.fails
+returns-in-Ok-fetch-clause-stays g c = load-stays c.in-Ok.now c.load_own.result c.requires.only (c.load_own.ensures.relocating (wanted-here c.requires.wanted)) c.load_own.ensures.fails
 
 pub returns-in-Ok-fetch-clause-wants : goal.returns-in-Ok-fetch-clause-wants
 returns-in-Ok-fetch-clause-wants g c =
     let wanted = rw c.in-Some.is at c.requires.wanted in
     let own = (c.in-Ok-fetch.ensures.same _ c.requires.kept (wanted-held c.pages_known.ensures.receipts wanted)).0 in
-    load-wants c.load.result own wanted c.load.ensures.effect
+    load-wants c.load_own.result own wanted c.load_own.ensures.effect
 
 pub returns-in-Ok-fetch-clause-kept : goal.returns-in-Ok-fetch-clause-kept
 returns-in-Ok-fetch-clause-kept g c =
     let wanted = rw c.in-Some.is at c.requires.wanted in
     let same = c.in-Ok-fetch.ensures.same _ c.requires.kept (wanted-held c.pages_known.ensures.receipts wanted) in
-    kept-then g.D.Receipt.Receipt.stands c.args.shard.now.part.partition.core.records.receipts c.load.new.self.core.records.receipts c.fetch.new.self.is_sure c.fetch.new.self.page c.load.result (load-receipts c.load.result same.0 wanted c.load.ensures.effect) same.1
+    kept-then g.D.Receipt.Receipt.stands c.args.shard.now.part.partition.core.records.receipts c.load_own.new.self.core.records.receipts c.fetch.new.self.is_sure c.fetch.new.self.page c.load_own.result (load-receipts c.load_own.result same.0 wanted c.load_own.ensures.effect) same.1
 
 pub returns-in-Ok-fetch-clause-told : goal.returns-in-Ok-fetch-clause-told
 returns-in-Ok-fetch-clause-told g c =
     let wanted = rw c.in-Some.is at c.requires.wanted in
     let own = (c.in-Ok-fetch.ensures.same _ c.requires.kept (wanted-held c.pages_known.ensures.receipts wanted)).0 in
-    IfErr-weaker c.load.result _ _ (λ e. work-since (same-both refl c.in-Ok-fetch.ensures.steady)) (load-told c.load.result own wanted c.load.ensures.effect _ _)
+    IfErr-weaker c.load_own.result _ _ (λ e. work-since (same-both refl c.in-Ok-fetch.ensures.steady)) (load-told c.load_own.result own wanted c.load_own.ensures.effect _ _)
+
+pub load_own-requires-clause-own : goal.load_own-requires-clause-own
+load_own-requires-clause-own g c =
+    let wanted = rw c.in-Some.is at c.requires.wanted in
+    let own = (c.in-Ok-fetch.ensures.same _ c.requires.kept (wanted-held c.pages_known.ensures.receipts wanted)).0 in
+    λ page waits. own-waits own wanted waits

@@ -16,7 +16,7 @@ returns-then-eq g c =
     c.loop-address.invariant _ (found c.loop-address-test.true c.in-Ok.ensures.only own)
 
 pub loop-address-smaller : goal.loop-address-smaller
-loop-address-smaller g c = entry_falls g.K.Fixed.bytes_of g.V.Fixed.bytes_of g.K.Known.is_known g.V.Known.is_known g.K.Fixed.SIZE g.V.Fixed.SIZE c.args.shape.page_bits c.args.shape.record_size c.args.page.now c.loop-address.address c.in-Ok.entry c.args.shape.limits c.requires.size c.in-Ok.ensures.only
+loop-address-smaller g c = entry_falls g.K.Fixed.codec g.V.Fixed.codec c.args.shape.page_bits c.args.shape.record_size c.args.page.now c.loop-address.address c.in-Ok.entry c.args.shape.limits c.requires.size c.in-Ok.ensures.only
 
 pub loop-address-preserved : goal.loop-address-preserved
 loop-address-preserved g c =

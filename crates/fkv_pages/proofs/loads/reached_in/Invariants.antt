@@ -9,8 +9,8 @@ use Rattle.fkv_pages.proofs.loads.reached_in.Given as goal
 abbrev pub invariant-loop-address : goal.invariant-loop-address
 invariant-loop-address g l =
     (r : Result (ChainPosition g.row.K.Denot g.row.V.Denot) Refused)
-    → IsReached (IsEntryIn g.K.Fixed.bytes_of g.V.Fixed.bytes_of g.K.Known.is_known g.V.Known.is_known g.K.Fixed.SIZE g.V.Fixed.SIZE l.shape.page_bits l.page) g.K.Ord.cmp l.key l.shape.page_bits l.low l.address r
-    → IsReached (IsEntryIn g.K.Fixed.bytes_of g.V.Fixed.bytes_of g.K.Known.is_known g.V.Known.is_known g.K.Fixed.SIZE g.V.Fixed.SIZE l.shape.page_bits l.page) g.K.Ord.cmp l.key l.shape.page_bits l.low l.from r
+    → IsReached (IsEntryIn g.K.Fixed.codec g.V.Fixed.codec l.shape.page_bits l.page) g.K.Ord.cmp l.key l.shape.page_bits l.low l.address r
+    → IsReached (IsEntryIn g.K.Fixed.codec g.V.Fixed.codec l.shape.page_bits l.page) g.K.Ord.cmp l.key l.shape.page_bits l.low l.from r
 
 abbrev pub decreases-loop-address : goal.decreases-loop-address
 decreases-loop-address g l = l.address

@@ -5,7 +5,7 @@ use Rattle.fkv_partition.proofs.laws.merges_load_nothing.Goals as goal
 pub returns : goal.returns
 returns g c = λ keeps join code old new slot at came now x k i result sound compacting here is loads.
     merge-loads g.F.Key.Ord.cmp join code old slot at compacting x k i here is g.F.Functions.meaning g.R.Receipt.stands
-    (IsEntryIn g.F.Key.Fixed.bytes_of g.F.Value.Fixed.bytes_of g.F.Key.Known.is_known g.F.Value.Known.is_known g.F.Key.Fixed.SIZE g.F.Value.Fixed.SIZE)
+    (IsEntryIn g.F.Key.Fixed.codec g.F.Value.Fixed.codec)
     new came now result
     (λ y h m. c.merges_take_no_page.ensures keeps join code old.core new.core slot at came now y result sound h m)
     loads

@@ -19,14 +19,14 @@ pub returns-in-Ok-clause-ok : goal.returns-in-Ok-clause-ok
 returns-in-Ok-clause-ok g c =
     let size = size_of g.F.Key.Fixed.SIZE g.F.Value.Fixed.SIZE in
     IfOk-weaker c.run.result _ _ (λ v h.
-    let ran : RunsTo stands (IsEntryIn {K = g.row.F-Key.Denot} {V = g.row.F-Value.Denot} g.F.Key.Fixed.bytes_of g.F.Value.Fixed.bytes_of g.F.Key.Known.is_known g.F.Value.Known.is_known g.F.Key.Fixed.SIZE g.F.Value.Fixed.SIZE) g.F.Key.Ord.cmp g.F.Mergeable.parts.joined g.F.Functions.meaning g.F.Functions.code (empty_world g.F.Mergeable.MERGES c.args.config.now size) c.args.steps.now c.run.new.world = rw (← c.in-Ok.ensures.ok) h.0 in
+    let ran : RunsTo stands (IsEntryIn {K = g.row.F-Key.Denot} {V = g.row.F-Value.Denot} g.F.Key.Fixed.codec g.F.Value.Fixed.codec) g.F.Key.Ord.cmp g.F.Mergeable.parts.joined g.F.Functions.meaning g.F.Functions.code (empty_world g.F.Mergeable.MERGES c.args.config.now size) c.args.steps.now c.run.new.world = rw (← c.in-Ok.ensures.ok) h.0 in
     record {
       world = c.run.new.world;
       ran = ran;
       headline = c.run.ensures.headline;
       report = h.1;
       issued = ap (map issue_of) h.1.lives
-          ∙ issued-runs stands (IsEntryIn {K = g.row.F-Key.Denot} {V = g.row.F-Value.Denot} g.F.Key.Fixed.bytes_of g.F.Value.Fixed.bytes_of g.F.Key.Known.is_known g.F.Value.Known.is_known g.F.Key.Fixed.SIZE g.F.Value.Fixed.SIZE) g.F.Key.Ord.cmp g.F.Mergeable.parts.joined g.F.Functions.meaning g.F.Functions.code g.F.Mergeable.MERGES c.args.config.now size c.run.new.world c.args.steps.now ran
+          ∙ issued-runs stands (IsEntryIn {K = g.row.F-Key.Denot} {V = g.row.F-Value.Denot} g.F.Key.Fixed.codec g.F.Value.Fixed.codec) g.F.Key.Ord.cmp g.F.Mergeable.parts.joined g.F.Functions.meaning g.F.Functions.code g.F.Mergeable.MERGES c.args.config.now size c.run.new.world c.args.steps.now ran
           ∙ ap (λ ts. issues_in (backwards c.args.steps.now ts [])) (sym h.1.outcomes);
     }) c.run.ensures.ok
 

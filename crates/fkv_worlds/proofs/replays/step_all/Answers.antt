@@ -17,4 +17,4 @@ loop-step-preserved g c =
 
 pub returns-clause-ok : goal.returns-clause-ok
 returns-clause-ok g c =
-    subst (λ ss. RunsTo stands (IsEntryIn {K = g.row.F-Key.Denot} {V = g.row.F-Value.Denot} g.F.Key.Fixed.bytes_of g.F.Value.Fixed.bytes_of g.F.Key.Known.is_known g.F.Value.Known.is_known g.F.Key.Fixed.SIZE g.F.Value.Fixed.SIZE) g.F.Key.Ord.cmp g.F.Mergeable.parts.joined g.F.Functions.meaning g.F.Functions.code c.args.world.now ss c.loop-step.world) (take-all c.loop-step.step-index c.args.steps.now (let t = c.loop-step-test.false in omega arith)) c.loop-step.invariant
+    subst (λ ss. RunsTo stands (IsEntryIn {K = g.row.F-Key.Denot} {V = g.row.F-Value.Denot} g.F.Key.Fixed.codec g.F.Value.Fixed.codec) g.F.Key.Ord.cmp g.F.Mergeable.parts.joined g.F.Functions.meaning g.F.Functions.code c.args.world.now ss c.loop-step.world) (take-all c.loop-step.step-index c.args.steps.now (let t = c.loop-step-test.false in omega arith)) c.loop-step.invariant

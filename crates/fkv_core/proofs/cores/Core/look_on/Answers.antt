@@ -57,9 +57,9 @@ returns-in-Err-clause-effect g c =
     let l = c.args.loading in
     let a = c.requires.awaits in
     let p = c.args.loaded in
-    let came = came-of g.R.Receipt.keeps (IsEntryIn g.F.Key.Fixed.bytes_of g.F.Value.Fixed.bytes_of g.F.Key.Known.is_known g.F.Value.Known.is_known g.F.Key.Fixed.SIZE g.F.Value.Fixed.SIZE) g.F.Key.Ord.cmp g.F.Mergeable.parts.joined g.F.Functions.code (view_of g.F.Mergeable.MERGES c.self.inside.number c.self.inside.count c.self.inside.records c.self.inside.contexts.items c.self.inside.moment) v c.key-key.result (key_of x.op) c.page_of-page.result c.first_of-low.result l.wanted l.parts (g.R.Receipt.stands p.receipt) p.bytes c.trace_in.result c.self.view_is c.key-key.ensures c.page_of-page.ensures c.first_of-low.ensures c.requires.own c.trace_in.ensures.read c.trace_in.ensures.kept in
+    let came = came-of g.R.Receipt.keeps (IsEntryIn g.F.Key.Fixed.codec g.F.Value.Fixed.codec) g.F.Key.Ord.cmp g.F.Mergeable.parts.joined g.F.Functions.code (view_of g.F.Mergeable.MERGES c.self.inside.number c.self.inside.count c.self.inside.records c.self.inside.contexts.items c.self.inside.moment) v c.key-key.result (key_of x.op) c.page_of-page.result c.first_of-low.result l.wanted l.parts (g.R.Receipt.stands p.receipt) p.bytes c.trace_in.result c.self.view_is c.key-key.ensures c.page_of-page.ensures c.first_of-low.ensures c.requires.own c.trace_in.ensures.read c.trace_in.ensures.kept in
     let page : c.page_of-page.result ≡ page_at v.records.page_bits l.wanted = c.page_of-page.ensures ∙ ap (λ u. page_at u.records.page_bits l.wanted) c.self.view_is in
-    rw (c.free.ensures, page) (Loads.damaged x l p c.in-Err._damaged (reads-on g.F.Key.Ord.cmp g.F.Mergeable.parts.joined g.F.Functions.code order v c.known.ensures c.args.slot c.args.context x l a (IsEntryIn g.F.Key.Fixed.bytes_of g.F.Value.Fixed.bytes_of g.F.Key.Known.is_known g.F.Value.Known.is_known g.F.Key.Fixed.SIZE g.F.Value.Fixed.SIZE) (g.R.Receipt.stands p.receipt) p.bytes c.trace_in.result came (Err c.in-Err._damaged) c.in-Err.is) refl refl refl)
+    rw (c.free.ensures, page) (Loads.damaged x l p c.in-Err._damaged (reads-on g.F.Key.Ord.cmp g.F.Mergeable.parts.joined g.F.Functions.code order v c.known.ensures c.args.slot c.args.context x l a (IsEntryIn g.F.Key.Fixed.codec g.F.Value.Fixed.codec) (g.R.Receipt.stands p.receipt) p.bytes c.trace_in.result came (Err c.in-Err._damaged) c.in-Err.is) refl refl refl)
 
 pub tell-requires-clause-asks : goal.tell-requires-clause-asks
 tell-requires-clause-asks g c =
@@ -83,10 +83,10 @@ tell-requires-clause-kept g c =
     let l = c.args.loading in
     let a = c.requires.awaits in
     let p = c.args.loaded in
-    let came = came-of g.R.Receipt.keeps (IsEntryIn g.F.Key.Fixed.bytes_of g.F.Value.Fixed.bytes_of g.F.Key.Known.is_known g.F.Value.Known.is_known g.F.Key.Fixed.SIZE g.F.Value.Fixed.SIZE) g.F.Key.Ord.cmp g.F.Mergeable.parts.joined g.F.Functions.code (view_of g.F.Mergeable.MERGES c.self.inside.number c.self.inside.count c.self.inside.records c.self.inside.contexts.items c.self.inside.moment) v c.key-key.result (key_of x.op) c.page_of-page.result c.first_of-low.result l.wanted l.parts (g.R.Receipt.stands p.receipt) p.bytes c.trace_in.result c.self.view_is c.key-key.ensures c.page_of-page.ensures c.first_of-low.ensures c.requires.own c.trace_in.ensures.read c.trace_in.ensures.kept in
+    let came = came-of g.R.Receipt.keeps (IsEntryIn g.F.Key.Fixed.codec g.F.Value.Fixed.codec) g.F.Key.Ord.cmp g.F.Mergeable.parts.joined g.F.Functions.code (view_of g.F.Mergeable.MERGES c.self.inside.number c.self.inside.count c.self.inside.records c.self.inside.contexts.items c.self.inside.moment) v c.key-key.result (key_of x.op) c.page_of-page.result c.first_of-low.result l.wanted l.parts (g.R.Receipt.stands p.receipt) p.bytes c.trace_in.result c.self.view_is c.key-key.ensures c.page_of-page.ensures c.first_of-low.ensures c.requires.own c.trace_in.ensures.read c.trace_in.ensures.kept in
     let parts = c.in-Ok.came.parts in
     let is = c.in-Ok.is ∙ ap (λ q. Ok (record { parts = parts; position = q })) c.in-Found.is in
-    rw (c.onto-value.ensures, c.in-Found.last-is) (kept-told g.F.Key.Ord.cmp g.F.Mergeable.parts.joined g.F.Functions.code order v c.known.ensures c.args.slot c.args.context x l a (IsEntryIn g.F.Key.Fixed.bytes_of g.F.Value.Fixed.bytes_of g.F.Key.Known.is_known g.F.Value.Known.is_known g.F.Key.Fixed.SIZE g.F.Value.Fixed.SIZE) (g.R.Receipt.stands p.receipt) p.bytes c.trace_in.result came (record { parts = parts; position = Found c.in-Found.last }) (onto g.F.Mergeable.parts.joined c.in-Found.last.value parts) is (found c.in-Found.last parts))
+    rw (c.onto-value.ensures, c.in-Found.last-is) (kept-told g.F.Key.Ord.cmp g.F.Mergeable.parts.joined g.F.Functions.code order v c.known.ensures c.args.slot c.args.context x l a (IsEntryIn g.F.Key.Fixed.codec g.F.Value.Fixed.codec) (g.R.Receipt.stands p.receipt) p.bytes c.trace_in.result came (record { parts = parts; position = Found c.in-Found.last }) (onto g.F.Mergeable.parts.joined c.in-Found.last.value parts) is (found c.in-Found.last parts))
 
 pub returns-in-Found-clause-effect : goal.returns-in-Found-clause-effect
 returns-in-Found-clause-effect g c =
@@ -98,12 +98,12 @@ returns-in-Found-clause-effect g c =
     let l = c.args.loading in
     let a = c.requires.awaits in
     let p = c.args.loaded in
-    let came = came-of g.R.Receipt.keeps (IsEntryIn g.F.Key.Fixed.bytes_of g.F.Value.Fixed.bytes_of g.F.Key.Known.is_known g.F.Value.Known.is_known g.F.Key.Fixed.SIZE g.F.Value.Fixed.SIZE) g.F.Key.Ord.cmp g.F.Mergeable.parts.joined g.F.Functions.code (view_of g.F.Mergeable.MERGES c.self.inside.number c.self.inside.count c.self.inside.records c.self.inside.contexts.items c.self.inside.moment) v c.key-key.result (key_of x.op) c.page_of-page.result c.first_of-low.result l.wanted l.parts (g.R.Receipt.stands p.receipt) p.bytes c.trace_in.result c.self.view_is c.key-key.ensures c.page_of-page.ensures c.first_of-low.ensures c.requires.own c.trace_in.ensures.read c.trace_in.ensures.kept in
+    let came = came-of g.R.Receipt.keeps (IsEntryIn g.F.Key.Fixed.codec g.F.Value.Fixed.codec) g.F.Key.Ord.cmp g.F.Mergeable.parts.joined g.F.Functions.code (view_of g.F.Mergeable.MERGES c.self.inside.number c.self.inside.count c.self.inside.records c.self.inside.contexts.items c.self.inside.moment) v c.key-key.result (key_of x.op) c.page_of-page.result c.first_of-low.result l.wanted l.parts (g.R.Receipt.stands p.receipt) p.bytes c.trace_in.result c.self.view_is c.key-key.ensures c.page_of-page.ensures c.first_of-low.ensures c.requires.own c.trace_in.ensures.read c.trace_in.ensures.kept in
     let parts = c.in-Ok.came.parts in
     let is = c.in-Ok.is ∙ ap (λ q. Ok (record { parts = parts; position = q })) c.in-Found.is in
     let tells : Tells g.F.Mergeable.parts.joined v.records.begin (record { parts = parts; position = Found c.in-Found.last }) c.onto-value.result = rw (c.onto-value.ensures, c.in-Found.last-is) (found c.in-Found.last parts) in
-    told-done g.R.Receipt.stands (IsEntryIn g.F.Key.Fixed.bytes_of g.F.Value.Fixed.bytes_of g.F.Key.Known.is_known g.F.Value.Known.is_known g.F.Key.Fixed.SIZE g.F.Value.Fixed.SIZE) g.F.Key.Ord.cmp g.F.Mergeable.parts.joined g.F.Functions.meaning v c.tell.new.self c.args.slot c.args.context c.args.now x l p c.onto-value.result c.tell.result (may-load g.F.Key.Ord.cmp g.F.Mergeable.parts.joined g.F.Functions.code order v c.known.ensures c.args.slot c.args.context x l a)
-    (record { reached = (record { parts = parts; position = Found c.in-Found.last }); reads = reads-on g.F.Key.Ord.cmp g.F.Mergeable.parts.joined g.F.Functions.code order v c.known.ensures c.args.slot c.args.context x l a (IsEntryIn g.F.Key.Fixed.bytes_of g.F.Value.Fixed.bytes_of g.F.Key.Known.is_known g.F.Value.Known.is_known g.F.Key.Fixed.SIZE g.F.Value.Fixed.SIZE) (g.R.Receipt.stands p.receipt) p.bytes c.trace_in.result came (Ok (record { parts = parts; position = Found c.in-Found.last })) is; tells = tells })
+    told-done g.R.Receipt.stands (IsEntryIn g.F.Key.Fixed.codec g.F.Value.Fixed.codec) g.F.Key.Ord.cmp g.F.Mergeable.parts.joined g.F.Functions.meaning v c.tell.new.self c.args.slot c.args.context c.args.now x l p c.onto-value.result c.tell.result (may-load g.F.Key.Ord.cmp g.F.Mergeable.parts.joined g.F.Functions.code order v c.known.ensures c.args.slot c.args.context x l a)
+    (record { reached = (record { parts = parts; position = Found c.in-Found.last }); reads = reads-on g.F.Key.Ord.cmp g.F.Mergeable.parts.joined g.F.Functions.code order v c.known.ensures c.args.slot c.args.context x l a (IsEntryIn g.F.Key.Fixed.codec g.F.Value.Fixed.codec) (g.R.Receipt.stands p.receipt) p.bytes c.trace_in.result came (Ok (record { parts = parts; position = Found c.in-Found.last })) is; tells = tells })
     c.tell.ensures.read c.tell.ensures.update
 
 pub tell-requires-then-address-begin-clause-asks : goal.tell-requires-then-address-begin-clause-asks
@@ -128,13 +128,13 @@ tell-requires-then-address-begin-clause-kept g c =
     let l = c.args.loading in
     let a = c.requires.awaits in
     let p = c.args.loaded in
-    let came = came-of g.R.Receipt.keeps (IsEntryIn g.F.Key.Fixed.bytes_of g.F.Value.Fixed.bytes_of g.F.Key.Known.is_known g.F.Value.Known.is_known g.F.Key.Fixed.SIZE g.F.Value.Fixed.SIZE) g.F.Key.Ord.cmp g.F.Mergeable.parts.joined g.F.Functions.code (view_of g.F.Mergeable.MERGES c.self.inside.number c.self.inside.count c.self.inside.records c.self.inside.contexts.items c.self.inside.moment) v c.key-key.result (key_of x.op) c.page_of-page.result c.first_of-low.result l.wanted l.parts (g.R.Receipt.stands p.receipt) p.bytes c.trace_in.result c.self.view_is c.key-key.ensures c.page_of-page.ensures c.first_of-low.ensures c.requires.own c.trace_in.ensures.read c.trace_in.ensures.kept in
+    let came = came-of g.R.Receipt.keeps (IsEntryIn g.F.Key.Fixed.codec g.F.Value.Fixed.codec) g.F.Key.Ord.cmp g.F.Mergeable.parts.joined g.F.Functions.code (view_of g.F.Mergeable.MERGES c.self.inside.number c.self.inside.count c.self.inside.records c.self.inside.contexts.items c.self.inside.moment) v c.key-key.result (key_of x.op) c.page_of-page.result c.first_of-low.result l.wanted l.parts (g.R.Receipt.stands p.receipt) p.bytes c.trace_in.result c.self.view_is c.key-key.ensures c.page_of-page.ensures c.first_of-low.ensures c.requires.own c.trace_in.ensures.read c.trace_in.ensures.kept in
     let parts = c.in-Ok.came.parts in
     let b = c.in-Below.address in
     let is = c.in-Ok.is ∙ ap (λ q. Ok (record { parts = parts; position = q })) c.in-Below.is in
     let begins : c.begin.result ≡ v.records.begin = c.begin.ensures ∙ ap (λ u. u.records.begin) c.self.view_is in
     let under : b < v.records.begin = omega (arith, c.if-address-begin.true, begins) in
-    kept-told g.F.Key.Ord.cmp g.F.Mergeable.parts.joined g.F.Functions.code order v c.known.ensures c.args.slot c.args.context x l a (IsEntryIn g.F.Key.Fixed.bytes_of g.F.Value.Fixed.bytes_of g.F.Key.Known.is_known g.F.Value.Known.is_known g.F.Key.Fixed.SIZE g.F.Value.Fixed.SIZE) (g.R.Receipt.stands p.receipt) p.bytes c.trace_in.result came (record { parts = parts; position = Below b }) parts is (ended b parts under)
+    kept-told g.F.Key.Ord.cmp g.F.Mergeable.parts.joined g.F.Functions.code order v c.known.ensures c.args.slot c.args.context x l a (IsEntryIn g.F.Key.Fixed.codec g.F.Value.Fixed.codec) (g.R.Receipt.stands p.receipt) p.bytes c.trace_in.result came (record { parts = parts; position = Below b }) parts is (ended b parts under)
 
 pub returns-then-address-begin-clause-effect : goal.returns-then-address-begin-clause-effect
 returns-then-address-begin-clause-effect g c =
@@ -146,14 +146,14 @@ returns-then-address-begin-clause-effect g c =
     let l = c.args.loading in
     let a = c.requires.awaits in
     let p = c.args.loaded in
-    let came = came-of g.R.Receipt.keeps (IsEntryIn g.F.Key.Fixed.bytes_of g.F.Value.Fixed.bytes_of g.F.Key.Known.is_known g.F.Value.Known.is_known g.F.Key.Fixed.SIZE g.F.Value.Fixed.SIZE) g.F.Key.Ord.cmp g.F.Mergeable.parts.joined g.F.Functions.code (view_of g.F.Mergeable.MERGES c.self.inside.number c.self.inside.count c.self.inside.records c.self.inside.contexts.items c.self.inside.moment) v c.key-key.result (key_of x.op) c.page_of-page.result c.first_of-low.result l.wanted l.parts (g.R.Receipt.stands p.receipt) p.bytes c.trace_in.result c.self.view_is c.key-key.ensures c.page_of-page.ensures c.first_of-low.ensures c.requires.own c.trace_in.ensures.read c.trace_in.ensures.kept in
+    let came = came-of g.R.Receipt.keeps (IsEntryIn g.F.Key.Fixed.codec g.F.Value.Fixed.codec) g.F.Key.Ord.cmp g.F.Mergeable.parts.joined g.F.Functions.code (view_of g.F.Mergeable.MERGES c.self.inside.number c.self.inside.count c.self.inside.records c.self.inside.contexts.items c.self.inside.moment) v c.key-key.result (key_of x.op) c.page_of-page.result c.first_of-low.result l.wanted l.parts (g.R.Receipt.stands p.receipt) p.bytes c.trace_in.result c.self.view_is c.key-key.ensures c.page_of-page.ensures c.first_of-low.ensures c.requires.own c.trace_in.ensures.read c.trace_in.ensures.kept in
     let parts = c.in-Ok.came.parts in
     let b = c.in-Below.address in
     let is = c.in-Ok.is ∙ ap (λ q. Ok (record { parts = parts; position = q })) c.in-Below.is in
     let begins : c.begin.result ≡ v.records.begin = c.begin.ensures ∙ ap (λ u. u.records.begin) c.self.view_is in
     let under : b < v.records.begin = omega (arith, c.if-address-begin.true, begins) in
-    told-done g.R.Receipt.stands (IsEntryIn g.F.Key.Fixed.bytes_of g.F.Value.Fixed.bytes_of g.F.Key.Known.is_known g.F.Value.Known.is_known g.F.Key.Fixed.SIZE g.F.Value.Fixed.SIZE) g.F.Key.Ord.cmp g.F.Mergeable.parts.joined g.F.Functions.meaning v c.tell-then-address-begin.new.self c.args.slot c.args.context c.args.now x l p parts c.tell-then-address-begin.result (may-load g.F.Key.Ord.cmp g.F.Mergeable.parts.joined g.F.Functions.code order v c.known.ensures c.args.slot c.args.context x l a)
-    (record { reached = (record { parts = parts; position = Below b }); reads = reads-on g.F.Key.Ord.cmp g.F.Mergeable.parts.joined g.F.Functions.code order v c.known.ensures c.args.slot c.args.context x l a (IsEntryIn g.F.Key.Fixed.bytes_of g.F.Value.Fixed.bytes_of g.F.Key.Known.is_known g.F.Value.Known.is_known g.F.Key.Fixed.SIZE g.F.Value.Fixed.SIZE) (g.R.Receipt.stands p.receipt) p.bytes c.trace_in.result came (Ok (record { parts = parts; position = Below b })) is; tells = ended b parts under })
+    told-done g.R.Receipt.stands (IsEntryIn g.F.Key.Fixed.codec g.F.Value.Fixed.codec) g.F.Key.Ord.cmp g.F.Mergeable.parts.joined g.F.Functions.meaning v c.tell-then-address-begin.new.self c.args.slot c.args.context c.args.now x l p parts c.tell-then-address-begin.result (may-load g.F.Key.Ord.cmp g.F.Mergeable.parts.joined g.F.Functions.code order v c.known.ensures c.args.slot c.args.context x l a)
+    (record { reached = (record { parts = parts; position = Below b }); reads = reads-on g.F.Key.Ord.cmp g.F.Mergeable.parts.joined g.F.Functions.code order v c.known.ensures c.args.slot c.args.context x l a (IsEntryIn g.F.Key.Fixed.codec g.F.Value.Fixed.codec) (g.R.Receipt.stands p.receipt) p.bytes c.trace_in.result came (Ok (record { parts = parts; position = Below b })) is; tells = ended b parts under })
     c.tell-then-address-begin.ensures.read c.tell-then-address-begin.ensures.update
 
 pub free-requires-then-not-is_place-clause-unclaimed : goal.free-requires-then-not-is_place-clause-unclaimed
@@ -175,7 +175,7 @@ returns-then-not-is_place-clause-effect g c =
     let l = c.args.loading in
     let a = c.requires.awaits in
     let p = c.args.loaded in
-    let came = came-of g.R.Receipt.keeps (IsEntryIn g.F.Key.Fixed.bytes_of g.F.Value.Fixed.bytes_of g.F.Key.Known.is_known g.F.Value.Known.is_known g.F.Key.Fixed.SIZE g.F.Value.Fixed.SIZE) g.F.Key.Ord.cmp g.F.Mergeable.parts.joined g.F.Functions.code (view_of g.F.Mergeable.MERGES c.self.inside.number c.self.inside.count c.self.inside.records c.self.inside.contexts.items c.self.inside.moment) v c.key-key.result (key_of x.op) c.page_of-page.result c.first_of-low.result l.wanted l.parts (g.R.Receipt.stands p.receipt) p.bytes c.trace_in.result c.self.view_is c.key-key.ensures c.page_of-page.ensures c.first_of-low.ensures c.requires.own c.trace_in.ensures.read c.trace_in.ensures.kept in
+    let came = came-of g.R.Receipt.keeps (IsEntryIn g.F.Key.Fixed.codec g.F.Value.Fixed.codec) g.F.Key.Ord.cmp g.F.Mergeable.parts.joined g.F.Functions.code (view_of g.F.Mergeable.MERGES c.self.inside.number c.self.inside.count c.self.inside.records c.self.inside.contexts.items c.self.inside.moment) v c.key-key.result (key_of x.op) c.page_of-page.result c.first_of-low.result l.wanted l.parts (g.R.Receipt.stands p.receipt) p.bytes c.trace_in.result c.self.view_is c.key-key.ensures c.page_of-page.ensures c.first_of-low.ensures c.requires.own c.trace_in.ensures.read c.trace_in.ensures.kept in
     let page : c.page_of-page.result ≡ page_at v.records.page_bits l.wanted = c.page_of-page.ensures ∙ ap (λ u. page_at u.records.page_bits l.wanted) c.self.view_is in
     let parts = c.in-Ok.came.parts in
     let b = c.in-Below.address in
@@ -183,7 +183,7 @@ returns-then-not-is_place-clause-effect g c =
     let begins : c.begin.result ≡ v.records.begin = c.begin.ensures ∙ ap (λ u. u.records.begin) c.self.view_is in
     let high : v.records.begin ≤ b = omega (arith, c.if-address-begin.false, begins) in
     let bad_link : ¬ IsRecordStart v.records.page_bits v.records.record_size b = (λ h. let yes_place = c.is_place.ensures.1 (subst (λ u. IsRecordStart u.records.page_bits u.records.record_size b) (sym c.self.view_is) h) in let bad : false ≡ true = sym c.if-not-is_place.true ∙ yes_place in cc) in
-    rw (c.free-then-not-is_place.ensures, page) (Loads.bad_link x l p b parts (reads-on g.F.Key.Ord.cmp g.F.Mergeable.parts.joined g.F.Functions.code order v c.known.ensures c.args.slot c.args.context x l a (IsEntryIn g.F.Key.Fixed.bytes_of g.F.Value.Fixed.bytes_of g.F.Key.Known.is_known g.F.Value.Known.is_known g.F.Key.Fixed.SIZE g.F.Value.Fixed.SIZE) (g.R.Receipt.stands p.receipt) p.bytes c.trace_in.result came (Ok (record { parts = parts; position = Below b })) is) refl high bad_link refl refl)
+    rw (c.free-then-not-is_place.ensures, page) (Loads.bad_link x l p b parts (reads-on g.F.Key.Ord.cmp g.F.Mergeable.parts.joined g.F.Functions.code order v c.known.ensures c.args.slot c.args.context x l a (IsEntryIn g.F.Key.Fixed.codec g.F.Value.Fixed.codec) (g.R.Receipt.stands p.receipt) p.bytes c.trace_in.result came (Ok (record { parts = parts; position = Below b })) is) refl high bad_link refl refl)
 
 pub look_further-requires-clause-asks : goal.look_further-requires-clause-asks
 look_further-requires-clause-asks g c =
@@ -207,13 +207,13 @@ look_further-requires-clause-flushed g c =
     let l = c.args.loading in
     let a = c.requires.awaits in
     let p = c.args.loaded in
-    let came = came-of g.R.Receipt.keeps (IsEntryIn g.F.Key.Fixed.bytes_of g.F.Value.Fixed.bytes_of g.F.Key.Known.is_known g.F.Value.Known.is_known g.F.Key.Fixed.SIZE g.F.Value.Fixed.SIZE) g.F.Key.Ord.cmp g.F.Mergeable.parts.joined g.F.Functions.code (view_of g.F.Mergeable.MERGES c.self.inside.number c.self.inside.count c.self.inside.records c.self.inside.contexts.items c.self.inside.moment) v c.key-key.result (key_of x.op) c.page_of-page.result c.first_of-low.result l.wanted l.parts (g.R.Receipt.stands p.receipt) p.bytes c.trace_in.result c.self.view_is c.key-key.ensures c.page_of-page.ensures c.first_of-low.ensures c.requires.own c.trace_in.ensures.read c.trace_in.ensures.kept in
+    let came = came-of g.R.Receipt.keeps (IsEntryIn g.F.Key.Fixed.codec g.F.Value.Fixed.codec) g.F.Key.Ord.cmp g.F.Mergeable.parts.joined g.F.Functions.code (view_of g.F.Mergeable.MERGES c.self.inside.number c.self.inside.count c.self.inside.records c.self.inside.contexts.items c.self.inside.moment) v c.key-key.result (key_of x.op) c.page_of-page.result c.first_of-low.result l.wanted l.parts (g.R.Receipt.stands p.receipt) p.bytes c.trace_in.result c.self.view_is c.key-key.ensures c.page_of-page.ensures c.first_of-low.ensures c.requires.own c.trace_in.ensures.read c.trace_in.ensures.kept in
     let parts = c.in-Ok.came.parts in
     let b = c.in-Below.address in
     let is = c.in-Ok.is ∙ ap (λ q. Ok (record { parts = parts; position = q })) c.in-Below.is in
     let begins : c.begin.result ≡ v.records.begin = c.begin.ensures ∙ ap (λ u. u.records.begin) c.self.view_is in
     let high : v.records.begin ≤ b = omega (arith, c.if-address-begin.false, begins) in
-    further-flushed g.F.Key.Ord.cmp g.F.Mergeable.parts.joined g.F.Functions.code order v c.known.ensures c.args.slot c.args.context x l a (IsEntryIn g.F.Key.Fixed.bytes_of g.F.Value.Fixed.bytes_of g.F.Key.Known.is_known g.F.Value.Known.is_known g.F.Key.Fixed.SIZE g.F.Value.Fixed.SIZE) (g.R.Receipt.stands p.receipt) p.bytes c.trace_in.result came b parts is high
+    further-flushed g.F.Key.Ord.cmp g.F.Mergeable.parts.joined g.F.Functions.code order v c.known.ensures c.args.slot c.args.context x l a (IsEntryIn g.F.Key.Fixed.codec g.F.Value.Fixed.codec) (g.R.Receipt.stands p.receipt) p.bytes c.trace_in.result came b parts is high
 
 pub look_further-requires-clause-stands : goal.look_further-requires-clause-stands
 look_further-requires-clause-stands g c =
@@ -225,13 +225,13 @@ look_further-requires-clause-stands g c =
     let l = c.args.loading in
     let a = c.requires.awaits in
     let p = c.args.loaded in
-    let came = came-of g.R.Receipt.keeps (IsEntryIn g.F.Key.Fixed.bytes_of g.F.Value.Fixed.bytes_of g.F.Key.Known.is_known g.F.Value.Known.is_known g.F.Key.Fixed.SIZE g.F.Value.Fixed.SIZE) g.F.Key.Ord.cmp g.F.Mergeable.parts.joined g.F.Functions.code (view_of g.F.Mergeable.MERGES c.self.inside.number c.self.inside.count c.self.inside.records c.self.inside.contexts.items c.self.inside.moment) v c.key-key.result (key_of x.op) c.page_of-page.result c.first_of-low.result l.wanted l.parts (g.R.Receipt.stands p.receipt) p.bytes c.trace_in.result c.self.view_is c.key-key.ensures c.page_of-page.ensures c.first_of-low.ensures c.requires.own c.trace_in.ensures.read c.trace_in.ensures.kept in
+    let came = came-of g.R.Receipt.keeps (IsEntryIn g.F.Key.Fixed.codec g.F.Value.Fixed.codec) g.F.Key.Ord.cmp g.F.Mergeable.parts.joined g.F.Functions.code (view_of g.F.Mergeable.MERGES c.self.inside.number c.self.inside.count c.self.inside.records c.self.inside.contexts.items c.self.inside.moment) v c.key-key.result (key_of x.op) c.page_of-page.result c.first_of-low.result l.wanted l.parts (g.R.Receipt.stands p.receipt) p.bytes c.trace_in.result c.self.view_is c.key-key.ensures c.page_of-page.ensures c.first_of-low.ensures c.requires.own c.trace_in.ensures.read c.trace_in.ensures.kept in
     let parts = c.in-Ok.came.parts in
     let b = c.in-Below.address in
     let is = c.in-Ok.is ∙ ap (λ q. Ok (record { parts = parts; position = q })) c.in-Below.is in
     let begins : c.begin.result ≡ v.records.begin = c.begin.ensures ∙ ap (λ u. u.records.begin) c.self.view_is in
     let high : v.records.begin ≤ b = omega (arith, c.if-address-begin.false, begins) in
-    further-stands g.F.Key.Ord.cmp g.F.Mergeable.parts.joined g.F.Functions.code order v c.known.ensures c.args.slot c.args.context x l a (IsEntryIn g.F.Key.Fixed.bytes_of g.F.Value.Fixed.bytes_of g.F.Key.Known.is_known g.F.Value.Known.is_known g.F.Key.Fixed.SIZE g.F.Value.Fixed.SIZE) (g.R.Receipt.stands p.receipt) p.bytes c.trace_in.result came b parts is high
+    further-stands g.F.Key.Ord.cmp g.F.Mergeable.parts.joined g.F.Functions.code order v c.known.ensures c.args.slot c.args.context x l a (IsEntryIn g.F.Key.Fixed.codec g.F.Value.Fixed.codec) (g.R.Receipt.stands p.receipt) p.bytes c.trace_in.result came b parts is high
 
 pub returns-clause-effect : goal.returns-clause-effect
 returns-clause-effect g c =
@@ -243,14 +243,14 @@ returns-clause-effect g c =
     let l = c.args.loading in
     let a = c.requires.awaits in
     let p = c.args.loaded in
-    let came = came-of g.R.Receipt.keeps (IsEntryIn g.F.Key.Fixed.bytes_of g.F.Value.Fixed.bytes_of g.F.Key.Known.is_known g.F.Value.Known.is_known g.F.Key.Fixed.SIZE g.F.Value.Fixed.SIZE) g.F.Key.Ord.cmp g.F.Mergeable.parts.joined g.F.Functions.code (view_of g.F.Mergeable.MERGES c.self.inside.number c.self.inside.count c.self.inside.records c.self.inside.contexts.items c.self.inside.moment) v c.key-key.result (key_of x.op) c.page_of-page.result c.first_of-low.result l.wanted l.parts (g.R.Receipt.stands p.receipt) p.bytes c.trace_in.result c.self.view_is c.key-key.ensures c.page_of-page.ensures c.first_of-low.ensures c.requires.own c.trace_in.ensures.read c.trace_in.ensures.kept in
+    let came = came-of g.R.Receipt.keeps (IsEntryIn g.F.Key.Fixed.codec g.F.Value.Fixed.codec) g.F.Key.Ord.cmp g.F.Mergeable.parts.joined g.F.Functions.code (view_of g.F.Mergeable.MERGES c.self.inside.number c.self.inside.count c.self.inside.records c.self.inside.contexts.items c.self.inside.moment) v c.key-key.result (key_of x.op) c.page_of-page.result c.first_of-low.result l.wanted l.parts (g.R.Receipt.stands p.receipt) p.bytes c.trace_in.result c.self.view_is c.key-key.ensures c.page_of-page.ensures c.first_of-low.ensures c.requires.own c.trace_in.ensures.read c.trace_in.ensures.kept in
     let parts = c.in-Ok.came.parts in
     let b = c.in-Below.address in
     let is = c.in-Ok.is ∙ ap (λ q. Ok (record { parts = parts; position = q })) c.in-Below.is in
     let begins : c.begin.result ≡ v.records.begin = c.begin.ensures ∙ ap (λ u. u.records.begin) c.self.view_is in
     let high : v.records.begin ≤ b = omega (arith, c.if-address-begin.false, begins) in
     let place = subst (λ u. IsRecordStart u.records.page_bits u.records.record_size b) c.self.view_is (c.is_place.ensures.0 c.if-not-is_place.false) in
-    further-done g.R.Receipt.stands (IsEntryIn g.F.Key.Fixed.bytes_of g.F.Value.Fixed.bytes_of g.F.Key.Known.is_known g.F.Value.Known.is_known g.F.Key.Fixed.SIZE g.F.Value.Fixed.SIZE) g.F.Key.Ord.cmp g.F.Mergeable.parts.joined g.F.Functions.meaning v c.look_further.new.self c.args.slot c.args.context c.args.now x l p b parts (reads-on g.F.Key.Ord.cmp g.F.Mergeable.parts.joined g.F.Functions.code order v c.known.ensures c.args.slot c.args.context x l a (IsEntryIn g.F.Key.Fixed.bytes_of g.F.Value.Fixed.bytes_of g.F.Key.Known.is_known g.F.Value.Known.is_known g.F.Key.Fixed.SIZE g.F.Value.Fixed.SIZE) (g.R.Receipt.stands p.receipt) p.bytes c.trace_in.result came (Ok (record { parts = parts; position = Below b })) is) high place c.look_further.result c.look_further.ensures.asked c.look_further.ensures.effect c.look_further.ensures.only c.look_further.ensures.unchanged
+    further-done g.R.Receipt.stands (IsEntryIn g.F.Key.Fixed.codec g.F.Value.Fixed.codec) g.F.Key.Ord.cmp g.F.Mergeable.parts.joined g.F.Functions.meaning v c.look_further.new.self c.args.slot c.args.context c.args.now x l p b parts (reads-on g.F.Key.Ord.cmp g.F.Mergeable.parts.joined g.F.Functions.code order v c.known.ensures c.args.slot c.args.context x l a (IsEntryIn g.F.Key.Fixed.codec g.F.Value.Fixed.codec) (g.R.Receipt.stands p.receipt) p.bytes c.trace_in.result came (Ok (record { parts = parts; position = Below b })) is) high place c.look_further.result c.look_further.ensures.asked c.look_further.ensures.effect c.look_further.ensures.only c.look_further.ensures.unchanged
 
 pub returns-in-Found-clause-event : goal.returns-in-Found-clause-event
 returns-in-Found-clause-event g c = λ keeps.
@@ -262,11 +262,11 @@ returns-in-Found-clause-event g c = λ keeps.
     let l = c.args.loading in
     let a = c.requires.awaits in
     let p = c.args.loaded in
-    let came = came-of g.R.Receipt.keeps (IsEntryIn g.F.Key.Fixed.bytes_of g.F.Value.Fixed.bytes_of g.F.Key.Known.is_known g.F.Value.Known.is_known g.F.Key.Fixed.SIZE g.F.Value.Fixed.SIZE) g.F.Key.Ord.cmp g.F.Mergeable.parts.joined g.F.Functions.code (view_of g.F.Mergeable.MERGES c.self.inside.number c.self.inside.count c.self.inside.records c.self.inside.contexts.items c.self.inside.moment) v c.key-key.result (key_of x.op) c.page_of-page.result c.first_of-low.result l.wanted l.parts (g.R.Receipt.stands p.receipt) p.bytes c.trace_in.result c.self.view_is c.key-key.ensures c.page_of-page.ensures c.first_of-low.ensures c.requires.own c.trace_in.ensures.read c.trace_in.ensures.kept in
+    let came = came-of g.R.Receipt.keeps (IsEntryIn g.F.Key.Fixed.codec g.F.Value.Fixed.codec) g.F.Key.Ord.cmp g.F.Mergeable.parts.joined g.F.Functions.code (view_of g.F.Mergeable.MERGES c.self.inside.number c.self.inside.count c.self.inside.records c.self.inside.contexts.items c.self.inside.moment) v c.key-key.result (key_of x.op) c.page_of-page.result c.first_of-low.result l.wanted l.parts (g.R.Receipt.stands p.receipt) p.bytes c.trace_in.result c.self.view_is c.key-key.ensures c.page_of-page.ensures c.first_of-low.ensures c.requires.own c.trace_in.ensures.read c.trace_in.ensures.kept in
     let parts = c.in-Ok.came.parts in
     let is = c.in-Ok.is ∙ ap (λ q. Ok (record { parts = parts; position = q })) c.in-Found.is in
     let tells : Tells g.F.Mergeable.parts.joined v.records.begin (record { parts = parts; position = Found c.in-Found.last }) c.onto-value.result = rw (c.onto-value.ensures, c.in-Found.last-is) (found c.in-Found.last parts) in
-    load-told g.F.Key.Ord.cmp v c.args.slot c.args.context c.args.now x a.here g.F.Functions.meaning l a c.onto-value.result (newest-told g.F.Key.Ord.cmp g.F.Mergeable.parts.joined g.F.Functions.code order v c.known.ensures c.args.slot c.args.context x l a (IsEntryIn g.F.Key.Fixed.bytes_of g.F.Value.Fixed.bytes_of g.F.Key.Known.is_known g.F.Value.Known.is_known g.F.Key.Fixed.SIZE g.F.Value.Fixed.SIZE) (g.R.Receipt.stands p.receipt) p.bytes c.trace_in.result came keeps (record { parts = parts; position = Found c.in-Found.last }) c.onto-value.result is tells) (may-load g.F.Key.Ord.cmp g.F.Mergeable.parts.joined g.F.Functions.code order v c.known.ensures c.args.slot c.args.context x l a) c.tell.new.self c.tell.result c.tell.ensures.read c.tell.ensures.update
+    load-told g.F.Key.Ord.cmp v c.args.slot c.args.context c.args.now x a.here g.F.Functions.meaning l a c.onto-value.result (newest-told g.F.Key.Ord.cmp g.F.Mergeable.parts.joined g.F.Functions.code order v c.known.ensures c.args.slot c.args.context x l a (IsEntryIn g.F.Key.Fixed.codec g.F.Value.Fixed.codec) (g.R.Receipt.stands p.receipt) p.bytes c.trace_in.result came keeps (record { parts = parts; position = Found c.in-Found.last }) c.onto-value.result is tells) (may-load g.F.Key.Ord.cmp g.F.Mergeable.parts.joined g.F.Functions.code order v c.known.ensures c.args.slot c.args.context x l a) c.tell.new.self c.tell.result c.tell.ensures.read c.tell.ensures.update
 
 pub returns-then-address-begin-clause-event : goal.returns-then-address-begin-clause-event
 returns-then-address-begin-clause-event g c = λ keeps.
@@ -278,13 +278,13 @@ returns-then-address-begin-clause-event g c = λ keeps.
     let l = c.args.loading in
     let a = c.requires.awaits in
     let p = c.args.loaded in
-    let came = came-of g.R.Receipt.keeps (IsEntryIn g.F.Key.Fixed.bytes_of g.F.Value.Fixed.bytes_of g.F.Key.Known.is_known g.F.Value.Known.is_known g.F.Key.Fixed.SIZE g.F.Value.Fixed.SIZE) g.F.Key.Ord.cmp g.F.Mergeable.parts.joined g.F.Functions.code (view_of g.F.Mergeable.MERGES c.self.inside.number c.self.inside.count c.self.inside.records c.self.inside.contexts.items c.self.inside.moment) v c.key-key.result (key_of x.op) c.page_of-page.result c.first_of-low.result l.wanted l.parts (g.R.Receipt.stands p.receipt) p.bytes c.trace_in.result c.self.view_is c.key-key.ensures c.page_of-page.ensures c.first_of-low.ensures c.requires.own c.trace_in.ensures.read c.trace_in.ensures.kept in
+    let came = came-of g.R.Receipt.keeps (IsEntryIn g.F.Key.Fixed.codec g.F.Value.Fixed.codec) g.F.Key.Ord.cmp g.F.Mergeable.parts.joined g.F.Functions.code (view_of g.F.Mergeable.MERGES c.self.inside.number c.self.inside.count c.self.inside.records c.self.inside.contexts.items c.self.inside.moment) v c.key-key.result (key_of x.op) c.page_of-page.result c.first_of-low.result l.wanted l.parts (g.R.Receipt.stands p.receipt) p.bytes c.trace_in.result c.self.view_is c.key-key.ensures c.page_of-page.ensures c.first_of-low.ensures c.requires.own c.trace_in.ensures.read c.trace_in.ensures.kept in
     let parts = c.in-Ok.came.parts in
     let b = c.in-Below.address in
     let is = c.in-Ok.is ∙ ap (λ q. Ok (record { parts = parts; position = q })) c.in-Below.is in
     let begins : c.begin.result ≡ v.records.begin = c.begin.ensures ∙ ap (λ u. u.records.begin) c.self.view_is in
     let under : b < v.records.begin = omega (arith, c.if-address-begin.true, begins) in
-    load-told g.F.Key.Ord.cmp v c.args.slot c.args.context c.args.now x a.here g.F.Functions.meaning l a parts (newest-told g.F.Key.Ord.cmp g.F.Mergeable.parts.joined g.F.Functions.code order v c.known.ensures c.args.slot c.args.context x l a (IsEntryIn g.F.Key.Fixed.bytes_of g.F.Value.Fixed.bytes_of g.F.Key.Known.is_known g.F.Value.Known.is_known g.F.Key.Fixed.SIZE g.F.Value.Fixed.SIZE) (g.R.Receipt.stands p.receipt) p.bytes c.trace_in.result came keeps (record { parts = parts; position = Below b }) parts is (ended b parts under)) (may-load g.F.Key.Ord.cmp g.F.Mergeable.parts.joined g.F.Functions.code order v c.known.ensures c.args.slot c.args.context x l a) c.tell-then-address-begin.new.self c.tell-then-address-begin.result c.tell-then-address-begin.ensures.read c.tell-then-address-begin.ensures.update
+    load-told g.F.Key.Ord.cmp v c.args.slot c.args.context c.args.now x a.here g.F.Functions.meaning l a parts (newest-told g.F.Key.Ord.cmp g.F.Mergeable.parts.joined g.F.Functions.code order v c.known.ensures c.args.slot c.args.context x l a (IsEntryIn g.F.Key.Fixed.codec g.F.Value.Fixed.codec) (g.R.Receipt.stands p.receipt) p.bytes c.trace_in.result came keeps (record { parts = parts; position = Below b }) parts is (ended b parts under)) (may-load g.F.Key.Ord.cmp g.F.Mergeable.parts.joined g.F.Functions.code order v c.known.ensures c.args.slot c.args.context x l a) c.tell-then-address-begin.new.self c.tell-then-address-begin.result c.tell-then-address-begin.ensures.read c.tell-then-address-begin.ensures.update
 
 pub returns-clause-event : goal.returns-clause-event
 returns-clause-event g c = λ keeps.

@@ -12,7 +12,7 @@ invariant-loop-last g l =
     let cmp = g.F.Key.Ord.cmp in
     let join = g.F.Mergeable.parts.joined in
     let code = g.F.Functions.code in
-    let entry = IsEntryIn g.F.Key.Fixed.bytes_of g.F.Value.Fixed.bytes_of g.F.Key.Known.is_known g.F.Value.Known.is_known g.F.Key.Fixed.SIZE g.F.Value.Fixed.SIZE l.self.page_bits l.loaded.bytes in
+    let entry = IsEntryIn g.F.Key.Fixed.codec g.F.Value.Fixed.codec l.self.page_bits l.loaded.bytes in
     record {
       read : IsReadOn join entry cmp l.key l.self.page_bits l.low l.from l.fn.parts l.parts l.position;
       kept : IsTrue g.R.Receipt.keeps → l.self.begin ≤ l.from → IsOfClass code l.self l.key l.from → IsKeptOn cmp join code l.self l.key l.low l.from l.fn.parts l.parts l.position;

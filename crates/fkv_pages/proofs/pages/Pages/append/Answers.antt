@@ -15,8 +15,6 @@ put_record-requires-clause-held g c = λ some.
 
 pub invariant_of-self-inside : goal.invariant_of-self-inside
 invariant_of-self-inside g c =
-    let k = g.met.K.Fixed in
-    let v = g.met.V.Fixed in
     let i = c.self.inside in
     let below : i.tail < 2 ^ 48 = omega arith in
     let offset = c.offset_of-is_new.ensures.value in
@@ -24,12 +22,12 @@ invariant_of-self-inside g c =
     let free : c.offset_of-is_new.result ≡ 0 → page_at i.shape.page_bits i.closed + length i.frames.slots ≤ c.page_of-page.result → ⊥ =
     (λ z more. let yes = c.is_full.ensures.1 (rw (← c.self.view_is) (record { more = below; begins = sym offset ∙ z; taken = rw page at more })) in
     let bad : true ≡ false = sym yes ∙ c.if-is_full.false in cc) in
-    let sound = sound_record g.K.Known.is_known g.V.Known.is_known i.tail c.args.previous c.args.key c.args.value c.args.delta below (rw (← c.self.view_is) at c.requires.previous) c.put_record.ensures.key c.put_record.ensures.value c.requires.whole in
+    let sound = sound_record g.K.Fixed.codec g.V.Fixed.codec i.tail c.args.previous c.args.key c.args.value c.args.delta below (rw (← c.self.view_is) at c.requires.previous) c.put_record.ensures.key c.put_record.ensures.value c.requires.whole in
     let e : Entry g.row.K.Denot g.row.V.Denot = record { address = i.tail; previous = c.args.previous; key = c.args.key; value = c.args.value; delta = c.args.delta } in
-    let p = append_puts g.K.Fixed.bytes_of g.V.Fixed.bytes_of g.K.Known.is_known g.V.Known.is_known g.K.Fixed.SIZE g.V.Fixed.SIZE g.R.Receipt.keeps i.shape i.begin i.closed i.frozen i.tail _ i.frames c.put_record.new.frames _ i.text.0.0 _ _ c.self.invariant page offset free c.put_record.ensures.written in
-    let l = grown g.K.Fixed.bytes_of g.V.Fixed.bytes_of g.K.Known.is_known g.V.Known.is_known g.K.Fixed.SIZE g.V.Fixed.SIZE g.R.Receipt.keeps i.shape i.begin i.closed i.frozen i.tail _ i.frames c.put_record.new.frames _ i.text.0.0 e c.self.invariant below refl p c.put_record.ensures.sized sound c.put_record.ensures.spells in
+    let p = append_puts g.K.Fixed.codec g.V.Fixed.codec g.R.Receipt.keeps i.shape i.begin i.closed i.frozen i.tail _ i.frames c.put_record.new.frames _ i.text.0.0 _ _ c.self.invariant page offset free c.put_record.ensures.written in
+    let l = grown g.K.Fixed.codec g.V.Fixed.codec g.R.Receipt.keeps i.shape i.begin i.closed i.frozen i.tail _ i.frames c.put_record.new.frames _ i.text.0.0 e c.self.invariant below refl p c.put_record.ensures.sized sound c.put_record.ensures.spells in
     let tail = tail_is i.shape.page_bits i.shape.record_size i.tail _ _ c.unwrap_or-self-inside.ensures c.next_place.ensures.value in
-    rw tail (the_text g.K.Fixed.bytes_of g.V.Fixed.bytes_of g.K.Known.is_known g.V.Known.is_known g.K.Fixed.SIZE g.V.Fixed.SIZE k.readable v.readable _ _ g.row.K.coded g.row.V.coded _ _ _ l.spelled, tt)
+    rw tail (the_text g.K.Fixed.codec g.V.Fixed.codec _ _ g.row.K.coded g.row.V.coded _ _ _ l.spelled, tt)
 
 pub invariant_of-self : goal.invariant_of-self
 invariant_of-self g c =
@@ -40,12 +38,12 @@ invariant_of-self g c =
     let free : c.offset_of-is_new.result ≡ 0 → page_at i.shape.page_bits i.closed + length i.frames.slots ≤ c.page_of-page.result → ⊥ =
     (λ z more. let yes = c.is_full.ensures.1 (rw (← c.self.view_is) (record { more = below; begins = sym offset ∙ z; taken = rw page at more })) in
     let bad : true ≡ false = sym yes ∙ c.if-is_full.false in cc) in
-    let sound = sound_record g.K.Known.is_known g.V.Known.is_known i.tail c.args.previous c.args.key c.args.value c.args.delta below (rw (← c.self.view_is) at c.requires.previous) c.put_record.ensures.key c.put_record.ensures.value c.requires.whole in
+    let sound = sound_record g.K.Fixed.codec g.V.Fixed.codec i.tail c.args.previous c.args.key c.args.value c.args.delta below (rw (← c.self.view_is) at c.requires.previous) c.put_record.ensures.key c.put_record.ensures.value c.requires.whole in
     let e : Entry g.row.K.Denot g.row.V.Denot = record { address = i.tail; previous = c.args.previous; key = c.args.key; value = c.args.value; delta = c.args.delta } in
-    let p = append_puts g.K.Fixed.bytes_of g.V.Fixed.bytes_of g.K.Known.is_known g.V.Known.is_known g.K.Fixed.SIZE g.V.Fixed.SIZE g.R.Receipt.keeps i.shape i.begin i.closed i.frozen i.tail _ i.frames c.put_record.new.frames _ i.text.0.0 _ _ c.self.invariant page offset free c.put_record.ensures.written in
-    let l = grown g.K.Fixed.bytes_of g.V.Fixed.bytes_of g.K.Known.is_known g.V.Known.is_known g.K.Fixed.SIZE g.V.Fixed.SIZE g.R.Receipt.keeps i.shape i.begin i.closed i.frozen i.tail _ i.frames c.put_record.new.frames _ i.text.0.0 e c.self.invariant below refl p c.put_record.ensures.sized sound c.put_record.ensures.spells in
+    let p = append_puts g.K.Fixed.codec g.V.Fixed.codec g.R.Receipt.keeps i.shape i.begin i.closed i.frozen i.tail _ i.frames c.put_record.new.frames _ i.text.0.0 _ _ c.self.invariant page offset free c.put_record.ensures.written in
+    let l = grown g.K.Fixed.codec g.V.Fixed.codec g.R.Receipt.keeps i.shape i.begin i.closed i.frozen i.tail _ i.frames c.put_record.new.frames _ i.text.0.0 e c.self.invariant below refl p c.put_record.ensures.sized sound c.put_record.ensures.spells in
     let tail = tail_is i.shape.page_bits i.shape.record_size i.tail _ _ c.unwrap_or-self-inside.ensures c.next_place.ensures.value in
-    log_at g.K.Fixed.bytes_of g.V.Fixed.bytes_of g.K.Known.is_known g.V.Known.is_known g.K.Fixed.SIZE g.V.Fixed.SIZE g.R.Receipt.keeps i.shape i.begin i.closed i.frozen _ _ _ c.put_record.new.frames c.self-1.given.0 (i.text.0.0 ++ e ∷ []) tail l
+    log_at g.K.Fixed.codec g.V.Fixed.codec g.R.Receipt.keeps i.shape i.begin i.closed i.frozen _ _ _ c.put_record.new.frames c.self-1.given.0 (i.text.0.0 ++ e ∷ []) tail l
 
 pub returns-clause-appended : goal.returns-clause-appended
 returns-clause-appended g c =
@@ -56,11 +54,11 @@ returns-clause-appended g c =
     let free : c.offset_of-is_new.result ≡ 0 → page_at i.shape.page_bits i.closed + length i.frames.slots ≤ c.page_of-page.result → ⊥ =
     (λ z more. let yes = c.is_full.ensures.1 (rw (← c.self.view_is) (record { more = below; begins = sym offset ∙ z; taken = rw page at more })) in
     let bad : true ≡ false = sym yes ∙ c.if-is_full.false in cc) in
-    let sound = sound_record g.K.Known.is_known g.V.Known.is_known i.tail c.args.previous c.args.key c.args.value c.args.delta below (rw (← c.self.view_is) at c.requires.previous) c.put_record.ensures.key c.put_record.ensures.value c.requires.whole in
+    let sound = sound_record g.K.Fixed.codec g.V.Fixed.codec i.tail c.args.previous c.args.key c.args.value c.args.delta below (rw (← c.self.view_is) at c.requires.previous) c.put_record.ensures.key c.put_record.ensures.value c.requires.whole in
     let e : Entry g.row.K.Denot g.row.V.Denot = record { address = i.tail; previous = c.args.previous; key = c.args.key; value = c.args.value; delta = c.args.delta } in
-    let p = append_puts g.K.Fixed.bytes_of g.V.Fixed.bytes_of g.K.Known.is_known g.V.Known.is_known g.K.Fixed.SIZE g.V.Fixed.SIZE g.R.Receipt.keeps i.shape i.begin i.closed i.frozen i.tail _ i.frames c.put_record.new.frames _ i.text.0.0 _ _ c.self.invariant page offset free c.put_record.ensures.written in
-    let l = grown g.K.Fixed.bytes_of g.V.Fixed.bytes_of g.K.Known.is_known g.V.Known.is_known g.K.Fixed.SIZE g.V.Fixed.SIZE g.R.Receipt.keeps i.shape i.begin i.closed i.frozen i.tail _ i.frames c.put_record.new.frames _ i.text.0.0 e c.self.invariant below refl p c.put_record.ensures.sized sound c.put_record.ensures.spells in
+    let p = append_puts g.K.Fixed.codec g.V.Fixed.codec g.R.Receipt.keeps i.shape i.begin i.closed i.frozen i.tail _ i.frames c.put_record.new.frames _ i.text.0.0 _ _ c.self.invariant page offset free c.put_record.ensures.written in
+    let l = grown g.K.Fixed.codec g.V.Fixed.codec g.R.Receipt.keeps i.shape i.begin i.closed i.frozen i.tail _ i.frames c.put_record.new.frames _ i.text.0.0 e c.self.invariant below refl p c.put_record.ensures.sized sound c.put_record.ensures.spells in
     let tail = tail_is i.shape.page_bits i.shape.record_size i.tail _ _ c.unwrap_or-self-inside.ensures c.next_place.ensures.value in
-    let waits = put_waiting g.K.Fixed.bytes_of g.V.Fixed.bytes_of g.K.Known.is_known g.V.Known.is_known g.K.Fixed.SIZE g.V.Fixed.SIZE g.R.Receipt.keeps i.shape i.begin i.closed i.frozen i.tail _ i.frames c.put_record.new.frames _ i.text.0.0 i.tail c.self.invariant c.self.invariant.ordered.frozen_tail p in
-    rw (← c.self.view_is) (view_at g.K.Fixed.bytes_of g.V.Fixed.bytes_of g.K.Known.is_known g.V.Known.is_known g.K.Fixed.SIZE g.V.Fixed.SIZE g.R.Receipt.keeps i.shape i.begin i.closed i.frozen i.tail _ _ _ i.frames c.put_record.new.frames c.self-1.given.0 i.text.0.0 e refl
+    let waits = put_waiting g.K.Fixed.codec g.V.Fixed.codec g.R.Receipt.keeps i.shape i.begin i.closed i.frozen i.tail _ i.frames c.put_record.new.frames _ i.text.0.0 i.tail c.self.invariant c.self.invariant.ordered.frozen_tail p in
+    rw (← c.self.view_is) (view_at g.K.Fixed.codec g.V.Fixed.codec g.R.Receipt.keeps i.shape i.begin i.closed i.frozen i.tail _ _ _ i.frames c.put_record.new.frames c.self-1.given.0 i.text.0.0 e refl
     c.self.invariant.size tail p.count_same waits l)

@@ -5,27 +5,25 @@ use Rattle.fkv_pages.proofs.pages.Pages.close.Goals as goal
 
 pub invariant_of-self-inside : goal.invariant_of-self-inside
 invariant_of-self-inside g c =
-    let k = g.met.K.Fixed in
-    let v = g.met.V.Fixed in
     let i = c.self.inside in
-    let l = closed_log g.K.Fixed.bytes_of g.V.Fixed.bytes_of g.K.Known.is_known g.V.Known.is_known g.K.Fixed.SIZE g.V.Fixed.SIZE g.R.Receipt.keeps i.shape i.begin i.closed c.args.address i.frozen i.tail _ i.frames i.text.0.0 _ c.self.view_is c.self.invariant c.requires.rises c.requires.place c.requires.flushed c.requires.frozen in
-    (the_text g.K.Fixed.bytes_of g.V.Fixed.bytes_of g.K.Known.is_known g.V.Known.is_known g.K.Fixed.SIZE g.V.Fixed.SIZE k.readable v.readable _ _ g.row.K.coded g.row.V.coded _ _ _ l.spelled, tt)
+    let l = closed_log g.K.Fixed.codec g.V.Fixed.codec g.R.Receipt.keeps i.shape i.begin i.closed c.args.address i.frozen i.tail _ i.frames i.text.0.0 _ c.self.view_is c.self.invariant c.requires.rises c.requires.place c.requires.flushed c.requires.frozen in
+    (the_text g.K.Fixed.codec g.V.Fixed.codec _ _ g.row.K.coded g.row.V.coded _ _ _ l.spelled, tt)
 
 pub invariant_of-self : goal.invariant_of-self
 invariant_of-self g c =
     let i = c.self.inside in
-    let l = closed_log g.K.Fixed.bytes_of g.V.Fixed.bytes_of g.K.Known.is_known g.V.Known.is_known g.K.Fixed.SIZE g.V.Fixed.SIZE g.R.Receipt.keeps i.shape i.begin i.closed c.args.address i.frozen i.tail _ i.frames i.text.0.0 _ c.self.view_is c.self.invariant c.requires.rises c.requires.place c.requires.flushed c.requires.frozen in
-    log_of g.K.Fixed.bytes_of g.V.Fixed.bytes_of g.K.Known.is_known g.V.Known.is_known g.K.Fixed.SIZE g.V.Fixed.SIZE g.R.Receipt.keeps i.shape i.begin c.args.address i.frozen i.tail _ i.frames c.self-1.given.0 _ l
+    let l = closed_log g.K.Fixed.codec g.V.Fixed.codec g.R.Receipt.keeps i.shape i.begin i.closed c.args.address i.frozen i.tail _ i.frames i.text.0.0 _ c.self.view_is c.self.invariant c.requires.rises c.requires.place c.requires.flushed c.requires.frozen in
+    log_of g.K.Fixed.codec g.V.Fixed.codec g.R.Receipt.keeps i.shape i.begin c.args.address i.frozen i.tail _ i.frames c.self-1.given.0 _ l
 
 pub returns-clause-closed : goal.returns-clause-closed
 returns-clause-closed g c =
     let i = c.self.inside in
-    let l = closed_log g.K.Fixed.bytes_of g.V.Fixed.bytes_of g.K.Known.is_known g.V.Known.is_known g.K.Fixed.SIZE g.V.Fixed.SIZE g.R.Receipt.keeps i.shape i.begin i.closed c.args.address i.frozen i.tail _ i.frames i.text.0.0 _ c.self.view_is c.self.invariant c.requires.rises c.requires.place c.requires.flushed c.requires.frozen in
-    rw (← c.self.view_is) (view_of g.K.Fixed.bytes_of g.V.Fixed.bytes_of g.K.Known.is_known g.V.Known.is_known g.K.Fixed.SIZE g.V.Fixed.SIZE g.R.Receipt.keeps i.shape i.begin c.args.address i.frozen i.tail _ i.frames c.self-1.given.0 _ l)
+    let l = closed_log g.K.Fixed.codec g.V.Fixed.codec g.R.Receipt.keeps i.shape i.begin i.closed c.args.address i.frozen i.tail _ i.frames i.text.0.0 _ c.self.view_is c.self.invariant c.requires.rises c.requires.place c.requires.flushed c.requires.frozen in
+    rw (← c.self.view_is) (view_of g.K.Fixed.codec g.V.Fixed.codec g.R.Receipt.keeps i.shape i.begin c.args.address i.frozen i.tail _ i.frames c.self-1.given.0 _ l)
 
 pub returns-clause-kept : goal.returns-clause-kept
 returns-clause-kept g c = λ keeps.
     let i = c.self.inside in
-    let l = closed_log g.K.Fixed.bytes_of g.V.Fixed.bytes_of g.K.Known.is_known g.V.Known.is_known g.K.Fixed.SIZE g.V.Fixed.SIZE g.R.Receipt.keeps i.shape i.begin i.closed c.args.address i.frozen i.tail _ i.frames i.text.0.0 _ c.self.view_is c.self.invariant c.requires.rises c.requires.place c.requires.flushed c.requires.frozen in
-    rw (← c.self.view_is) (ap (λ v. v.text) (view_of g.K.Fixed.bytes_of g.V.Fixed.bytes_of g.K.Known.is_known g.V.Known.is_known g.K.Fixed.SIZE g.V.Fixed.SIZE g.R.Receipt.keeps i.shape i.begin c.args.address i.frozen i.tail _ i.frames c.self-1.given.0 _ l)
-    ∙ closed_kept g.K.Fixed.bytes_of g.V.Fixed.bytes_of g.K.Known.is_known g.V.Known.is_known g.K.Fixed.SIZE g.V.Fixed.SIZE g.R.Receipt.keeps i.shape i.begin i.closed c.args.address i.frozen i.tail _ i.frames i.text.0.0 c.self.invariant keeps)
+    let l = closed_log g.K.Fixed.codec g.V.Fixed.codec g.R.Receipt.keeps i.shape i.begin i.closed c.args.address i.frozen i.tail _ i.frames i.text.0.0 _ c.self.view_is c.self.invariant c.requires.rises c.requires.place c.requires.flushed c.requires.frozen in
+    rw (← c.self.view_is) (ap (λ v. v.text) (view_of g.K.Fixed.codec g.V.Fixed.codec g.R.Receipt.keeps i.shape i.begin c.args.address i.frozen i.tail _ i.frames c.self-1.given.0 _ l)
+    ∙ closed_kept g.K.Fixed.codec g.V.Fixed.codec g.R.Receipt.keeps i.shape i.begin i.closed c.args.address i.frozen i.tail _ i.frames i.text.0.0 c.self.invariant keeps)

@@ -5,17 +5,15 @@ use Rattle.fkv_pages.proofs.pages.Pages.flush_done.Goals as goal
 
 pub invariant_of-self-inside : goal.invariant_of-self-inside
 invariant_of-self-inside g c =
-    let k = g.met.K.Fixed in
-    let v = g.met.V.Fixed in
     let i = c.self.inside in
     let stands = g.R.Receipt.stands in
     let written = c.args.written.receipt in
     let is = c.into_receipt.ensures.receipt in
     let fine = rw (← c.self.view_is) at (sym c.flush_refusal.ensures ∙ c.in_default.is) in
-    let m = flushed_by g.K.Fixed.bytes_of g.V.Fixed.bytes_of g.K.Known.is_known g.V.Known.is_known g.K.Fixed.SIZE g.V.Fixed.SIZE g.R.Receipt.keeps i.shape i.begin i.closed i.frozen i.tail _ i.frames i.text.0.0 (stands written) c.args.written.bytes c.self.invariant fine
+    let m = flushed_by g.K.Fixed.codec g.V.Fixed.codec g.R.Receipt.keeps i.shape i.begin i.closed i.frozen i.tail _ i.frames i.text.0.0 (stands written) c.args.written.bytes c.self.invariant fine
     (rw is at c.into_receipt.ensures.length) (rw is at c.into_receipt.ensures.kept) in
     either c.keep.result c.keep.ensures.ok c.keep.ensures.unchanged
-    (λ e. rw (kept_more stands i.receipts.items _ written (rw is at e)) (the_text g.K.Fixed.bytes_of g.V.Fixed.bytes_of g.K.Known.is_known g.V.Known.is_known g.K.Fixed.SIZE g.V.Fixed.SIZE k.readable v.readable _ _ g.row.K.coded g.row.V.coded _ _ _ m.0.spelled, tt))
+    (λ e. rw (kept_more stands i.receipts.items _ written (rw is at e)) (the_text g.K.Fixed.codec g.V.Fixed.codec _ _ g.row.K.coded g.row.V.coded _ _ _ m.0.spelled, tt))
     (λ e. rw e (i.text, tt))
 
 pub invariant_of-self : goal.invariant_of-self
@@ -25,11 +23,11 @@ invariant_of-self g c =
     let written = c.args.written.receipt in
     let is = c.into_receipt.ensures.receipt in
     let fine = rw (← c.self.view_is) at (sym c.flush_refusal.ensures ∙ c.in_default.is) in
-    let m = flushed_by g.K.Fixed.bytes_of g.V.Fixed.bytes_of g.K.Known.is_known g.V.Known.is_known g.K.Fixed.SIZE g.V.Fixed.SIZE g.R.Receipt.keeps i.shape i.begin i.closed i.frozen i.tail _ i.frames i.text.0.0 (stands written) c.args.written.bytes c.self.invariant fine
+    let m = flushed_by g.K.Fixed.codec g.V.Fixed.codec g.R.Receipt.keeps i.shape i.begin i.closed i.frozen i.tail _ i.frames i.text.0.0 (stands written) c.args.written.bytes c.self.invariant fine
     (rw is at c.into_receipt.ensures.length) (rw is at c.into_receipt.ensures.kept) in
     either c.keep.result c.keep.ensures.ok c.keep.ensures.unchanged
-    (λ e. log_with g.K.Fixed.bytes_of g.V.Fixed.bytes_of g.K.Known.is_known g.V.Known.is_known g.K.Fixed.SIZE g.V.Fixed.SIZE g.R.Receipt.keeps i.shape i.begin i.closed i.frozen i.tail _ _ i.frames c.self-1.given.0 i.text.0.0 (kept_more stands i.receipts.items _ written (rw is at e)) m.0)
-    (λ e. log_with g.K.Fixed.bytes_of g.V.Fixed.bytes_of g.K.Known.is_known g.V.Known.is_known g.K.Fixed.SIZE g.V.Fixed.SIZE g.R.Receipt.keeps i.shape i.begin i.closed i.frozen i.tail _ _ i.frames c.self-1.given.0 i.text.0.0 (ap (map stands) e) c.self.invariant)
+    (λ e. log_with g.K.Fixed.codec g.V.Fixed.codec g.R.Receipt.keeps i.shape i.begin i.closed i.frozen i.tail _ _ i.frames c.self-1.given.0 i.text.0.0 (kept_more stands i.receipts.items _ written (rw is at e)) m.0)
+    (λ e. log_with g.K.Fixed.codec g.V.Fixed.codec g.R.Receipt.keeps i.shape i.begin i.closed i.frozen i.tail _ _ i.frames c.self-1.given.0 i.text.0.0 (ap (map stands) e) c.self.invariant)
 
 pub returns-clause-done : goal.returns-clause-done
 returns-clause-done g c =
@@ -38,13 +36,13 @@ returns-clause-done g c =
     let written = c.args.written.receipt in
     let is = c.into_receipt.ensures.receipt in
     let fine = rw (← c.self.view_is) at (sym c.flush_refusal.ensures ∙ c.in_default.is) in
-    let m = flushed_by g.K.Fixed.bytes_of g.V.Fixed.bytes_of g.K.Known.is_known g.V.Known.is_known g.K.Fixed.SIZE g.V.Fixed.SIZE g.R.Receipt.keeps i.shape i.begin i.closed i.frozen i.tail _ i.frames i.text.0.0 (stands written) c.args.written.bytes c.self.invariant fine
+    let m = flushed_by g.K.Fixed.codec g.V.Fixed.codec g.R.Receipt.keeps i.shape i.begin i.closed i.frozen i.tail _ i.frames i.text.0.0 (stands written) c.args.written.bytes c.self.invariant fine
     (rw is at c.into_receipt.ensures.length) (rw is at c.into_receipt.ensures.kept) in
     ok_then c.keep.result c.keep.ensures.ok
-    (λ e. rw (← c.self.view_is) (view_with g.K.Fixed.bytes_of g.V.Fixed.bytes_of g.K.Known.is_known g.V.Known.is_known g.K.Fixed.SIZE g.V.Fixed.SIZE g.R.Receipt.keeps i.shape i.begin i.closed i.frozen i.tail _ _ i.frames c.self-1.given.0 i.text.0.0 (kept_more stands i.receipts.items _ written (rw is at e)) m.0 ∙ m.1))
+    (λ e. rw (← c.self.view_is) (view_with g.K.Fixed.codec g.V.Fixed.codec g.R.Receipt.keeps i.shape i.begin i.closed i.frozen i.tail _ _ i.frames c.self-1.given.0 i.text.0.0 (kept_more stands i.receipts.items _ written (rw is at e)) m.0 ∙ m.1))
 
 pub returns-clause-unchanged : goal.returns-clause-unchanged
 returns-clause-unchanged g c =
     let i = c.self.inside in
     err_then c.keep.result c.keep.ensures.unchanged
-    (λ e. view_with g.K.Fixed.bytes_of g.V.Fixed.bytes_of g.K.Known.is_known g.V.Known.is_known g.K.Fixed.SIZE g.V.Fixed.SIZE g.R.Receipt.keeps i.shape i.begin i.closed i.frozen i.tail _ _ i.frames c.self-1.given.0 i.text.0.0 (ap (map g.R.Receipt.stands) e) c.self.invariant ∙ c.self.view_is)
+    (λ e. view_with g.K.Fixed.codec g.V.Fixed.codec g.R.Receipt.keeps i.shape i.begin i.closed i.frozen i.tail _ _ i.frames c.self-1.given.0 i.text.0.0 (ap (map g.R.Receipt.stands) e) c.self.invariant ∙ c.self.view_is)

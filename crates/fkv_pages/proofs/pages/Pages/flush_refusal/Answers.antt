@@ -8,6 +8,6 @@ returns g c =
     let i = c.self.inside in
     let count = rw (← c.self.view_is) at c.unflushed-page.ensures in
     let due = rw (← c.self.view_is) at (c.is_flush_due.ensures.due c.if-not-is_flush_due.false) in
-    let waits = lowest_waits g.K.Fixed.bytes_of g.V.Fixed.bytes_of g.K.Known.is_known g.V.Known.is_known g.K.Fixed.SIZE g.V.Fixed.SIZE g.R.Receipt.keeps i.shape i.begin i.closed i.frozen i.tail _ i.frames i.text.0.0 c.bytes.result.now c.self.invariant due (rw count at c.bytes.ensures.value) in
+    let waits = lowest_waits g.K.Fixed.codec g.V.Fixed.codec g.R.Receipt.keeps i.shape i.begin i.closed i.frozen i.tail _ i.frames i.text.0.0 c.bytes.result.now c.self.invariant due (rw count at c.bytes.ensures.value) in
     let page = sym c.page.ensures ∙ c.if-page.false ∙ count in
     c.refusal_of_bytes.ensures ∙ rw (c.bytes-2.ensures, ← c.self.view_is) (sym (refusal_is (view_as g.R.Receipt.keeps i.shape i.begin i.closed i.frozen i.tail _ i.frames i.text.0.0) _ c.args.written.now.bytes c.bytes.result.now _ page waits))

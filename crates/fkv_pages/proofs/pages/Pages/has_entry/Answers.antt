@@ -9,8 +9,8 @@ returns g c =
     let low : i.closed ≤ c.args.address = omega arith in
     let high : c.args.address < i.tail = omega arith in
     rw (← c.self.view_is) (
-      (λ yes. (low, place_entry g.K.Fixed.bytes_of g.V.Fixed.bytes_of g.K.Known.is_known g.V.Known.is_known g.K.Fixed.SIZE g.V.Fixed.SIZE g.R.Receipt.keeps i.shape i.begin i.closed i.frozen i.tail _ i.frames i.text.0.0 c.args.address c.self.invariant begun low high (c.is_place.ensures.value.0 yes))),
-      (λ h. let s = entry_place g.K.Fixed.bytes_of g.V.Fixed.bytes_of g.K.Known.is_known g.V.Known.is_known g.K.Fixed.SIZE g.V.Fixed.SIZE g.R.Receipt.keeps i.shape i.begin i.closed i.frozen i.tail _ i.frames i.text.0.0 c.args.address c.self.invariant h.1 in c.is_place.ensures.value.1 s.place),
+      (λ yes. (low, place_entry g.K.Fixed.codec g.V.Fixed.codec g.R.Receipt.keeps i.shape i.begin i.closed i.frozen i.tail _ i.frames i.text.0.0 c.args.address c.self.invariant begun low high (c.is_place.ensures.value.0 yes))),
+      (λ h. let s = entry_place g.K.Fixed.codec g.V.Fixed.codec g.R.Receipt.keeps i.shape i.begin i.closed i.frozen i.tail _ i.frames i.text.0.0 c.args.address c.self.invariant h.1 in c.is_place.ensures.value.1 s.place),
     )
 
 pub returns-then-address-self-2 : goal.returns-then-address-self-2
@@ -20,7 +20,7 @@ returns-then-address-self-2 g c =
     let begun = begins_high g.R.Receipt.keeps i.begin i.closed in
     rw (← c.self.view_is) (
       (λ yes. absurd (cc)),
-      (λ h. let s = entry_place g.K.Fixed.bytes_of g.V.Fixed.bytes_of g.K.Known.is_known g.V.Known.is_known g.K.Fixed.SIZE g.V.Fixed.SIZE g.R.Receipt.keeps i.shape i.begin i.closed i.frozen i.tail _ i.frames i.text.0.0 c.args.address c.self.invariant h.1 in let low = s.low in absurd (omega arith)),
+      (λ h. let s = entry_place g.K.Fixed.codec g.V.Fixed.codec g.R.Receipt.keeps i.shape i.begin i.closed i.frozen i.tail _ i.frames i.text.0.0 c.args.address c.self.invariant h.1 in let low = s.low in absurd (omega arith)),
     )
 
 pub returns-then-address-self-3 : goal.returns-then-address-self-3
@@ -30,5 +30,5 @@ returns-then-address-self-3 g c =
     let some = i.shape.limits.some in
     rw (← c.self.view_is) (
       (λ yes. absurd (cc)),
-      (λ h. let s = entry_place g.K.Fixed.bytes_of g.V.Fixed.bytes_of g.K.Known.is_known g.V.Known.is_known g.K.Fixed.SIZE g.V.Fixed.SIZE g.R.Receipt.keeps i.shape i.begin i.closed i.frozen i.tail _ i.frames i.text.0.0 c.args.address c.self.invariant h.1 in let high = s.high in absurd (omega arith)),
+      (λ h. let s = entry_place g.K.Fixed.codec g.V.Fixed.codec g.R.Receipt.keeps i.shape i.begin i.closed i.frozen i.tail _ i.frames i.text.0.0 c.args.address c.self.invariant h.1 in let high = s.high in absurd (omega arith)),
     )

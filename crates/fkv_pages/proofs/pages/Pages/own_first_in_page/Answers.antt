@@ -12,8 +12,6 @@ reached_in-requires-clause-sized g c =
 
 pub returns-clause-kept : goal.returns-clause-kept
 returns-clause-kept g c = λ keeps es chain.
-    let k = g.met.K.Fixed in
-    let v = g.met.V.Fixed in
     let i = c.self.inside in
     let bits = i.shape.page_bits in
     let page = c.args.page in
@@ -21,16 +19,16 @@ returns-clause-kept g c = λ keeps es chain.
     let s = g.R.Receipt.stands c.args.loaded.now.receipt in
     let is = rw c.receipt-receipt.ensures.receipt at c.receipt-receipt.ensures.kept in
     let bytes = is keeps ∙ sym c.bytes.ensures in
-    let entry = IsEntryIn g.K.Fixed.bytes_of g.V.Fixed.bytes_of g.K.Known.is_known g.V.Known.is_known g.K.Fixed.SIZE g.V.Fixed.SIZE bits c.bytes.result.now in
+    let entry = IsEntryIn g.K.Fixed.codec g.V.Fixed.codec bits c.bytes.result.now in
     let reach = c.reached_in.ensures in
     let chained = rw (← c.self.view_is) at chain in
     let own = rw (← c.self.view_is) at c.requires.own in
     let within = rw (← c.self.view_is) at c.requires.within in
-    reached_is g.K.Fixed.bytes_of g.V.Fixed.bytes_of g.K.Known.is_known g.V.Known.is_known g.K.Fixed.SIZE g.V.Fixed.SIZE entry g.K.Ord.cmp c.args.key.now bits c.args.low c.args.from i.text.0.0
-    (text_rises g.K.Fixed.bytes_of g.V.Fixed.bytes_of g.K.Known.is_known g.V.Known.is_known g.K.Fixed.SIZE g.V.Fixed.SIZE g.R.Receipt.keeps i.shape i.begin i.closed i.frozen i.tail _ i.frames i.text.0.0 c.self.invariant)
-    (λ b d e h j. one_entry_in g.K.Fixed.bytes_of g.V.Fixed.bytes_of g.K.Known.is_known g.V.Known.is_known g.K.Fixed.SIZE g.V.Fixed.SIZE k.readable v.readable bits c.bytes.result.now b d e h j)
-    (λ b e h. entry_falls g.K.Fixed.bytes_of g.V.Fixed.bytes_of g.K.Known.is_known g.V.Known.is_known g.K.Fixed.SIZE g.V.Fixed.SIZE bits i.shape.record_size c.bytes.result.now b e i.shape.limits c.self.invariant.size h)
-    (λ b e under high is. subst (λ (x : List ℕ). IsEntryIn g.K.Fixed.bytes_of g.V.Fixed.bytes_of g.K.Known.is_known g.V.Known.is_known g.K.Fixed.SIZE g.V.Fixed.SIZE bits x b e) bytes (entries_in g.K.Fixed.bytes_of g.V.Fixed.bytes_of g.K.Known.is_known g.V.Known.is_known g.K.Fixed.SIZE g.V.Fixed.SIZE g.R.Receipt.keeps i.shape i.begin i.closed i.frozen i.tail _ i.frames i.text.0.0 c.args.from page s c.self.invariant keeps own within b e (omega (arith, floor, under)) high is))
+    reached_is g.K.Fixed.codec g.V.Fixed.codec entry g.K.Ord.cmp c.args.key.now bits c.args.low c.args.from i.text.0.0
+    (text_rises g.K.Fixed.codec g.V.Fixed.codec g.R.Receipt.keeps i.shape i.begin i.closed i.frozen i.tail _ i.frames i.text.0.0 c.self.invariant)
+    (λ b d e h j. one_entry_in g.K.Fixed.codec g.V.Fixed.codec bits c.bytes.result.now b d e h j)
+    (λ b e h. entry_falls g.K.Fixed.codec g.V.Fixed.codec bits i.shape.record_size c.bytes.result.now b e i.shape.limits c.self.invariant.size h)
+    (λ b e under high is. subst (λ (x : List ℕ). IsEntryIn g.K.Fixed.codec g.V.Fixed.codec bits x b e) bytes (entries_in g.K.Fixed.codec g.V.Fixed.codec g.R.Receipt.keeps i.shape i.begin i.closed i.frozen i.tail _ i.frames i.text.0.0 c.args.from page s c.self.invariant keeps own within b e (omega (arith, floor, under)) high is))
     c.args.from es c.reached_in.result (omega arith) chained reach
 
 pub returns-clause-read : goal.returns-clause-read
@@ -42,10 +40,10 @@ returns-clause-damaged g c =
     let bits = i.shape.page_bits in
     let page = c.args.page in
     let floor = rw (← c.self.view_is) at c.requires.floor in
-    let entry = IsEntryIn g.K.Fixed.bytes_of g.V.Fixed.bytes_of g.K.Known.is_known g.V.Known.is_known g.K.Fixed.SIZE g.V.Fixed.SIZE bits c.bytes.result.now in
+    let entry = IsEntryIn g.K.Fixed.codec g.V.Fixed.codec bits c.bytes.result.now in
     let reach = c.reached_in.ensures in
     let within = rw (← c.self.view_is) at c.requires.within in
     if_err c.reached_in.result (λ why is.
     reached_refused entry g.K.Ord.cmp c.args.key.now bits page c.args.low why
-    (λ b e h. entry_falls g.K.Fixed.bytes_of g.V.Fixed.bytes_of g.K.Known.is_known g.V.Known.is_known g.K.Fixed.SIZE g.V.Fixed.SIZE bits i.shape.record_size c.bytes.result.now b e i.shape.limits c.self.invariant.size h)
+    (λ b e h. entry_falls g.K.Fixed.codec g.V.Fixed.codec bits i.shape.record_size c.bytes.result.now b e i.shape.limits c.self.invariant.size h)
     floor c.args.from c.reached_in.result within reach is)

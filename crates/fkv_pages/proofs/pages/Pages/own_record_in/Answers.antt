@@ -17,5 +17,5 @@ returns-clause-kept g c = λ keeps.
     let is = rw c.receipt-receipt.ensures.receipt at c.receipt-receipt.ensures.kept in
     let bytes = is keeps ∙ sym c.bytes.ensures in
     rw (← c.self.view_is) (if_some (entry_at i.text.0.0 c.args.address) (λ e at_it.
-    c.entry_in.ensures.found e (subst (λ (b : List _). IsEntryIn g.K.Fixed.bytes_of g.V.Fixed.bytes_of g.K.Known.is_known g.V.Known.is_known g.K.Fixed.SIZE g.V.Fixed.SIZE i.shape.page_bits b c.args.address e) bytes
-    (entry_in g.K.Fixed.bytes_of g.V.Fixed.bytes_of g.K.Known.is_known g.V.Known.is_known g.K.Fixed.SIZE g.V.Fixed.SIZE g.R.Receipt.keeps i.shape i.begin i.closed i.frozen i.tail _ i.frames i.text.0.0 c.args.address (g.R.Receipt.stands c.args.loaded.now.receipt) e c.self.invariant keeps (rw (← c.self.view_is) at c.requires.own) at_it))))
+    c.entry_in.ensures.found e (subst (λ (b : List _). IsEntryIn g.K.Fixed.codec g.V.Fixed.codec i.shape.page_bits b c.args.address e) bytes
+    (entry_in g.K.Fixed.codec g.V.Fixed.codec g.R.Receipt.keeps i.shape i.begin i.closed i.frozen i.tail _ i.frames i.text.0.0 c.args.address (g.R.Receipt.stands c.args.loaded.now.receipt) e c.self.invariant keeps (rw (← c.self.view_is) at c.requires.own) at_it))))

@@ -64,7 +64,7 @@ returns-else-is_no_memory-clause-effect g c =
     LoadsOn.failed x wanted c.in-Err.refused a c.in-Err.is (λ e. false≢true (sym c.if-is_no_memory.false ∙ c.is_no_memory.ensures.1 e)) c.end.ensures refl
 
 pub returns-in-Ok-clause-effect : goal.returns-in-Ok-clause-effect
-returns-in-Ok-clause-effect g c = subst (λ r. LoadsOn g.R.Receipt.stands (IsEntryIn g.F.Key.Fixed.bytes_of g.F.Value.Fixed.bytes_of g.F.Key.Known.is_known g.F.Value.Known.is_known g.F.Key.Fixed.SIZE g.F.Value.Fixed.SIZE) g.F.Key.Ord.cmp g.F.Mergeable.parts.joined g.F.Functions.code c.args.self.now c.receive.new.self c.args.slot c.args.context r c.args.now c.receive.result) (sym c.in-Ok.is) c.receive.ensures.effect
+returns-in-Ok-clause-effect g c = subst (λ r. LoadsOn g.R.Receipt.stands (IsEntryIn g.F.Key.Fixed.codec g.F.Value.Fixed.codec) g.F.Key.Ord.cmp g.F.Mergeable.parts.joined g.F.Functions.code c.args.self.now c.receive.new.self c.args.slot c.args.context r c.args.now c.receive.result) (sym c.in-Ok.is) c.receive.ensures.effect
 
 pub returns-in_default-clause-effect : goal.returns-in_default-clause-effect
 returns-in_default-clause-effect g c = LoadsOn.unknown (sym c.in_default.ensures.value) refl refl

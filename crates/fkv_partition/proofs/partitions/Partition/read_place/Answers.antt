@@ -46,7 +46,7 @@ returns-in-Err-clause-effect g c =
     let moved = ap (λ u. u.core.records) c.self.view_is in
     let page = c.page_of-page.ensures ∙ ap (λ r. page_at r.page_bits x.target) (c.records.ensures ∙ moved) in
     let has : HasPage v c.args.slot c.args.context x x.target (g.R.Receipt.stands p.receipt) = c.requires.has in
-    let found = subst (λ r. (y : Entry _ _) → IsEntryIn g.F.Key.Fixed.bytes_of g.F.Value.Fixed.bytes_of g.F.Key.Known.is_known g.F.Value.Known.is_known g.F.Key.Fixed.SIZE g.F.Value.Fixed.SIZE r.page_bits p.bytes x.target y → c.own_record_in.result ≡ Ok y) (c.records-2.ensures ∙ moved) c.own_record_in.ensures.found in
+    let found = subst (λ r. (y : Entry _ _) → IsEntryIn g.F.Key.Fixed.codec g.F.Value.Fixed.codec r.page_bits p.bytes x.target y → c.own_record_in.result ≡ Ok y) (c.records-2.ensures ∙ moved) c.own_record_in.ensures.found in
     LoadsOn.damaged x v.core.records.begin p at has refl (λ y spelled. err-ok (sym c.in-Err.is ∙ found y spelled)) c.end.ensures (ap (λ n. Err (Damaged n)) page)
 
 pub returns-in-Ok-clause-effect : goal.returns-in-Ok-clause-effect
@@ -61,7 +61,7 @@ returns-in-Ok-clause-effect g c =
     let moved = ap (λ u. u.core.records) c.self.view_is in
     let page = c.page_of-page.ensures ∙ ap (λ r. page_at r.page_bits x.target) (c.records.ensures ∙ moved) in
     let has : HasPage v c.args.slot c.args.context x x.target (g.R.Receipt.stands p.receipt) = c.requires.has in
-    let spelled = subst (λ u. (IsEntryIn g.F.Key.Fixed.bytes_of g.F.Value.Fixed.bytes_of g.F.Key.Known.is_known g.F.Value.Known.is_known g.F.Key.Fixed.SIZE g.F.Value.Fixed.SIZE) u.core.records.page_bits p.bytes x.target c.in-Ok.entry) c.self.view_is (rw (c.records-2.ensures, c.in-Ok.is) at c.own_record_in.ensures.only) in
+    let spelled = subst (λ u. (IsEntryIn g.F.Key.Fixed.codec g.F.Value.Fixed.codec) u.core.records.page_bits p.bytes x.target c.in-Ok.entry) c.self.view_is (rw (c.records-2.ensures, c.in-Ok.is) at c.own_record_in.ensures.only) in
     LoadsOn.checks x v.core.records.begin p c.in-Ok.entry at has refl spelled c.check_liveness.ensures.effect
 
 pub returns-in-Err-clause-cleared : goal.returns-in-Err-clause-cleared

@@ -61,10 +61,10 @@ returns-in-Err-clause-effect g c =
     let l = c.args.loading in
     let at = c.requires.traces in
     let moved = ap (λ u. u.core.records) c.self.view_is in
-    let came = page-came g.R.Receipt.keeps (IsEntryIn g.F.Key.Fixed.bytes_of g.F.Value.Fixed.bytes_of g.F.Key.Known.is_known g.F.Value.Known.is_known g.F.Key.Fixed.SIZE g.F.Value.Fixed.SIZE) g.F.Key.Ord.cmp g.F.Mergeable.parts.joined g.F.Functions.code c.records.result.now c.records-2.result.now c.records-3.result.now v.core.records x.target e.key c.page_of-page.result c.higher_of-low.result l (g.R.Receipt.stands p.receipt) p.bytes c.trace_in.result (c.records.ensures ∙ moved) (c.records-2.ensures ∙ moved) (c.records-3.ensures ∙ moved) c.page_of-page.ensures (c.higher_of-low.ensures.value ∙ ap (higher_of (x.target + 1)) c.first_of.ensures) c.requires.has.own c.trace_in.ensures.read c.trace_in.ensures.kept in
+    let came = page-came g.R.Receipt.keeps (IsEntryIn g.F.Key.Fixed.codec g.F.Value.Fixed.codec) g.F.Key.Ord.cmp g.F.Mergeable.parts.joined g.F.Functions.code c.records.result.now c.records-2.result.now c.records-3.result.now v.core.records x.target e.key c.page_of-page.result c.higher_of-low.result l (g.R.Receipt.stands p.receipt) p.bytes c.trace_in.result (c.records.ensures ∙ moved) (c.records-2.ensures ∙ moved) (c.records-3.ensures ∙ moved) c.page_of-page.ensures (c.higher_of-low.ensures.value ∙ ap (higher_of (x.target + 1)) c.first_of.ensures) c.requires.has.own c.trace_in.ensures.read c.trace_in.ensures.kept in
     let page = c.page_of-page.ensures ∙ ap (λ r. page_at r.page_bits l.wanted) (c.records.ensures ∙ moved) in
     let is = c.in-Err.is in
-    LoadsOn.bad_record x e l p c.in-Err._damaged at (has-page g.F.Key.Ord.cmp g.F.Mergeable.parts.joined g.F.Functions.code order v sound s c.args.slot c.args.context x e l a at (IsEntryIn g.F.Key.Fixed.bytes_of g.F.Value.Fixed.bytes_of g.F.Key.Known.is_known g.F.Value.Known.is_known g.F.Key.Fixed.SIZE g.F.Value.Fixed.SIZE) (g.R.Receipt.stands p.receipt) p.bytes c.trace_in.result came) refl (traces-to g.F.Key.Ord.cmp g.F.Mergeable.parts.joined g.F.Functions.code order v sound s c.args.slot c.args.context x e l a at (IsEntryIn g.F.Key.Fixed.bytes_of g.F.Value.Fixed.bytes_of g.F.Key.Known.is_known g.F.Value.Known.is_known g.F.Key.Fixed.SIZE g.F.Value.Fixed.SIZE) (g.R.Receipt.stands p.receipt) p.bytes c.trace_in.result came (Err c.in-Err._damaged) is) c.end.ensures (ap (λ n. Err (Damaged n)) page)
+    LoadsOn.bad_record x e l p c.in-Err._damaged at (has-page g.F.Key.Ord.cmp g.F.Mergeable.parts.joined g.F.Functions.code order v sound s c.args.slot c.args.context x e l a at (IsEntryIn g.F.Key.Fixed.codec g.F.Value.Fixed.codec) (g.R.Receipt.stands p.receipt) p.bytes c.trace_in.result came) refl (traces-to g.F.Key.Ord.cmp g.F.Mergeable.parts.joined g.F.Functions.code order v sound s c.args.slot c.args.context x e l a at (IsEntryIn g.F.Key.Fixed.codec g.F.Value.Fixed.codec) (g.R.Receipt.stands p.receipt) p.bytes c.trace_in.result came (Err c.in-Err._damaged) is) c.end.ensures (ap (λ n. Err (Damaged n)) page)
 
 pub finish-requires-clause-issued : goal.finish-requires-clause-issued
 finish-requires-clause-issued g c =
@@ -110,11 +110,11 @@ finish-requires-clause-superseded g c =
     let l = c.args.loading in
     let at = c.requires.traces in
     let moved = ap (λ u. u.core.records) c.self.view_is in
-    let came = page-came g.R.Receipt.keeps (IsEntryIn g.F.Key.Fixed.bytes_of g.F.Value.Fixed.bytes_of g.F.Key.Known.is_known g.F.Value.Known.is_known g.F.Key.Fixed.SIZE g.F.Value.Fixed.SIZE) g.F.Key.Ord.cmp g.F.Mergeable.parts.joined g.F.Functions.code c.records.result.now c.records-2.result.now c.records-3.result.now v.core.records x.target e.key c.page_of-page.result c.higher_of-low.result l (g.R.Receipt.stands p.receipt) p.bytes c.trace_in.result (c.records.ensures ∙ moved) (c.records-2.ensures ∙ moved) (c.records-3.ensures ∙ moved) c.page_of-page.ensures (c.higher_of-low.ensures.value ∙ ap (higher_of (x.target + 1)) c.first_of.ensures) c.requires.has.own c.trace_in.ensures.read c.trace_in.ensures.kept in
+    let came = page-came g.R.Receipt.keeps (IsEntryIn g.F.Key.Fixed.codec g.F.Value.Fixed.codec) g.F.Key.Ord.cmp g.F.Mergeable.parts.joined g.F.Functions.code c.records.result.now c.records-2.result.now c.records-3.result.now v.core.records x.target e.key c.page_of-page.result c.higher_of-low.result l (g.R.Receipt.stands p.receipt) p.bytes c.trace_in.result (c.records.ensures ∙ moved) (c.records-2.ensures ∙ moved) (c.records-3.ensures ∙ moved) c.page_of-page.ensures (c.higher_of-low.ensures.value ∙ ap (higher_of (x.target + 1)) c.first_of.ensures) c.requires.has.own c.trace_in.ensures.read c.trace_in.ensures.kept in
     let r = c.in-Ok.came in
     let is = c.in-Ok.is in
     let j = sym c.liveness_of.ensures ∙ c.in-Superseded.is in
-    way-dead g.F.Key.Ord.cmp g.F.Mergeable.parts.joined g.F.Functions.code order v sound s c.args.slot c.args.context x e l a at (IsEntryIn g.F.Key.Fixed.bytes_of g.F.Value.Fixed.bytes_of g.F.Key.Known.is_known g.F.Value.Known.is_known g.F.Key.Fixed.SIZE g.F.Value.Fixed.SIZE) (g.R.Receipt.stands p.receipt) p.bytes c.trace_in.result came r is j
+    way-dead g.F.Key.Ord.cmp g.F.Mergeable.parts.joined g.F.Functions.code order v sound s c.args.slot c.args.context x e l a at (IsEntryIn g.F.Key.Fixed.codec g.F.Value.Fixed.codec) (g.R.Receipt.stands p.receipt) p.bytes c.trace_in.result came r is j
 
 pub append_again-requires-clause-stands : goal.append_again-requires-clause-stands
 append_again-requires-clause-stands g c =
@@ -131,12 +131,12 @@ append_again-requires-clause-stands g c =
     let l = c.args.loading in
     let at = c.requires.traces in
     let moved = ap (λ u. u.core.records) c.self.view_is in
-    let came = page-came g.R.Receipt.keeps (IsEntryIn g.F.Key.Fixed.bytes_of g.F.Value.Fixed.bytes_of g.F.Key.Known.is_known g.F.Value.Known.is_known g.F.Key.Fixed.SIZE g.F.Value.Fixed.SIZE) g.F.Key.Ord.cmp g.F.Mergeable.parts.joined g.F.Functions.code c.records.result.now c.records-2.result.now c.records-3.result.now v.core.records x.target e.key c.page_of-page.result c.higher_of-low.result l (g.R.Receipt.stands p.receipt) p.bytes c.trace_in.result (c.records.ensures ∙ moved) (c.records-2.ensures ∙ moved) (c.records-3.ensures ∙ moved) c.page_of-page.ensures (c.higher_of-low.ensures.value ∙ ap (higher_of (x.target + 1)) c.first_of.ensures) c.requires.has.own c.trace_in.ensures.read c.trace_in.ensures.kept in
+    let came = page-came g.R.Receipt.keeps (IsEntryIn g.F.Key.Fixed.codec g.F.Value.Fixed.codec) g.F.Key.Ord.cmp g.F.Mergeable.parts.joined g.F.Functions.code c.records.result.now c.records-2.result.now c.records-3.result.now v.core.records x.target e.key c.page_of-page.result c.higher_of-low.result l (g.R.Receipt.stands p.receipt) p.bytes c.trace_in.result (c.records.ensures ∙ moved) (c.records-2.ensures ∙ moved) (c.records-3.ensures ∙ moved) c.page_of-page.ensures (c.higher_of-low.ensures.value ∙ ap (higher_of (x.target + 1)) c.first_of.ensures) c.requires.has.own c.trace_in.ensures.read c.trace_in.ensures.kept in
     let r = c.in-Ok.came in
     let is = c.in-Ok.is in
     let j = sym c.liveness_of.ensures ∙ c.in-Last.is in
     subst (λ q. StageStands g.R.Receipt.keeps g.F.Key.Ord.cmp g.F.Mergeable.parts.joined g.F.Functions.code v.core x.target (Ready q l.kept)) (sym c.renewed-whole.ensures)
-    (way-last g.F.Key.Ord.cmp g.F.Mergeable.parts.joined g.F.Functions.code order v sound s c.args.slot c.args.context x e l a at (IsEntryIn g.F.Key.Fixed.bytes_of g.F.Value.Fixed.bytes_of g.F.Key.Known.is_known g.F.Value.Known.is_known g.F.Key.Fixed.SIZE g.F.Value.Fixed.SIZE) (g.R.Receipt.stands p.receipt) p.bytes c.trace_in.result came r c.in-Last.parts is j)
+    (way-last g.F.Key.Ord.cmp g.F.Mergeable.parts.joined g.F.Functions.code order v sound s c.args.slot c.args.context x e l a at (IsEntryIn g.F.Key.Fixed.codec g.F.Value.Fixed.codec) (g.R.Receipt.stands p.receipt) p.bytes c.trace_in.result came r c.in-Last.parts is j)
 
 pub returns-then-not-is_place-clause-effect : goal.returns-then-not-is_place-clause-effect
 returns-then-not-is_place-clause-effect g c =
@@ -153,13 +153,13 @@ returns-then-not-is_place-clause-effect g c =
     let l = c.args.loading in
     let at = c.requires.traces in
     let moved = ap (λ u. u.core.records) c.self.view_is in
-    let came = page-came g.R.Receipt.keeps (IsEntryIn g.F.Key.Fixed.bytes_of g.F.Value.Fixed.bytes_of g.F.Key.Known.is_known g.F.Value.Known.is_known g.F.Key.Fixed.SIZE g.F.Value.Fixed.SIZE) g.F.Key.Ord.cmp g.F.Mergeable.parts.joined g.F.Functions.code c.records.result.now c.records-2.result.now c.records-3.result.now v.core.records x.target e.key c.page_of-page.result c.higher_of-low.result l (g.R.Receipt.stands p.receipt) p.bytes c.trace_in.result (c.records.ensures ∙ moved) (c.records-2.ensures ∙ moved) (c.records-3.ensures ∙ moved) c.page_of-page.ensures (c.higher_of-low.ensures.value ∙ ap (higher_of (x.target + 1)) c.first_of.ensures) c.requires.has.own c.trace_in.ensures.read c.trace_in.ensures.kept in
+    let came = page-came g.R.Receipt.keeps (IsEntryIn g.F.Key.Fixed.codec g.F.Value.Fixed.codec) g.F.Key.Ord.cmp g.F.Mergeable.parts.joined g.F.Functions.code c.records.result.now c.records-2.result.now c.records-3.result.now v.core.records x.target e.key c.page_of-page.result c.higher_of-low.result l (g.R.Receipt.stands p.receipt) p.bytes c.trace_in.result (c.records.ensures ∙ moved) (c.records-2.ensures ∙ moved) (c.records-3.ensures ∙ moved) c.page_of-page.ensures (c.higher_of-low.ensures.value ∙ ap (higher_of (x.target + 1)) c.first_of.ensures) c.requires.has.own c.trace_in.ensures.read c.trace_in.ensures.kept in
     let page = c.page_of-page.ensures ∙ ap (λ r. page_at r.page_bits l.wanted) (c.records.ensures ∙ moved) in
     let r = c.in-Ok.came in
     let is = c.in-Ok.is in
     let b = c.in-Further.address in
     let j = sym c.liveness_of.ensures ∙ c.in-Further.is in
-    LoadsOn.bad_link x e l p b c.in-Further.parts at (has-page g.F.Key.Ord.cmp g.F.Mergeable.parts.joined g.F.Functions.code order v sound s c.args.slot c.args.context x e l a at (IsEntryIn g.F.Key.Fixed.bytes_of g.F.Value.Fixed.bytes_of g.F.Key.Known.is_known g.F.Value.Known.is_known g.F.Key.Fixed.SIZE g.F.Value.Fixed.SIZE) (g.R.Receipt.stands p.receipt) p.bytes c.trace_in.result came) refl (way-below g.F.Key.Ord.cmp g.F.Mergeable.parts.joined g.F.Functions.code order v sound s c.args.slot c.args.context x e l a at (IsEntryIn g.F.Key.Fixed.bytes_of g.F.Value.Fixed.bytes_of g.F.Key.Known.is_known g.F.Value.Known.is_known g.F.Key.Fixed.SIZE g.F.Value.Fixed.SIZE) (g.R.Receipt.stands p.receipt) p.bytes c.trace_in.result came r b c.in-Further.parts is j) (above-place g.F.Key.Ord.cmp g.F.Mergeable.parts.joined g.F.Functions.code order v sound s c.args.slot c.args.context x e l a at (IsEntryIn g.F.Key.Fixed.bytes_of g.F.Value.Fixed.bytes_of g.F.Key.Known.is_known g.F.Value.Known.is_known g.F.Key.Fixed.SIZE g.F.Value.Fixed.SIZE) (g.R.Receipt.stands p.receipt) p.bytes c.trace_in.result came r b c.in-Further.parts is j)
+    LoadsOn.bad_link x e l p b c.in-Further.parts at (has-page g.F.Key.Ord.cmp g.F.Mergeable.parts.joined g.F.Functions.code order v sound s c.args.slot c.args.context x e l a at (IsEntryIn g.F.Key.Fixed.codec g.F.Value.Fixed.codec) (g.R.Receipt.stands p.receipt) p.bytes c.trace_in.result came) refl (way-below g.F.Key.Ord.cmp g.F.Mergeable.parts.joined g.F.Functions.code order v sound s c.args.slot c.args.context x e l a at (IsEntryIn g.F.Key.Fixed.codec g.F.Value.Fixed.codec) (g.R.Receipt.stands p.receipt) p.bytes c.trace_in.result came r b c.in-Further.parts is j) (above-place g.F.Key.Ord.cmp g.F.Mergeable.parts.joined g.F.Functions.code order v sound s c.args.slot c.args.context x e l a at (IsEntryIn g.F.Key.Fixed.codec g.F.Value.Fixed.codec) (g.R.Receipt.stands p.receipt) p.bytes c.trace_in.result came r b c.in-Further.parts is j)
     (λ place. false≢true (sym c.if-not-is_place.true ∙ c.is_place.ensures.1 (subst (λ r. IsRecordStart r.page_bits r.record_size b) (sym (c.records-in-Further.ensures ∙ moved)) place))) c.end-then-not-is_place.ensures (ap (λ n. Err (Damaged n)) page)
 
 pub ask-requires-clause-flushed : goal.ask-requires-clause-flushed
@@ -177,12 +177,12 @@ ask-requires-clause-flushed g c =
     let l = c.args.loading in
     let at = c.requires.traces in
     let moved = ap (λ u. u.core.records) c.self.view_is in
-    let came = page-came g.R.Receipt.keeps (IsEntryIn g.F.Key.Fixed.bytes_of g.F.Value.Fixed.bytes_of g.F.Key.Known.is_known g.F.Value.Known.is_known g.F.Key.Fixed.SIZE g.F.Value.Fixed.SIZE) g.F.Key.Ord.cmp g.F.Mergeable.parts.joined g.F.Functions.code c.records.result.now c.records-2.result.now c.records-3.result.now v.core.records x.target e.key c.page_of-page.result c.higher_of-low.result l (g.R.Receipt.stands p.receipt) p.bytes c.trace_in.result (c.records.ensures ∙ moved) (c.records-2.ensures ∙ moved) (c.records-3.ensures ∙ moved) c.page_of-page.ensures (c.higher_of-low.ensures.value ∙ ap (higher_of (x.target + 1)) c.first_of.ensures) c.requires.has.own c.trace_in.ensures.read c.trace_in.ensures.kept in
+    let came = page-came g.R.Receipt.keeps (IsEntryIn g.F.Key.Fixed.codec g.F.Value.Fixed.codec) g.F.Key.Ord.cmp g.F.Mergeable.parts.joined g.F.Functions.code c.records.result.now c.records-2.result.now c.records-3.result.now v.core.records x.target e.key c.page_of-page.result c.higher_of-low.result l (g.R.Receipt.stands p.receipt) p.bytes c.trace_in.result (c.records.ensures ∙ moved) (c.records-2.ensures ∙ moved) (c.records-3.ensures ∙ moved) c.page_of-page.ensures (c.higher_of-low.ensures.value ∙ ap (higher_of (x.target + 1)) c.first_of.ensures) c.requires.has.own c.trace_in.ensures.read c.trace_in.ensures.kept in
     let r = c.in-Ok.came in
     let is = c.in-Ok.is in
     let b = c.in-Further.address in
     let j = sym c.liveness_of.ensures ∙ c.in-Further.is in
-    lower-flushed g.F.Key.Ord.cmp g.F.Mergeable.parts.joined g.F.Functions.code order v sound s c.args.slot c.args.context x e l a at (IsEntryIn g.F.Key.Fixed.bytes_of g.F.Value.Fixed.bytes_of g.F.Key.Known.is_known g.F.Value.Known.is_known g.F.Key.Fixed.SIZE g.F.Value.Fixed.SIZE) (g.R.Receipt.stands p.receipt) p.bytes c.trace_in.result came r b c.in-Further.parts is j
+    lower-flushed g.F.Key.Ord.cmp g.F.Mergeable.parts.joined g.F.Functions.code order v sound s c.args.slot c.args.context x e l a at (IsEntryIn g.F.Key.Fixed.codec g.F.Value.Fixed.codec) (g.R.Receipt.stands p.receipt) p.bytes c.trace_in.result came r b c.in-Further.parts is j
 
 pub ask-requires-clause-stands : goal.ask-requires-clause-stands
 ask-requires-clause-stands g c =
@@ -199,12 +199,12 @@ ask-requires-clause-stands g c =
     let l = c.args.loading in
     let at = c.requires.traces in
     let moved = ap (λ u. u.core.records) c.self.view_is in
-    let came = page-came g.R.Receipt.keeps (IsEntryIn g.F.Key.Fixed.bytes_of g.F.Value.Fixed.bytes_of g.F.Key.Known.is_known g.F.Value.Known.is_known g.F.Key.Fixed.SIZE g.F.Value.Fixed.SIZE) g.F.Key.Ord.cmp g.F.Mergeable.parts.joined g.F.Functions.code c.records.result.now c.records-2.result.now c.records-3.result.now v.core.records x.target e.key c.page_of-page.result c.higher_of-low.result l (g.R.Receipt.stands p.receipt) p.bytes c.trace_in.result (c.records.ensures ∙ moved) (c.records-2.ensures ∙ moved) (c.records-3.ensures ∙ moved) c.page_of-page.ensures (c.higher_of-low.ensures.value ∙ ap (higher_of (x.target + 1)) c.first_of.ensures) c.requires.has.own c.trace_in.ensures.read c.trace_in.ensures.kept in
+    let came = page-came g.R.Receipt.keeps (IsEntryIn g.F.Key.Fixed.codec g.F.Value.Fixed.codec) g.F.Key.Ord.cmp g.F.Mergeable.parts.joined g.F.Functions.code c.records.result.now c.records-2.result.now c.records-3.result.now v.core.records x.target e.key c.page_of-page.result c.higher_of-low.result l (g.R.Receipt.stands p.receipt) p.bytes c.trace_in.result (c.records.ensures ∙ moved) (c.records-2.ensures ∙ moved) (c.records-3.ensures ∙ moved) c.page_of-page.ensures (c.higher_of-low.ensures.value ∙ ap (higher_of (x.target + 1)) c.first_of.ensures) c.requires.has.own c.trace_in.ensures.read c.trace_in.ensures.kept in
     let r = c.in-Ok.came in
     let is = c.in-Ok.is in
     let b = c.in-Further.address in
     let j = sym c.liveness_of.ensures ∙ c.in-Further.is in
-    way-further g.F.Key.Ord.cmp g.F.Mergeable.parts.joined g.F.Functions.code order v sound s c.args.slot c.args.context x e l a at (IsEntryIn g.F.Key.Fixed.bytes_of g.F.Value.Fixed.bytes_of g.F.Key.Known.is_known g.F.Value.Known.is_known g.F.Key.Fixed.SIZE g.F.Value.Fixed.SIZE) (g.R.Receipt.stands p.receipt) p.bytes c.trace_in.result came r b c.in-Further.parts is j
+    way-further g.F.Key.Ord.cmp g.F.Mergeable.parts.joined g.F.Functions.code order v sound s c.args.slot c.args.context x e l a at (IsEntryIn g.F.Key.Fixed.codec g.F.Value.Fixed.codec) (g.R.Receipt.stands p.receipt) p.bytes c.trace_in.result came r b c.in-Further.parts is j
 
 pub returns-in-Superseded-clause-effect : goal.returns-in-Superseded-clause-effect
 returns-in-Superseded-clause-effect g c =
@@ -221,11 +221,11 @@ returns-in-Superseded-clause-effect g c =
     let l = c.args.loading in
     let at = c.requires.traces in
     let moved = ap (λ u. u.core.records) c.self.view_is in
-    let came = page-came g.R.Receipt.keeps (IsEntryIn g.F.Key.Fixed.bytes_of g.F.Value.Fixed.bytes_of g.F.Key.Known.is_known g.F.Value.Known.is_known g.F.Key.Fixed.SIZE g.F.Value.Fixed.SIZE) g.F.Key.Ord.cmp g.F.Mergeable.parts.joined g.F.Functions.code c.records.result.now c.records-2.result.now c.records-3.result.now v.core.records x.target e.key c.page_of-page.result c.higher_of-low.result l (g.R.Receipt.stands p.receipt) p.bytes c.trace_in.result (c.records.ensures ∙ moved) (c.records-2.ensures ∙ moved) (c.records-3.ensures ∙ moved) c.page_of-page.ensures (c.higher_of-low.ensures.value ∙ ap (higher_of (x.target + 1)) c.first_of.ensures) c.requires.has.own c.trace_in.ensures.read c.trace_in.ensures.kept in
+    let came = page-came g.R.Receipt.keeps (IsEntryIn g.F.Key.Fixed.codec g.F.Value.Fixed.codec) g.F.Key.Ord.cmp g.F.Mergeable.parts.joined g.F.Functions.code c.records.result.now c.records-2.result.now c.records-3.result.now v.core.records x.target e.key c.page_of-page.result c.higher_of-low.result l (g.R.Receipt.stands p.receipt) p.bytes c.trace_in.result (c.records.ensures ∙ moved) (c.records-2.ensures ∙ moved) (c.records-3.ensures ∙ moved) c.page_of-page.ensures (c.higher_of-low.ensures.value ∙ ap (higher_of (x.target + 1)) c.first_of.ensures) c.requires.has.own c.trace_in.ensures.read c.trace_in.ensures.kept in
     let r = c.in-Ok.came in
     let is = c.in-Ok.is in
     let j = sym c.liveness_of.ensures ∙ c.in-Superseded.is in
-    LoadsOn.newer x e l p r at (has-page g.F.Key.Ord.cmp g.F.Mergeable.parts.joined g.F.Functions.code order v sound s c.args.slot c.args.context x e l a at (IsEntryIn g.F.Key.Fixed.bytes_of g.F.Value.Fixed.bytes_of g.F.Key.Known.is_known g.F.Value.Known.is_known g.F.Key.Fixed.SIZE g.F.Value.Fixed.SIZE) (g.R.Receipt.stands p.receipt) p.bytes c.trace_in.result came) refl (traces-to g.F.Key.Ord.cmp g.F.Mergeable.parts.joined g.F.Functions.code order v sound s c.args.slot c.args.context x e l a at (IsEntryIn g.F.Key.Fixed.bytes_of g.F.Value.Fixed.bytes_of g.F.Key.Known.is_known g.F.Value.Known.is_known g.F.Key.Fixed.SIZE g.F.Value.Fixed.SIZE) (g.R.Receipt.stands p.receipt) p.bytes c.trace_in.result came (Ok r) is) j c.finish.ensures refl
+    LoadsOn.newer x e l p r at (has-page g.F.Key.Ord.cmp g.F.Mergeable.parts.joined g.F.Functions.code order v sound s c.args.slot c.args.context x e l a at (IsEntryIn g.F.Key.Fixed.codec g.F.Value.Fixed.codec) (g.R.Receipt.stands p.receipt) p.bytes c.trace_in.result came) refl (traces-to g.F.Key.Ord.cmp g.F.Mergeable.parts.joined g.F.Functions.code order v sound s c.args.slot c.args.context x e l a at (IsEntryIn g.F.Key.Fixed.codec g.F.Value.Fixed.codec) (g.R.Receipt.stands p.receipt) p.bytes c.trace_in.result came (Ok r) is) j c.finish.ensures refl
 
 pub returns-in-Superseded-clause-event : goal.returns-in-Superseded-clause-event
 returns-in-Superseded-clause-event g c =
@@ -270,11 +270,11 @@ returns-in-Last-clause-effect g c =
     let l = c.args.loading in
     let at = c.requires.traces in
     let moved = ap (λ u. u.core.records) c.self.view_is in
-    let came = page-came g.R.Receipt.keeps (IsEntryIn g.F.Key.Fixed.bytes_of g.F.Value.Fixed.bytes_of g.F.Key.Known.is_known g.F.Value.Known.is_known g.F.Key.Fixed.SIZE g.F.Value.Fixed.SIZE) g.F.Key.Ord.cmp g.F.Mergeable.parts.joined g.F.Functions.code c.records.result.now c.records-2.result.now c.records-3.result.now v.core.records x.target e.key c.page_of-page.result c.higher_of-low.result l (g.R.Receipt.stands p.receipt) p.bytes c.trace_in.result (c.records.ensures ∙ moved) (c.records-2.ensures ∙ moved) (c.records-3.ensures ∙ moved) c.page_of-page.ensures (c.higher_of-low.ensures.value ∙ ap (higher_of (x.target + 1)) c.first_of.ensures) c.requires.has.own c.trace_in.ensures.read c.trace_in.ensures.kept in
+    let came = page-came g.R.Receipt.keeps (IsEntryIn g.F.Key.Fixed.codec g.F.Value.Fixed.codec) g.F.Key.Ord.cmp g.F.Mergeable.parts.joined g.F.Functions.code c.records.result.now c.records-2.result.now c.records-3.result.now v.core.records x.target e.key c.page_of-page.result c.higher_of-low.result l (g.R.Receipt.stands p.receipt) p.bytes c.trace_in.result (c.records.ensures ∙ moved) (c.records-2.ensures ∙ moved) (c.records-3.ensures ∙ moved) c.page_of-page.ensures (c.higher_of-low.ensures.value ∙ ap (higher_of (x.target + 1)) c.first_of.ensures) c.requires.has.own c.trace_in.ensures.read c.trace_in.ensures.kept in
     let r = c.in-Ok.came in
     let is = c.in-Ok.is in
     let j = sym c.liveness_of.ensures ∙ c.in-Last.is in
-    LoadsOn.ends x e l p r c.in-Last.parts at (has-page g.F.Key.Ord.cmp g.F.Mergeable.parts.joined g.F.Functions.code order v sound s c.args.slot c.args.context x e l a at (IsEntryIn g.F.Key.Fixed.bytes_of g.F.Value.Fixed.bytes_of g.F.Key.Known.is_known g.F.Value.Known.is_known g.F.Key.Fixed.SIZE g.F.Value.Fixed.SIZE) (g.R.Receipt.stands p.receipt) p.bytes c.trace_in.result came) refl (traces-to g.F.Key.Ord.cmp g.F.Mergeable.parts.joined g.F.Functions.code order v sound s c.args.slot c.args.context x e l a at (IsEntryIn g.F.Key.Fixed.bytes_of g.F.Value.Fixed.bytes_of g.F.Key.Known.is_known g.F.Value.Known.is_known g.F.Key.Fixed.SIZE g.F.Value.Fixed.SIZE) (g.R.Receipt.stands p.receipt) p.bytes c.trace_in.result came (Ok r) is) j (subst (λ q. Ends v c.append_again.new.self c.args.slot c.args.context x q l.kept c.args.now c.append_again.result) c.renewed-whole.ensures c.append_again.ensures.effect)
+    LoadsOn.ends x e l p r c.in-Last.parts at (has-page g.F.Key.Ord.cmp g.F.Mergeable.parts.joined g.F.Functions.code order v sound s c.args.slot c.args.context x e l a at (IsEntryIn g.F.Key.Fixed.codec g.F.Value.Fixed.codec) (g.R.Receipt.stands p.receipt) p.bytes c.trace_in.result came) refl (traces-to g.F.Key.Ord.cmp g.F.Mergeable.parts.joined g.F.Functions.code order v sound s c.args.slot c.args.context x e l a at (IsEntryIn g.F.Key.Fixed.codec g.F.Value.Fixed.codec) (g.R.Receipt.stands p.receipt) p.bytes c.trace_in.result came (Ok r) is) j (subst (λ q. Ends v c.append_again.new.self c.args.slot c.args.context x q l.kept c.args.now c.append_again.result) c.renewed-whole.ensures c.append_again.ensures.effect)
 
 pub returns-else-not-is_place-clause-effect : goal.returns-else-not-is_place-clause-effect
 returns-else-not-is_place-clause-effect g c =
@@ -291,13 +291,13 @@ returns-else-not-is_place-clause-effect g c =
     let l = c.args.loading in
     let at = c.requires.traces in
     let moved = ap (λ u. u.core.records) c.self.view_is in
-    let came = page-came g.R.Receipt.keeps (IsEntryIn g.F.Key.Fixed.bytes_of g.F.Value.Fixed.bytes_of g.F.Key.Known.is_known g.F.Value.Known.is_known g.F.Key.Fixed.SIZE g.F.Value.Fixed.SIZE) g.F.Key.Ord.cmp g.F.Mergeable.parts.joined g.F.Functions.code c.records.result.now c.records-2.result.now c.records-3.result.now v.core.records x.target e.key c.page_of-page.result c.higher_of-low.result l (g.R.Receipt.stands p.receipt) p.bytes c.trace_in.result (c.records.ensures ∙ moved) (c.records-2.ensures ∙ moved) (c.records-3.ensures ∙ moved) c.page_of-page.ensures (c.higher_of-low.ensures.value ∙ ap (higher_of (x.target + 1)) c.first_of.ensures) c.requires.has.own c.trace_in.ensures.read c.trace_in.ensures.kept in
+    let came = page-came g.R.Receipt.keeps (IsEntryIn g.F.Key.Fixed.codec g.F.Value.Fixed.codec) g.F.Key.Ord.cmp g.F.Mergeable.parts.joined g.F.Functions.code c.records.result.now c.records-2.result.now c.records-3.result.now v.core.records x.target e.key c.page_of-page.result c.higher_of-low.result l (g.R.Receipt.stands p.receipt) p.bytes c.trace_in.result (c.records.ensures ∙ moved) (c.records-2.ensures ∙ moved) (c.records-3.ensures ∙ moved) c.page_of-page.ensures (c.higher_of-low.ensures.value ∙ ap (higher_of (x.target + 1)) c.first_of.ensures) c.requires.has.own c.trace_in.ensures.read c.trace_in.ensures.kept in
     let r = c.in-Ok.came in
     let is = c.in-Ok.is in
     let b = c.in-Further.address in
     let j = sym c.liveness_of.ensures ∙ c.in-Further.is in
     let place = subst (λ r. IsRecordStart r.page_bits r.record_size b) (c.records-in-Further.ensures ∙ moved) (c.is_place.ensures.0 c.if-not-is_place.false) in
-    LoadsOn.further x e l p b c.in-Further.parts at (has-page g.F.Key.Ord.cmp g.F.Mergeable.parts.joined g.F.Functions.code order v sound s c.args.slot c.args.context x e l a at (IsEntryIn g.F.Key.Fixed.bytes_of g.F.Value.Fixed.bytes_of g.F.Key.Known.is_known g.F.Value.Known.is_known g.F.Key.Fixed.SIZE g.F.Value.Fixed.SIZE) (g.R.Receipt.stands p.receipt) p.bytes c.trace_in.result came) refl (way-below g.F.Key.Ord.cmp g.F.Mergeable.parts.joined g.F.Functions.code order v sound s c.args.slot c.args.context x e l a at (IsEntryIn g.F.Key.Fixed.bytes_of g.F.Value.Fixed.bytes_of g.F.Key.Known.is_known g.F.Value.Known.is_known g.F.Key.Fixed.SIZE g.F.Value.Fixed.SIZE) (g.R.Receipt.stands p.receipt) p.bytes c.trace_in.result came r b c.in-Further.parts is j) (above-place g.F.Key.Ord.cmp g.F.Mergeable.parts.joined g.F.Functions.code order v sound s c.args.slot c.args.context x e l a at (IsEntryIn g.F.Key.Fixed.bytes_of g.F.Value.Fixed.bytes_of g.F.Key.Known.is_known g.F.Value.Known.is_known g.F.Key.Fixed.SIZE g.F.Value.Fixed.SIZE) (g.R.Receipt.stands p.receipt) p.bytes c.trace_in.result came r b c.in-Further.parts is j) place c.ask.ensures.effect
+    LoadsOn.further x e l p b c.in-Further.parts at (has-page g.F.Key.Ord.cmp g.F.Mergeable.parts.joined g.F.Functions.code order v sound s c.args.slot c.args.context x e l a at (IsEntryIn g.F.Key.Fixed.codec g.F.Value.Fixed.codec) (g.R.Receipt.stands p.receipt) p.bytes c.trace_in.result came) refl (way-below g.F.Key.Ord.cmp g.F.Mergeable.parts.joined g.F.Functions.code order v sound s c.args.slot c.args.context x e l a at (IsEntryIn g.F.Key.Fixed.codec g.F.Value.Fixed.codec) (g.R.Receipt.stands p.receipt) p.bytes c.trace_in.result came r b c.in-Further.parts is j) (above-place g.F.Key.Ord.cmp g.F.Mergeable.parts.joined g.F.Functions.code order v sound s c.args.slot c.args.context x e l a at (IsEntryIn g.F.Key.Fixed.codec g.F.Value.Fixed.codec) (g.R.Receipt.stands p.receipt) p.bytes c.trace_in.result came r b c.in-Further.parts is j) place c.ask.ensures.effect
 
 pub overflow_add-target : goal.overflow_add-target
 overflow_add-target g c =

@@ -10,5 +10,5 @@ returns-in_default g c = FollowsIssue.tells (sym c.context_in.ensures ∙ c.in_d
 
 pub returns : goal.returns
 returns g c =
-    did-finish standing_of (IsNamedEntry g.F.Value.Fixed.bytes_of g.F.Value.Known.is_known g.F.Value.Fixed.SIZE) name_cmp g.F.Mergeable.parts.joined g.F.Functions.meaning g.F.Functions.code c.args.partition c.args.slot c.in-Some.context _ _ c.args.issued c.run_until.result
+    did-finish standing_of (IsNamedEntry g.F.Value.Fixed.codec) name_cmp g.F.Mergeable.parts.joined g.F.Functions.meaning g.F.Functions.code c.args.partition c.args.slot c.in-Some.context _ _ c.args.issued c.run_until.result
     (sym c.context_in.ensures ∙ c.in-Some.is) c.run_until.ensures.runs

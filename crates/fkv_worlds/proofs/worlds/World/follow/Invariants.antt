@@ -11,5 +11,5 @@ use Rattle.fkv_worlds.proofs.worlds.World.follow.Given as goal
 -- whatever the steps that are left come to, all of them come to
 abbrev pub invariant-loop : goal.invariant-loop
 invariant-loop g l = (n : ℕ) (new : WorldView g.row.F-Key.Denot g.row.F-Value.Denot g.row.F-Input.Denot g.row.F-Output.Denot MemoryReceipt) (result : Option (Result (Outcome g.row.F-Value.Denot g.row.F-Output.Denot) Refused)) → n + l.counter ≡ 10000
-    → RunsUntil stands (IsEntryIn {K = g.row.F-Key.Denot} {V = g.row.F-Value.Denot} g.F.Key.Fixed.bytes_of g.F.Value.Fixed.bytes_of g.F.Key.Known.is_known g.F.Value.Known.is_known g.F.Key.Fixed.SIZE g.F.Value.Fixed.SIZE) g.F.Key.Ord.cmp g.F.Mergeable.parts.joined g.F.Functions.meaning g.F.Functions.code l.until l.place new result n l.step l.self
-    → RunsUntil stands (IsEntryIn {K = g.row.F-Key.Denot} {V = g.row.F-Value.Denot} g.F.Key.Fixed.bytes_of g.F.Value.Fixed.bytes_of g.F.Key.Known.is_known g.F.Value.Known.is_known g.F.Key.Fixed.SIZE g.F.Value.Fixed.SIZE) g.F.Key.Ord.cmp g.F.Mergeable.parts.joined g.F.Functions.meaning g.F.Functions.code l.until l.place new result 10000 (first_step l.initial.self.state.partitions l.until l.place) l.initial.self
+    → RunsUntil stands (IsEntryIn {K = g.row.F-Key.Denot} {V = g.row.F-Value.Denot} g.F.Key.Fixed.codec g.F.Value.Fixed.codec) g.F.Key.Ord.cmp g.F.Mergeable.parts.joined g.F.Functions.meaning g.F.Functions.code l.until l.place new result n l.step l.self
+    → RunsUntil stands (IsEntryIn {K = g.row.F-Key.Denot} {V = g.row.F-Value.Denot} g.F.Key.Fixed.codec g.F.Value.Fixed.codec) g.F.Key.Ord.cmp g.F.Mergeable.parts.joined g.F.Functions.meaning g.F.Functions.code l.until l.place new result 10000 (first_step l.initial.self.state.partitions l.until l.place) l.initial.self
