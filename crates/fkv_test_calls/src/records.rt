@@ -25,8 +25,8 @@ impl Known for Byte {
 }
 
 impl Fixed for Byte {
-    ghost use Rattle.std.specs.Prelude.{◌≡◌, ℕ, List, ◌∷◌, [], length, refl};
-    ghost use Rattle.std.proofs.Common.{rules};
+    ghost use Rattle.std.specs.Prelude.{ℕ, List, ◌∷◌, [], slice_index, refl};
+    ghost use Rattle.std.proofs.Common.{ap};
 
     const SIZE: usize = 1;
 
@@ -36,7 +36,7 @@ impl Fixed for Byte {
       is_known = λ _. Unit {0};
       bytes_of = λ b. b.0 ∷ [];
       sized = λ v h. refl;
-      readable = λ v w h k e. Prim.search rules;
+      readable = λ v w h k e. ap (λ (bytes : List ℕ). record { 0 = slice_index bytes 0 }) e;
     } };
 
     fn put(&self, out: &mut [u8]) {
