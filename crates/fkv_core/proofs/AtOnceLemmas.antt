@@ -66,7 +66,7 @@ module _ {K V I O : Type 0} (cmp : K → K → Ordering) (join : V → V → V) 
     pub done-at_once : {R : Type 0} (stands : R → Standing) → IsDoneAtOnce stands cmp join f code v after slot c key input issued now (f.shown key input value)
     done-at_once {R} stands = record {
       between = between;
-      issues = Issues.issues inside low closed own (λ m. absurd (cc)) refl refl;
+      issues = record { entered = inside; low = low; free = closed; own = own; merging = λ m. absurd (cc); is = refl };
       issue = event-issue code v slot c issued (Rmw key input) inside free low own;
       goes = replaces operation (Some value) (Value (f.shown key input value)) last
           (record { here = here; fresh = refl; decided = decided }) at_once-last (sym is-after) refl;

@@ -334,10 +334,8 @@ module _ {K V I : Type 0} {keeps : Bool} (cmp : K → K → Ordering) (join : V 
     gives-up-bear result (GivesUp.gives_up x h q is r) = borne-same (ap (λ (u : CoreView K V I). u.records) is)
     gives-up-bear result (GivesUp.cancels x p h q is r) = borne-released slot c now x h p q (ap (λ (u : CoreView K V I). u.records) is)
 
-  pub issues-bear : (slot c : ℕ) (op : KeyedOp K V I) (now : ℕ) (result : Result (Unit {0}) Refused) → Issues code v new slot c op now result → IsPreserved keeps cmp join code v new
-  issues-bear slot c op now result (Issues.stranger n is r) = borne-same (ap (λ (u : CoreView K V I). u.records) is)
-  issues-bear slot c op now result (Issues.unmerged own merge lacks is r) = borne-same (ap (λ (u : CoreView K V I). u.records) is)
-  issues-bear slot c op now result (Issues.issues h low free n merges is r) = borne-same (ap (λ (u : CoreView K V I). u.records) is)
+  pub issues-bear : (slot c : ℕ) (op : KeyedOp K V I) (now : ℕ) → Issues code v new slot c op now → IsPreserved keeps cmp join code v new
+  issues-bear slot c op now h = borne-same (ap (λ (u : CoreView K V I). u.records) h.is)
 
   pub enters-bear : (now : ℕ) (result : Result ℕ Refused) → Enters v new now result → IsPreserved keeps cmp join code v new
   enters-bear now result (Enters.full h is r) = borne-same (ap (λ (u : CoreView K V I). u.records) is)

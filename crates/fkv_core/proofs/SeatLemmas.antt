@@ -140,13 +140,11 @@ module _ {K V I : Type 0} (v new : CoreView K V I) where
     gives-up-seats result (GivesUp.cancels x p h q is r) = seats-freed slot c (ap (λ (u : CoreView K V I). u.contexts) is) (ap (λ (u : CoreView K V I). slots_of u) is)
 
     -- an operation opens in the context alone that was chosen
-    pub issues-seats : (code : K → ℕ) (op : KeyedOp K V I) (result : Result (Unit {0}) Refused) → Issues code v new slot c op now result
+    pub issues-seats : (code : K → ℕ) (op : KeyedOp K V I) → Issues code v new slot c op now
         → ((p : ℕ) → p ≢ slot * 8 + c → joined (slice_get v.contexts p) ≡ None → joined (slice_get new.contexts p) ≡ None) × AllStay v new
-    issues-seats code op result (Issues.stranger n is r) = (λ p other. (seats-as is).0 p, (seats-as is).1)
-    issues-seats code op result (Issues.unmerged own merge lacks is r) = (λ p other. (seats-as is).0 p, (seats-as is).1)
-    issues-seats code op result (Issues.issues h low free n merges is r) = (
-      λ p other none. ap (λ (u : CoreView K V I). joined (slice_get u.contexts p)) is ∙ none-other v.contexts (slot * 8 + c) p _ other none,
-      all-stay (ap (λ (u : CoreView K V I). slots_of u) is),
+    issues-seats code op h = (
+      λ p other none. ap (λ (u : CoreView K V I). joined (slice_get u.contexts p)) h.is ∙ none-other v.contexts (slot * 8 + c) p _ other none,
+      all-stay (ap (λ (u : CoreView K V I). slots_of u) h.is),
     )
 
   pub enters-seats : (now : ℕ) (result : Result ℕ Refused) → Enters v new now result → Seats v new

@@ -203,15 +203,13 @@ enters-all cmp join code old new now result s (Enters.enters slot h is r) = λ t
     ∙ pending-same cmp old.records (in_regions old (entered old.records.regions slot) now).records (context_at old t d) refl refl
 
 -- a context that was free holds an operation that has not begun
-pub issues-all : {K V I : Type 0} (cmp : K → K → Ordering) (join : V → V → V) (code : K → ℕ) (old new : CoreView K V I) (slot c : ℕ) (op : KeyedOp K V I) (now : ℕ) (result : Result (Unit {0}) Refused) → Issues code old new slot c op now result → AllPend cmp old new
-issues-all cmp join code old new slot c op now result (Issues.stranger n is r) = as-all cmp old new is
-issues-all cmp join code old new slot c op now result (Issues.unmerged own merge lacks is r) = as-all cmp old new is
-issues-all {K} {V} {I} cmp join code old new slot c op now result (Issues.issues h low free n merges is r) = λ t d. ap (λ (w : CoreView K V I). pending cmp w t d) is ∙ elim (same_or t slot) [
+pub issues-all : {K V I : Type 0} (cmp : K → K → Ordering) (code : K → ℕ) (old new : CoreView K V I) (slot c : ℕ) (op : KeyedOp K V I) (now : ℕ) → Issues code old new slot c op now → AllPend cmp old new
+issues-all {K} {V} {I} cmp code old new slot c op now h = λ t d. ap (λ (w : CoreView K V I). pending cmp w t d) h.is ∙ elim (same_or t slot) [
   | inl e ↦ elim (same_or d c) [
-    | inl f ↦ rw (e, f) (by_context (context_at (with_context old slot c fresh now) slot c) refl ∙ sym (ap (pending_of cmp old.records) free))
-    | inr m ↦ ap (pending_of cmp old.records) (context-other (slots_of old) old.contexts slot c t d fresh low (inr m))
+    | inl f ↦ rw (e, f) (by_context (context_at (with_context old slot c fresh now) slot c) refl ∙ sym (ap (pending_of cmp old.records) h.free))
+    | inr m ↦ ap (pending_of cmp old.records) (context-other (slots_of old) old.contexts slot c t d fresh h.low (inr m))
   ]
-  | inr m ↦ ap (pending_of cmp old.records) (context-other (slots_of old) old.contexts slot c t d fresh low (inl m))
+  | inr m ↦ ap (pending_of cmp old.records) (context-other (slots_of old) old.contexts slot c t d fresh h.low (inl m))
 ]
   where
     fresh : Option (Context K V I)
@@ -224,7 +222,7 @@ issues-all {K} {V} {I} cmp join code old new slot c op now result (Issues.issues
         let o = open_at (slots_of old) (slice_set old.contexts (slot * 8 + c) fresh) slot c x k in
         elim (get-set_cases old.contexts (slot * 8 + c) (slot * 8 + c) fresh (Some x) o.here) [
           | inl new ↦ (let is : fresh ≡ Some x = new.1 in ap (pending_of cmp old.records) k ∙ ap (pending_of cmp old.records) (sym is))
-          | inr was ↦ absurd (let both : Some x ≡ None = ap joined (sym was) ∙ sym (context-inside (slots_of old) old.contexts slot c h low) ∙ free in cc)
+          | inr was ↦ absurd (let both : Some x ≡ None = ap joined (sym was) ∙ sym (context-inside (slots_of old) old.contexts slot c h.entered h.low) ∙ h.free in cc)
         ]
 
 -- ---- a page comes, or what came in its place

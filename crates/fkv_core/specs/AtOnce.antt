@@ -28,7 +28,7 @@ pub record IsDoneAtOnce {K V I O R : Type 0} (stands : R → Standing) (cmp : K 
     (code : K → ℕ) (old new : CoreView K V I) (slot c : ℕ) (key : K) (input : I) (issued now : ℕ) (shown : O)
     : Type 0 where
   pub between : CoreView K V I
-  pub issues : Issues code old between slot c (Rmw key input) issued (Ok tt)
+  pub issues : Issues code old between slot c (Rmw key input) issued
   pub issue : IsIssue code old between slot c (Rmw key input) issued
   pub goes : Goes stands cmp join f code between new slot c now (Ok (Done (Value shown) now))
   pub event : IsEvent {R = R} cmp f between new slot c now (Done (Value shown) now)

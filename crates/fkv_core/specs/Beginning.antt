@@ -1,8 +1,7 @@
--- What `enter` and `issue` do: a rule for each case, in the order of the tests.
-use Rattle.std.specs.Prelude.{◌≡◌, ◌≢◌, ◌<◌, true, false, ℕ, Some, None, Result, Ok, Err}
+-- What `enter` does, a rule for each case, and what `issue` does.
+use Rattle.std.specs.Prelude.{◌≡◌, ◌<◌, true, ℕ, Some, None, Result, Ok, Err}
 use Rattle.fkv_functions.specs.declared.refusals.Refused.{Refused}
-use Rattle.fkv_functions.specs.declared.refusals.Refused.TheVariants.{NoSlot, Stranger, NoMerge}
-use Rattle.fkv_functions.specs.declared.refusals.What.TheVariants.{Partition}
+use Rattle.fkv_functions.specs.declared.refusals.Refused.TheVariants.{NoSlot}
 use Rattle.fkv_regions.specs.RegionsView.{entered}
 use Rattle.fkv_operations.specs.After.{key_of, is_merge}
 use Rattle.fkv_operations.specs.declared.operations.KeyedOp.{KeyedOp}
@@ -23,24 +22,13 @@ pub data Enters {K V I : Type 0} (old new : CoreView K V I) (now : ℕ) (result 
 abbrev pub IsEntered : {K V I : Type 0} → CoreView K V I → ℕ → Type 0
 IsEntered v slot = is_session (slots_of v) slot ≡ true
 
--- an operation is opened in a context of a session that the caller has chosen, in which nothing is open
-pub data Issues {K V I : Type 0} (code : K → ℕ) (old new : CoreView K V I) (slot c : ℕ) (op : KeyedOp K V I)
-    (now : ℕ) (result : Result (Unit {0}) Refused) : Type 0 where
-  stranger : partition_of old.count (code (key_of op)) ≢ old.number
-      → new ≡ old
-      → result ≡ Err (Stranger Partition old.number (partition_of old.count (code (key_of op))))
-      → Issues code old new slot c op now result
-  unmerged : partition_of old.count (code (key_of op)) ≡ old.number
-      → is_merge op ≡ true
-      → old.merges ≡ false
-      → new ≡ old
-      → result ≡ Err NoMerge
-      → Issues code old new slot c op now result
-  issues : IsEntered old slot
-      → c < 8
-      → context_at old slot c ≡ None
-      → partition_of old.count (code (key_of op)) ≡ old.number
-      → (is_merge op ≡ true → old.merges ≡ true)
-      → new ≡ with_context old slot c (Some (record { number = now; op = op; phase = Fresh })) now
-      → result ≡ Ok tt
-      → Issues code old new slot c op now result
+-- an operation is opened in a context of a session that the caller has chosen, in which nothing is open; its key belongs
+-- here, and it is a merge only where the functions merge
+pub record Issues {K V I : Type 0} (code : K → ℕ) (old new : CoreView K V I) (slot c : ℕ) (op : KeyedOp K V I) (now : ℕ)
+    : Type 0 where
+  pub entered : IsEntered old slot
+  pub low : c < 8
+  pub free : context_at old slot c ≡ None
+  pub own : partition_of old.count (code (key_of op)) ≡ old.number
+  pub merging : is_merge op ≡ true → old.merges ≡ true
+  pub is : new ≡ with_context old slot c (Some (record { number = now; op = op; phase = Fresh })) now

@@ -1,21 +1,22 @@
 //! A partition: its parts, and what its sessions and operations begin with.
-ghost use Rattle.std.specs.Prelude.{◌≡◌, ◌≢◌, ◌<◌, ◌≤◌, ◌⊎◌, Option, Some, None, Ok, Err, IfOk, IfErr, OnOk, OnErr, replicate};
+ghost use Rattle.std.specs.Prelude.{◌≡◌, ◌≢◌, ◌<◌, ◌≤◌, ◌⊎◌, true, Option, Some, None, Ok, Err, IfOk, IfErr, OnErr, replicate};
 ghost use Rattle.fkv_records.specs.Records.{size_of};
 ghost use Rattle.fkv_core.specs.Limits.{IsPartitionOf};
-ghost use Rattle.fkv_core.specs.Views.{context_at, empty_core};
+ghost use Rattle.fkv_operations.specs.After.{key_of, is_merge};
+ghost use Rattle.fkv_core.specs.Views.{context_at, empty_core, partition_of};
 ghost use Rattle.fkv_core.specs.Beginning.{Enters, IsEntered, Issues};
 ghost use Rattle.fkv_core.specs.Effect.{IsQuiet, IsIssue};
 
 use crate::contexts::Context;
 use crate::limits::Config;
 use fkv_device::Receipt;
-use fkv_functions::{Mergeable, Refused, What};
+use fkv_functions::{Mergeable, Refused};
 use fkv_lookups::Records;
 use fkv_operations::KeyedOpOf;
 use std::alloc::Global;
 use std::marker::Model;
 
-/// The open operations that one partition may have.
+/// The contexts of all sessions of one partition.
 const MAX_CONTEXTS: usize = 128;
 
 /// One partition of a store: its records with their entries and sessions, and the open operations of these. Each call that
@@ -43,8 +44,8 @@ impl<F: Mergeable, R: Receipt> Model for Core<F, R> {
         (view_of F.MERGES p.number p.count p.records p.contexts.items p.moment) };
 }
 
-/// Places that hold nothing. Refused: `NoMemory`.
-fn free_places<T: Drop>(alloc: Global) -> Result<Vec<Option<T>>, Refused>
+/// A place for each context of each session, which holds nothing. Refused: `NoMemory`.
+pub fn free_places<T: Drop>(alloc: Global) -> Result<Vec<Option<T>>, Refused>
     ensures ok { IfOk result (λ places. places.items ≡ replicate 128 None) }
     ensures only { IfErr result (λ refused. refused ≡ Refused.NoMemory) }
 {
@@ -113,41 +114,21 @@ impl<F: Mergeable, R: Receipt> Core<F, R> {
         Ok(slot)
     }
 
-    /// Issues an operation in a context of a session, one that the caller has chosen and in which nothing is open.
-    /// Refused, in this order, and then nothing changes: `Stranger` where the operation's key belongs to another partition,
-    /// `NoMerge` where it is a merge and the functions don't merge.
-    pub fn issue(
-        &mut self,
-        slot: usize,
-        context: usize,
-        op: KeyedOpOf<F>,
-        functions: &F,
-        now: u64,
-    ) -> Result<(), Refused>
+    /// Issues an operation in a context of a session, one that the caller has chosen and in which nothing is open. Its key
+    /// belongs to this partition, and it is a merge only where the functions merge.
+    pub fn issue(&mut self, slot: usize, context: usize, op: KeyedOpOf<F>, now: u64)
         requires later { self.old.moment < now }
         requires entered { IsEntered self.old slot }
         requires context { context < 8 }
         requires free { context_at self.old slot context ≡ None }
-        ensures effect { Issues F.code self.old self.new slot context op now result }
-        ensures event { OnOk result (IsIssue F.code self.old self.new slot context op now) }
-        ensures within { OnOk result (slot < 16) }
-        ensures unchanged { OnErr result (self.new ≡ self.old) }
-        ensures moment { self.new.moment ≤ now }
+        requires own { partition_of self.old.count (F.code (key_of op)) ≡ self.old.number }
+        requires merging { is_merge op ≡ true → self.old.merges ≡ true }
+        ensures effect { Issues F.code self.old self.new slot context op now }
+        ensures event { IsIssue F.code self.old self.new slot context op now }
+        ensures within { slot < 16 }
     {
         self.known();
         let _entered = self.is_session(slot);
-        let home = self.home(functions, &op.key());
-        if home != self.number {
-            return Err(Refused::Stranger {
-                what: What::Partition,
-                held: self.number,
-                came: home,
-            });
-        }
-        if self.lacks_merges(&op) {
-            return Err(Refused::NoMerge);
-        }
         self.start(slot, context, op, now);
-        Ok(())
     }
 }

@@ -74,9 +74,8 @@ pub fn pendings_stay<K, V, I, O, R>()
         (result : Result (Unit {0}) Refused)
         → IsTrue keeps → Leaves keeps old new slot now result → AllPend cmp old new }
     // an operation that was just issued has not looked yet
-    ensures issues { (cmp : K → K → Ordering) (join : V → V → V) (code : K → ℕ) (old new : CoreView K V I) (slot c : ℕ)
-        (op : KeyedOp K V I) (now : ℕ) (result : Result (Unit {0}) Refused)
-        → Issues code old new slot c op now result → AllPend cmp old new }
+    ensures issues { (cmp : K → K → Ordering) (code : K → ℕ) (old new : CoreView K V I) (slot c : ℕ) (op : KeyedOp K V I) (now : ℕ)
+        → Issues code old new slot c op now → AllPend cmp old new }
     ensures gives_up { (cmp : K → K → Ordering) (old new : CoreView K V I) (slot c now : ℕ)
         (result : Result (Unit {0}) Refused)
         → GivesUp old new slot c now result → OthersPend cmp old new slot c }

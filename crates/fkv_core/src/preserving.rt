@@ -56,8 +56,8 @@ pub fn events_preserve<K, V, I, O, R>()
         (slot c now : ℕ) (result : Result (Unit {0}) Refused)
         → IsSound keeps cmp join code old → GivesUp old new slot c now result → IsPreserved keeps cmp join code old new }
     ensures issues { (keeps : Bool) (cmp : K → K → Ordering) (join : V → V → V) (code : K → ℕ) (old new : CoreView K V I)
-        (slot c : ℕ) (op : KeyedOp K V I) (now : ℕ) (result : Result (Unit {0}) Refused)
-        → IsSound keeps cmp join code old → Issues code old new slot c op now result → IsPreserved keeps cmp join code old new }
+        (slot c : ℕ) (op : KeyedOp K V I) (now : ℕ)
+        → IsSound keeps cmp join code old → Issues code old new slot c op now → IsPreserved keeps cmp join code old new }
     ensures enters { (keeps : Bool) (cmp : K → K → Ordering) (join : V → V → V) (code : K → ℕ) (old new : CoreView K V I) (now : ℕ)
         (result : Result ℕ Refused)
         → IsSound keeps cmp join code old → Enters old new now result → IsPreserved keeps cmp join code old new }
@@ -134,8 +134,7 @@ pub fn sessions_preserved<K, V, I, O, R>()
     ensures gives_up { (old new : CoreView K V I) (slot c now : ℕ) (result : Result (Unit {0}) Refused)
         → GivesUp old new slot c now result → NoneOpens old new × AllStay old new }
     ensures issues { (code : K → ℕ) (old new : CoreView K V I) (slot c : ℕ) (op : KeyedOp K V I) (now : ℕ)
-        (result : Result (Unit {0}) Refused)
-        → Issues code old new slot c op now result
+        → Issues code old new slot c op now
         → ((p : ℕ) → p ≢ slot * 8 + c
         → joined (slice_get old.contexts p) ≡ None → joined (slice_get new.contexts p) ≡ None)
         × AllStay old new }

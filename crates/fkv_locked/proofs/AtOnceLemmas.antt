@@ -33,7 +33,7 @@ use Rattle.fkv_locked.proofs.TurnLemmas.{issue_keeps}
 module _ {K V I : Type 0} (code : K → ℕ) (old between : PartitionView K V I) (slot c issued : ℕ) (key : K) (input : I) where
   -- an issue of an update, as the core makes it
   record Begun : Type 0 where
-    issues : beginning.Issues code old.core between.core slot c (on_key.Rmw key input) issued (Ok tt)
+    issues : beginning.Issues code old.core between.core slot c (on_key.Rmw key input) issued
     none : relocation_at between slot c ≡ None
 
   begun_on_key : IssuesOnKey code old between slot (on_key.Rmw key input) issued (Ok c) → Begun
@@ -45,7 +45,7 @@ module _ {K V I : Type 0} (code : K → ℕ) (old between : PartitionView K V I)
       let same : c ≡ b = cc in
       rw (is, same)
       (record {
-        issues = beginning.Issues.issues inside free.0 (free-context old slot b inside free.0 free.1) own m refl refl;
+        issues = record { entered = inside; low = free.0; free = free-context old slot b inside free.0 free.1; own = own; merging = m; is = refl };
         none = free-relocation old slot b inside free.0 free.1;
       })
 
@@ -66,7 +66,7 @@ module _ {K V I : Type 0} (code : K → ℕ) (old between : PartitionView K V I)
 
 module _ {K V I O R : Type 0} (cmp : K → K → Ordering) (join : V → V → V) (f : Meanings K V I O) (stands : R → Standing) (code : K → ℕ) (old new : PartitionView K V I) (slot : ℕ) (key : K) (input : I) (issued now : ℕ) (shown : O)
     (d : IsDoneAtOnce stands cmp join f code old new slot key input issued now shown) (keeps : Bool) (sound : IsSound keeps cmp join code old.core) (few : slot < 16) (later : old.core.moment < issued) (after : issued < now)
-    (issue_law : (p q : CoreView K V I) → beginning.Issues code p q slot d.context (on_key.Rmw key input) issued (Ok tt) → AllPend cmp p q)
+    (issue_law : (p q : CoreView K V I) → beginning.Issues code p q slot d.context (on_key.Rmw key input) issued → AllPend cmp p q)
     (go_law : (p q : CoreView K V I) → IsSound keeps cmp join code p → going.Goes stands cmp join f code p q slot d.context now (Ok (Done (Value shown) now)) → OthersPend cmp p q slot d.context) where
   pub at_once_keeps : (es : List (Entry K V I O)) (lows looks : List ℕ) (book : ℕ) → IsKept cmp f (seen cmp old) es lows looks book → length lows ≡ 128
       → (e : Entry K V I O) → e.op ≡ on_key.Rmw key input → e.answer ≡ Value shown

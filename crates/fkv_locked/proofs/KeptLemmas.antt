@@ -302,3 +302,26 @@ module _ {K V I O : Type 0} (cmp : K → K → Ordering) (f : Meanings K V I O) 
         (legal_more cmp f es e k.legal (λ h. absurd (differ (sym quiet ∙ h))) high
         (record { low = omega arith; high = omega arith; answers = told_so }))
         (rw (updates_none es e quiet) (λ q. live q ∙ k.live q))
+
+-- a read that is finished at once changes nothing but that its entry is the last
+pub kept_read : {K V I O : Type 0} (cmp : K → K → Ordering) (f : Meanings K V I O) (s : Seen K V I) (es : List (Entry K V I O)) (lows looks : List ℕ) (book : ℕ) → IsKept cmp f s es lows looks book
+    → (e : Entry K V I O) (key : K) (i : I) → e.op ≡ Read key i
+    → e.answer ≡ shown_of f key i (s.live key)
+    → e.low ≡ length (updates es)
+    → e.at ≡ length (updates es)
+    → e.high ≡ length (updates es)
+    → IsKept cmp f s (es ++ e ∷ []) lows looks (book + 1)
+kept_read {K} {V} cmp f s es lows looks book k e key i read told low at high =
+    let us = updates es in
+    let quiet : is_update_entry e ≡ false = ap is_update read in
+    let live_is : s.live ≡ map_of cmp f us = same_map s.live (map_of cmp f us) k.live in
+    let here : map_at cmp f us e.at ≡ s.live = ap (map_at cmp f us) at ∙ (map_at-all cmp f us ∙ sym live_is) in
+    let told_so : e.answer ≡ answer f (map_at cmp f us e.at) e.op = told ∙ (ap (λ (m : PlainMap K V). shown_of f key i (m key)) (sym here) ∙ sym (ap (answer f (map_at cmp f us e.at)) read)) in
+    let none = updates_none es e quiet in
+    record {
+      legal = legal_more cmp f es e k.legal (λ h. absurd (differ (sym quiet ∙ h))) high (record { low = omega arith; high = omega arith; answers = told_so });
+      live = rw none k.live;
+      issued = rw none k.issued;
+      past = rw none k.past;
+      counted = omega (arith, length-append es (e ∷ []), k.counted);
+    }

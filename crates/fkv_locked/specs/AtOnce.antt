@@ -1,10 +1,11 @@
--- An update of a caller that is issued and finished in one call: what is refused of it, its entry, and what stands then.
-use Rattle.std.specs.Prelude.{◌≡◌, ◌+◌, ◌-◌, ◌^◌, ◌<◌, ◌≤◌, ◌⊎◌, ℕ, Bool, true, [], ◌∷◌, ◌++◌, ⊤}
+-- An operation of a caller that is issued and finished in one call: what is refused of it, its entry, and what stands then.
+use Rattle.std.specs.Prelude.{◌≡◌, ◌+◌, ◌-◌, ◌^◌, ◌<◌, ◌≤◌, ◌⊎◌, ℕ, Bool, true, [], ◌∷◌, ◌++◌, ⊤, if◌then◌else◌}
 use Rattle.fkv_functions.specs.declared.refusals.Refused.{Refused}
 use Rattle.fkv_functions.specs.declared.refusals.Refused.TheVariants.{Stranger, Worn, NoMemory}
 use Rattle.fkv_functions.specs.declared.refusals.What.TheVariants as what
-use Rattle.fkv_operations.specs.declared.operations.KeyedOp.TheVariants.{Rmw}
-use Rattle.fkv_operations.specs.declared.operations.Answer.TheVariants.{Value}
+use Rattle.fkv_operations.specs.declared.operations.KeyedOp.{KeyedOp}
+use Rattle.fkv_operations.specs.declared.operations.Answer.{Answer}
+use Rattle.fkv_histories.specs.Histories.{is_update_entry}
 use Rattle.fkv_histories.specs.declared.entries.Entry.{Entry}
 use Rattle.fkv_locked.specs.declared.seats.Seat.{Seat}
 use Rattle.fkv_locked.specs.Locks.{LockedView}
@@ -19,24 +20,24 @@ IsUnfit count book clock told other = ⊥
 
 module _ {K V I O : Type 0} where
   -- its entry: it is issued at the next moment, when as many updates stand as when it is finished
-  abbrev pub entry_at_once : LockedView K V I O → Seat → K → I → O → Entry K V I O
-  entry_at_once l seat key input shown = record {
+  abbrev pub entry_at_once : LockedView K V I O → Seat → KeyedOp K V I → Answer O → Entry K V I O
+  entry_at_once l seat op answer = record {
     session = seat.session;
     number = l.clock + 1;
-    op = Rmw key input;
-    answer = Value shown;
+    op = op;
+    answer = answer;
     low = l.count;
     at = l.count;
     high = l.count;
   }
 
-  -- two moments have passed, one update more stands, which the book counts, and where entries are kept its entry is the last;
-  -- no mark has changed
-  pub record IsUpdated (keeps : Bool) (old new : LockedView K V I O) (e : Entry K V I O) : Type 0 where
+  -- two moments have passed, the book counts one operation more, one update more stands where it is one, and where entries are
+  -- kept its entry is the last; no mark has changed
+  pub record IsNoted (keeps : Bool) (old new : LockedView K V I O) (e : Entry K V I O) : Type 0 where
     pub rest : new ≡ record old {
       partition = new.partition;
       entries = new.entries;
-      count = old.count + 1;
+      count = old.count + (if is_update_entry e then 1 else 0);
       clock = old.clock + 2;
       book = old.book + 1;
     }

@@ -1,7 +1,13 @@
-//! Updates of callers that are issued and finished in one call: most updates of a feed are such.
-ghost use Rattle.std.specs.Prelude.{◌≡◌, ◌+◌, ◌-◌, ◌^◌, ◌<◌, ◌≤◌, true, None, Ok, IfOk, IfErr, IfSome, OnErr};
-ghost use Rattle.fkv_partition.specs.AtOnce.{IsAtHand, IsDoneAtOnce};
-ghost use Rattle.fkv_locked.specs.AtOnce.{IsUnfit, IsUpdated, entry_at_once};
+//! Operations of callers that are issued and finished in one call: most updates of a feed are such, and most reads.
+ghost use Rattle.std.specs.Prelude.{◌≡◌, ◌+◌, ◌-◌, ◌^◌, ◌<◌, ◌≤◌, true, None, Ok, IfOk, IfErr, IfSome, OnOk, OnErr};
+ghost use Rattle.fkv_operations.specs.declared.operations.Answer.{Answer};
+ghost use Rattle.fkv_operations.specs.declared.operations.Answer.TheVariants.{Value};
+ghost use Rattle.fkv_operations.specs.declared.operations.KeyedOp.TheVariants.{Read, Rmw};
+ghost use Rattle.fkv_partition.specs.AtOnce.{IsAtHand, IsDoneAtOnce, IsReadAtOnce};
+ghost use Rattle.fkv_partition.specs.CoreAtOnce.{AsksForPage};
+ghost use Rattle.fkv_partition.specs.CoreBeginning.{IsEntered};
+ghost use Rattle.fkv_partition.specs.CoreViews.{partition_of};
+ghost use Rattle.fkv_locked.specs.AtOnce.{IsUnfit, IsNoted, entry_at_once};
 
 use crate::finished::{FinishedOf, finish};
 use crate::locked::Locked;
@@ -11,6 +17,52 @@ use fkv_functions::{Mergeable, Refused, What};
 use fkv_histories::{Entry, Recorder};
 use fkv_operations::{Answer, Clock, KeyedOp};
 use fkv_partition::pendings_stay;
+
+/// How many updates stand where an operation is issued and finished at once, and the second of its two moments.
+#[derive(Clone, Copy)]
+struct AtOnce {
+    at: u64,
+    now: u64,
+}
+
+/// Makes ready for an operation of a caller, which was told of so many updates, that is issued and finished at once: room is made
+/// for an entry. Refused, in this order, and then nothing changes: `Stranger` where fewer updates stand there; `Worn` where the
+/// updates or the book have no next number, or the clock has no two; `NoMemory`.
+#[inline(always)]
+fn make_ready_at_once<F: Mergeable, H: Recorder<F>>(
+    history: &mut H,
+    clock: &Clock,
+    book: u64,
+    told: u64,
+) -> Result<AtOnce, Refused>
+    ensures entries { H.entries history.new ≡ H.entries history.old }
+    ensures count { H.count history.new ≡ H.count history.old }
+    ensures spare { OnOk result (1 ≤ H.spare history.new) }
+    ensures at { IfOk result (λ ready. ready.at ≡ H.count history.old) }
+    ensures now { IfOk result (λ ready. ready.now ≡ clock.now + 2) }
+    ensures room { OnOk result ((H.count history.old < 2 ^ 64 - 1) × (book < 2 ^ 64 - 1)) }
+    ensures told { OnOk result (told ≤ H.count history.old) }
+    ensures only { IfErr result (IsUnfit (H.count history.old) book clock.now told) }
+{
+    let at = history.updates();
+    if at < told {
+        return Err(Refused::Stranger {
+            what: What::Pass,
+            held: at,
+            came: told,
+        });
+    }
+    if at == u64::MAX || book == u64::MAX {
+        return Err(Refused::Worn);
+    }
+    let Some(now) = clock.last().checked_add(2) else {
+        return Err(Refused::Worn);
+    };
+    match history.grow() {
+        Err(refused) => Err(refused),
+        Ok(()) => Ok(AtOnce { at, now }),
+    }
+}
 
 impl<F: Mergeable, R: Receipt, H: Recorder<F>> Locked<F, R, H> {
     /// Issues an update of a key in a session of a caller, which was told of so many updates, and finishes it, where the last
@@ -28,11 +80,11 @@ impl<F: Mergeable, R: Receipt, H: Recorder<F>> Locked<F, R, H> {
         functions: &F,
     ) -> Result<Option<FinishedOf<F>>, Refused>
         ensures done { IfOk result (λ done. IfSome done (λ e. (shown : F.Output)
-            × (e ≡ entry_at_once self.old seat key.now input.now shown)
+            × (e ≡ entry_at_once self.old seat (Rmw key.now input.now) (Value shown))
             × IsDoneAtOnce R.stands F.Key.cmp F.parts.joined F.meaning F.code
             self.old.partition self.new.partition seat.slot key.now
             input.now (self.old.clock + 1) (self.old.clock + 2) shown)) }
-        ensures after { IfOk result (λ done. IfSome done (IsUpdated H.keeps self.old self.new)) }
+        ensures after { IfOk result (λ done. IfSome done (IsNoted H.keeps self.old self.new)) }
         ensures fresh { IfOk result (λ done. IfSome done (λ e. (told ≤ e.at) × (e.at < 2 ^ 64 - 1))) }
         ensures left { result ≡ Ok None → (held : F.Value)
             → IsAtHand F.Key.cmp F.parts.joined F.code self.old.partition seat.slot key.now held
@@ -49,24 +101,12 @@ impl<F: Mergeable, R: Receipt, H: Recorder<F>> Locked<F, R, H> {
             book,
             ..
         } = self;
-        let at = history.updates();
-        if at < told {
-            return Err(Refused::Stranger {
-                what: What::Pass,
-                held: at,
-                came: told,
-            });
-        }
-        if at == u64::MAX || *book == u64::MAX {
-            return Err(Refused::Worn);
-        }
-        let Some(now) = clock.last().checked_add(2) else {
-            return Err(Refused::Worn);
-        };
-        let Ok(()) = history.grow() else {
-            return Err(Refused::NoMemory);
+        let ready = match make_ready_at_once::<F, H>(history, clock, *book, told) {
+            Err(refused) => return Err(refused),
+            Ok(ready) => ready,
         };
         partition.known();
+        let AtOnce { at, now } = ready;
         let issued = now - 1;
         let Some(shown) = partition.update_at_once(seat.slot, key, input, functions, issued, now)
         else {
@@ -78,6 +118,60 @@ impl<F: Mergeable, R: Receipt, H: Recorder<F>> Locked<F, R, H> {
             number: issued,
             op: KeyedOp::Rmw(*key, *input),
             answer: Answer::Value(shown),
+            low: at,
+            at,
+            high: at,
+        };
+        Ok(Some(finish::<F, H>(history, book, entry)))
+    }
+
+    /// Issues a read of a key in a session of a caller, which was told of so many updates, and finishes it, where no page has to
+    /// be read for it: what [`Locked::issue`] and [`Locked::go`] answer then, at two moments, but the partition is left as it is,
+    /// and no mark changes. Answers its entry, which is noted, or `None` where the slot is that of no session, the key belongs to
+    /// another partition, or the read would ask for a page, and then nothing changes. Refused as [`Locked::update_at_once`] is,
+    /// and then nothing changes.
+    pub fn read_at_once(
+        &mut self,
+        seat: Seat,
+        key: &F::Key,
+        input: &F::Input,
+        told: u64,
+        functions: &F,
+    ) -> Result<Option<FinishedOf<F>>, Refused>
+        ensures done { IfOk result (λ done. IfSome done (λ e. (answer : Answer F.Output)
+            × (e ≡ entry_at_once self.old seat (Read key.now input.now) answer)
+            × IsReadAtOnce F.Key.cmp F.parts.joined F.meaning F.code self.old.partition seat.slot key.now input.now answer)) }
+        ensures after { IfOk result (λ done. IfSome done (IsNoted H.keeps self.old self.new)) }
+        ensures still { self.new.partition ≡ self.old.partition }
+        ensures fresh { IfOk result (λ done. IfSome done (λ e. (told ≤ e.at) × (e.at < 2 ^ 64 - 1))) }
+        ensures left { result ≡ Ok None → IsEntered self.old.partition.core seat.slot
+            → partition_of self.old.partition.core.count (F.code key.now) ≡ self.old.partition.core.number
+            → AsksForPage F.Key.cmp F.parts.joined F.meaning F.code self.old.partition.core seat.slot key.now input.now }
+        ensures none { result ≡ Ok None → self.new ≡ self.old }
+        ensures refused { IfErr result (IsUnfit self.old.count self.old.book self.old.clock told) }
+        ensures unchanged { OnErr result (self.new ≡ self.old) }
+    {
+        let Locked {
+            partition,
+            history,
+            clock,
+            book,
+            ..
+        } = self;
+        let ready = match make_ready_at_once::<F, H>(history, clock, *book, told) {
+            Err(refused) => return Err(refused),
+            Ok(ready) => ready,
+        };
+        let Some(answer) = partition.read_at_once(seat.slot, key, input, functions) else {
+            return Ok(None);
+        };
+        let AtOnce { at, now } = ready;
+        *clock = Clock::starting(now);
+        let entry = Entry {
+            session: seat.session,
+            number: now - 1,
+            op: KeyedOp::Read(*key, *input),
+            answer,
             low: at,
             at,
             high: at,

@@ -7,6 +7,7 @@
 //! entries. Each event of a caller's operation is one call of [`Locked`]; what it finished it notes in the same call.
 #![tactic(auto)]
 
+pub mod at_once;
 pub mod beginnings;
 pub mod compacting;
 pub mod finished;
@@ -20,7 +21,6 @@ pub mod pages;
 pub mod seats;
 pub mod sessions;
 pub mod turns;
-pub mod updating;
 
 pub use finished::{Finished, FinishedOf};
 pub use locked::{Locked, Part};

@@ -25,14 +25,12 @@ use Rattle.fkv_partition.proofs.KeepLemmas.{issues-told}
 
 -- a partition of which an operation was issued keeps what every one keeps
 pub sound-issued : {K V I : Type 0} (keeps : Bool) (cmp : K → K → Ordering) (join : V → V → V) (code : K → ℕ) (v between : CoreView K V I) (slot c now : ℕ) (op : KeyedOp K V I)
-    → IsSound keeps cmp join code v → slot < 16 → Issues code v between slot c op now (Ok tt) → IsSound keeps cmp join code between
-sound-issued keeps cmp join code v between slot c now op s few (Issues.stranger n is r) = absurd (cc)
-sound-issued keeps cmp join code v between slot c now op s few (Issues.unmerged own merge lacks is r) = absurd (cc)
-sound-issued keeps cmp join code v between slot c now op s few (Issues.issues inside low free own merges is r) =
-    rw is
+    → IsSound keeps cmp join code v → slot < 16 → Issues code v between slot c op now → IsSound keeps cmp join code between
+sound-issued keeps cmp join code v between slot c now op s few h =
+    rw h.is
     (sound-context s slot c now (record { number = now; op = op; phase = Fresh })
-    (ap (λ o. claim_of (joined o)) (free-here (slots_of v) v.contexts slot c s.places few low inside free)) refl
-    (record { stands = tt; own = own; merging = merges; inside = inside; low = low }))
+    (ap (λ o. claim_of (joined o)) (free-here (slots_of v) v.contexts slot c s.places few h.low h.entered h.free)) refl
+    (record { stands = tt; own = h.own; merging = h.merging; inside = h.entered; low = h.low }))
 
 -- nothing of an operation stands in a free context
 pub free-context : {K V I : Type 0} (v : PartitionView K V I) (slot c : ℕ) → IsEntered v.core slot → c < 8 → IsFree v slot c → context_at v.core slot c ≡ None

@@ -363,13 +363,6 @@ module _ {K V I : Type 0} (keeps : Bool) (cmp : K → K → Ordering) (join : V 
 
 -- what an operation that is issued is told
 module _ {K V I : Type 0} (code : K → ℕ) where
-  pub issues-told : (v : PartitionView K V I) (new : CoreView K V I) (slot c : ℕ) (op : KeyedOp K V I) (now : ℕ) → IsFirstFree v slot (Some c) → Issues code v.core new slot c op now (Ok tt)
+  pub issues-told : (v : PartitionView K V I) (new : CoreView K V I) (slot c : ℕ) (op : KeyedOp K V I) (now : ℕ) → IsFirstFree v slot (Some c) → Issues code v.core new slot c op now
       → IssuesOnKey code v (with_core v new) slot op now (Ok c)
-  issues-told v new slot c op now lowest (Issues.stranger n is r) = absurd (cc)
-  issues-told v new slot c op now lowest (Issues.unmerged own merge lacks is r) = absurd (cc)
-  issues-told v new slot c op now lowest (Issues.issues h low free n merges is r) = IssuesOnKey.issues c h n merges lowest (ap (with_core v) is) refl
-
-  pub issues-err : (old new : CoreView K V I) (slot c : ℕ) (op : KeyedOp K V I) (now : ℕ) (why : Refused) → partition_of old.count (code (key_of op)) ≡ old.number → (is_merge op ≡ true → old.merges ≡ true) → Issues code old new slot c op now (Err why) → ⊥
-  issues-err old new slot c op now why own merges (Issues.stranger n is r) = n own
-  issues-err old new slot c op now why own merges (Issues.unmerged here merge lacks is r) = let both = sym (merges merge) ∙ lacks in cc
-  issues-err old new slot c op now why own merges (Issues.issues h low free n may is r) = cc
+  issues-told v new slot c op now lowest h = IssuesOnKey.issues c h.entered h.own h.merging lowest (ap (with_core v) h.is) refl

@@ -68,14 +68,23 @@ issue-on-key {K} {V} {I} code old new slot now op o (Ok c) is rest event closed 
     (subst (λ (w : PartitionView K V I). IsIssue code old w slot c (op_of o) now) (sym rest) (key-issue old new.core slot c now closed code o event))
 
 pub issues-pend : {K V I : Type 0} (cmp : K → K → Ordering) (code : K → ℕ) (old new : PartitionView K V I) (slot : ℕ) (op : KeyedOp K V I) (now : ℕ) (result : Result ℕ Refused)
-    → ((p q : CoreView K V I) (c : ℕ) (r : Result (Unit {0}) Refused) → beginning.Issues code p q slot c op now r → AllPend cmp p q)
+    → ((p q : CoreView K V I) (c : ℕ) → beginning.Issues code p q slot c op now → AllPend cmp p q)
     → IssuesOnKey code old new slot op now result → AllPend cmp old.core new.core
 issues-pend cmp code old new slot op now result law (IssuesOnKey.unknown a b h) = rw b (λ s d. refl)
 issues-pend cmp code old new slot op now result law (IssuesOnKey.stranger a n b h) = rw b (λ s d. refl)
 issues-pend cmp code old new slot op now result law (IssuesOnKey.unmerged a own merge lacks b h) = rw b (λ s d. refl)
 issues-pend cmp code old new slot op now result law (IssuesOnKey.full a own merges none b h) = rw b (λ s d. refl)
 issues-pend cmp code old new slot op now result law (IssuesOnKey.issues c inside own merges free is h) =
-    rw is (law old.core _ c (Ok tt) (beginning.Issues.issues inside free.0 (context-inside (slots_of old.core) old.core.contexts slot c inside free.0 ∙ free.1.operation) own merges refl refl))
+    rw is
+    (law old.core _ c
+    (record {
+      entered = inside;
+      low = free.0;
+      free = context-inside (slots_of old.core) old.core.contexts slot c inside free.0 ∙ free.1.operation;
+      own = own;
+      merging = merges;
+      is = refl;
+    }))
 
 pub relocates-event : {K V I : Type 0} {keeps : Bool} {cmp : K → K → Ordering} {join : V → V → V} (code : K → ℕ) (old new : PartitionView K V I) (slot now : ℕ) (op : Op K V I) (r : Result ℕ Refused) → op ≡ Relocate → IsCompacting keeps cmp join code old
     → IfOk r (λ c. (slot < 16) × (c < 8)) → Relocates old new slot now r → IfOk r (λ c. IsIssue code old new slot c op now)

@@ -100,10 +100,8 @@ module _ {K V I : Type 0} (v new : CoreView K V I) where
     gives-up-steady result (GivesUp.gives_up x h q is r) = steady-by _ is (record { number = refl; count = refl; begin = refl })
     gives-up-steady result (GivesUp.cancels x p h q is r) = steady-by _ is (record { number = refl; count = refl; begin = refl })
 
-    pub issues-steady : (code : K → ℕ) (op : KeyedOp K V I) (result : Result (Unit {0}) Refused) → Issues code v new slot c op now result → IsSteady v new
-    issues-steady code op result (Issues.stranger n is r) = steady-by _ is (record { number = refl; count = refl; begin = refl })
-    issues-steady code op result (Issues.unmerged own merge lacks is r) = steady-by _ is (record { number = refl; count = refl; begin = refl })
-    issues-steady code op result (Issues.issues h low free n merges is r) = steady-by _ is (record { number = refl; count = refl; begin = refl })
+    pub issues-steady : (code : K → ℕ) (op : KeyedOp K V I) → Issues code v new slot c op now → IsSteady v new
+    issues-steady code op h = steady-by _ h.is (record { number = refl; count = refl; begin = refl })
 
   pub enters-steady : (now : ℕ) (result : Result ℕ Refused) → Enters v new now result → IsSteady v new
   enters-steady now result (Enters.full h is r) = steady-by _ is (record { number = refl; count = refl; begin = refl })

@@ -62,10 +62,7 @@ impl<F: Mergeable, R: Receipt> Partition<F, R> {
         let Some(context) = self.first_free(slot) else {
             return Err(Refused::NoContext);
         };
-        match self.core.issue(slot, context, op, functions, now) {
-            Err(refused) => return Err(refused),
-            Ok(()) => (),
-        }
+        self.core.issue(slot, context, op, now);
         self.core.known();
         Ok(context)
     }

@@ -1,5 +1,5 @@
 //! A partition: the core of its operations on keys, its relocations, and how much of its log is cleared.
-ghost use Rattle.std.specs.Prelude.{◌≡◌, ◌≢◌, ◌<◌, ◌≤◌, ◌⊎◌, ◌+◌, ◌*◌, ◌^◌, ◌||◌, Option, Some, None, Err, IsTrue, ◌↔◌, IfOk, IfErr, IfSome, is_some, length, replicate, slice_get};
+ghost use Rattle.std.specs.Prelude.{◌≡◌, ◌≢◌, ◌<◌, ◌≤◌, ◌⊎◌, ◌+◌, ◌*◌, ◌^◌, ◌||◌, Option, Some, None, Err, IsTrue, ◌↔◌, IfOk, IfErr, IfSome, is_some, length, slice_get};
 ghost use Rattle.fkv_records.specs.Records.{size_of};
 ghost use Rattle.fkv_core.specs.Contexts.{joined};
 ghost use Rattle.fkv_core.specs.Limits.{IsPartitionOf};
@@ -14,6 +14,7 @@ ghost use Rattle.fkv_partition.specs.Beginning.{IsFirstFree};
 
 use crate::relocations::{Relocation, RelocationOf, awaited};
 use fkv_core::contexts::{CONTEXTS, open_at};
+use fkv_core::cores::free_places;
 use fkv_core::{Config, Core};
 use fkv_device::Receipt;
 use fkv_functions::{Mergeable, Refused};
@@ -21,9 +22,6 @@ use fkv_operations::{Op, OpOf};
 use fkv_records::{Address, FIRST};
 use std::alloc::Global;
 use std::marker::Model;
-
-/// The relocations of one partition that may be open.
-const MAX_CONTEXTS: usize = 128;
 
 /// One partition of a store. Each call that takes a moment is one event; the moments of a partition rise.
 #[derive(Drop)]
@@ -44,20 +42,6 @@ impl<F: Mergeable, R: Receipt> Model for Partition<F, R> {
 
     ghost invariant = { λ c. IsCompacting R.keeps F.Key.cmp F.parts.joined F.code
         (view_of c.core c.cleared c.relocations.items) };
-}
-
-/// Places that hold nothing. Refused: `NoMemory`.
-fn free_places<T: Drop>(alloc: Global) -> Result<Vec<Option<T>>, Refused>
-    ensures ok { IfOk result (λ places. places.items ≡ replicate 128 None) }
-    ensures only { IfErr result (λ refused. refused ≡ Refused.NoMemory) }
-{
-    let mut places = Vec::new(alloc);
-    for _ in 0..MAX_CONTEXTS {
-        let Ok(()) = places.push(None) else {
-            return Err(Refused::NoMemory);
-        };
-    }
-    Ok(places)
 }
 
 impl<F: Mergeable, R: Receipt> Partition<F, R> {

@@ -32,6 +32,8 @@ pub enum Call {
     Read(u8),
     /// An update, in one call; where it is not finished so it tells no more than that.
     AddAtOnce(u8, i64),
+    /// A read, in one call; where a page has to be read for it, it tells no more than that.
+    ReadAtOnce(u8),
     /// The read-only offset moves to a page, or Head does; the caller's session is refreshed; the lowest page is flushed.
     ReadOnly(u64),
     Head(u64),
@@ -155,6 +157,20 @@ impl<H: Recorder<SumFns>> Driven<H> {
         }
     }
 
+    /// A read of the caller, in one call.
+    fn read_at_once(&mut self, letter: u8) -> Result<Told, Refused> {
+        let key = key(letter)?;
+        self.owns.make_room(0)?;
+        let told = self.owns.told_at(0);
+        match self
+            .locked
+            .read_at_once(self.seat, &key, &0, told, &SumFns)?
+        {
+            Some(finished) => Ok(Told::Done(self.owns.take(0, finished))),
+            None => Ok(Told::Ok),
+        }
+    }
+
     /// A relocation, driven to its end.
     fn relocated(&mut self) -> Result<Told, Refused> {
         let mut progress = self.locked.next(&self.compactor, &SumFns)?;
@@ -187,6 +203,7 @@ impl<H: Recorder<SumFns>> Driven<H> {
             Call::Add(letter, amount) => self.done(KeyedOp::Rmw(key(letter)?, amount)),
             Call::Read(letter) => self.done(KeyedOp::Read(key(letter)?, 0)),
             Call::AddAtOnce(letter, amount) => self.done_at_once(letter, amount),
+            Call::ReadAtOnce(letter) => self.read_at_once(letter),
             Call::ReadOnly(page) => {
                 self.locked.shift_read_only(page)?;
                 Ok(Told::Ok)

@@ -6,7 +6,7 @@ use fkv_histories::{Audited, EntryOf, Plain};
 use fkv_operations::{Answer, KeyedOp};
 use std::test::Fail;
 
-const ROWS: [Row; 37] = [
+const ROWS: [Row; 40] = [
     (Call::Upsert(b'a', 10), Told::Done(Answer::Stored)),
     (Call::Add(b'a', 5), Told::Done(Answer::Value(15))),
     (Call::Read(b'a'), Told::Done(Answer::Value(15))),
@@ -21,7 +21,8 @@ const ROWS: [Row; 37] = [
     (Call::Head(1), Told::Ok),
     (Call::Refresh, Told::Ok),
     (Call::RefreshCompactor, Told::Ok),
-    // each of these loads it
+    // it would be read for this; and each of these loads it
+    (Call::ReadAtOnce(b'c'), Told::Ok),
     (Call::Read(b'c'), Told::Done(Answer::Value(1))),
     (Call::Add(b'c', 2), Told::Done(Answer::Value(3))),
     (Call::Read(b'b'), Told::Done(Answer::Value(1))),
@@ -40,6 +41,7 @@ const ROWS: [Row; 37] = [
     (Call::Read(b'b'), Told::Done(Answer::Value(1))),
     (Call::Read(b'c'), Told::Done(Answer::Value(3))),
     (Call::Read(b'd'), Told::Done(Answer::Absent)),
+    (Call::ReadAtOnce(b'd'), Told::Done(Answer::Absent)),
     // in one call where the last record may be changed in place: of d there is none, and that of c is frozen in the end
     (Call::AddAtOnce(b'd', 1), Told::Ok),
     (Call::AddAtOnce(b'c', 4), Told::Done(Answer::Value(7))),
@@ -48,10 +50,11 @@ const ROWS: [Row; 37] = [
     (Call::Refresh, Told::Ok),
     (Call::AddAtOnce(b'c', 1), Told::Ok),
     (Call::Read(b'c'), Told::Done(Answer::Value(7))),
+    (Call::ReadAtOnce(b'c'), Told::Done(Answer::Value(7))),
 ];
 
 /// What each operation is answered, and how many updates stand before it.
-const ENTRIES: [(Answer<i128>, u64); 15] = [
+const ENTRIES: [(Answer<i128>, u64); 17] = [
     (Answer::Stored, 0),
     (Answer::Value(15), 1),
     (Answer::Value(15), 2),
@@ -64,8 +67,10 @@ const ENTRIES: [(Answer<i128>, u64); 15] = [
     (Answer::Value(1), 5),
     (Answer::Value(3), 5),
     (Answer::Absent, 5),
+    (Answer::Absent, 5),
     (Answer::Value(7), 5),
     (Answer::Stored, 6),
+    (Answer::Value(7), 7),
     (Answer::Value(7), 7),
 ];
 
@@ -85,7 +90,7 @@ fn one_caller_audited(rt: HostRuntime) -> Result<(), Fail> {
     let part = driven.end(alloc);
     let wrong = first_other_entry(&part.history);
     assert!(rt; wrong == None, "entry {wrong:?}");
-    assert!(rt; part.history.len() == 15 && part.book == 15);
+    assert!(rt; part.history.len() == 17 && part.book == 17);
     Ok(())
 }
 
@@ -96,7 +101,7 @@ fn one_caller_plain(rt: HostRuntime) -> Result<(), Fail> {
     let wrong = driven.first_other(alloc, &ROWS);
     assert!(rt; wrong == None, "row {wrong:?}");
     let part = driven.end(alloc);
-    assert!(rt; part.history.is_empty() && part.book == 15);
+    assert!(rt; part.history.is_empty() && part.book == 17);
     Ok(())
 }
 

@@ -30,6 +30,6 @@ returns g c = record {
   flushes = λ cmp old new s bytes now result h. flushes-all cmp old new s bytes now result h;
   enters = λ keeps cmp join code old new now result s h. enters-all cmp join code old new now result s h;
   leaves = λ keeps cmp old new slot now result yes_keeps h. leaves-all keeps cmp old new slot now result yes_keeps h;
-  issues = λ cmp join code old new slot at op now result h. issues-all cmp join code old new slot at op now result h;
+  issues = λ cmp code old new slot at op now h. issues-all cmp code old new slot at op now h;
   gives_up = λ cmp old new slot at now result h. gives-up-others cmp old new slot at now result h;
 }

@@ -23,7 +23,7 @@ returns g c = record {
       (λ e key value limit low cleared. c.cleared_stay.ensures.appended cmp old.records e key value limit low cleared)
       installs;
   gives_up = λ keeps cmp join code old new slot at now result s h. gives-up-bear cmp join code old s new slot at now result h;
-  issues = λ keeps cmp join code old new slot at op now result s h. issues-bear cmp join code old s new slot at op now result h;
+  issues = λ keeps cmp join code old new slot at op now s h. issues-bear cmp join code old s new slot at op now h;
   enters = λ keeps cmp join code old new now result s h. enters-bear cmp join code old s new now result h;
   leaves = λ keeps cmp join code old new slot now result s h. leaves-bear cmp join code old s new slot now result h;
   refreshes = λ keeps cmp join code old new slot now result s h. refreshes-bear cmp join code old s new slot now result h;

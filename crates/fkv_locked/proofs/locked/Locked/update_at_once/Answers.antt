@@ -10,8 +10,8 @@ pub invariant_of-self-2 : goal.invariant_of-self-2
 invariant_of-self-2 g c =
     let moment = c.update_at_once.ensures.moment in
     let start = c.starting.ensures in
-    let last = c.last.ensures in
-    let next = c.in-Some.ensures in
+    let ready = c.in-Ok.ensures in
+    let next = ready.now in
     let was = c.self.invariant.0 in (
       omega arith,
       c.self.invariant.1,
@@ -28,25 +28,26 @@ invariant_of-self-2 g c =
           let keeps = g.R.Receipt.keeps in
           let slot = c.args.seat.slot in
           let op = Rmw c.args.key.now c.args.input.now in
-          let issued = c.in-Some.now - 1 in
-          let now = c.in-Some.now in
-          let shown = c.in-Some-update_at_once.shown in
-          let done = c.in-Some-update_at_once.ensures.done in
-          let count = c.updates-at.ensures ∙ g.met.H.Recorder.counted c.self.inside.history k in
-          rw (c.finish.ensures.book, c.finish.ensures.entries k, c.in-Ok.ensures.entries)
+          let now = c.in-Ok.ready.now in
+          let issued = now - 1 in
+          let at = c.in-Ok.ready.at in
+          let shown = c.in-Some.shown in
+          let done = c.in-Some.ensures.done in
+          let count = ready.at ∙ g.met.H.Recorder.counted c.self.inside.history k in
+          rw (c.finish.ensures.book, c.finish.ensures.entries k, ready.entries)
           (at_once_keeps cmp join f stands code c.self.inside.partition c.update_at_once.new.self slot c.args.key.now c.args.input.now issued now shown done keeps c.known.ensures.core
-          c.in-Some-update_at_once.ensures.within (omega arith) (omega arith)
-          (λ p q h. c.pendings_stay.ensures.issues cmp join code p q slot done.context op issued (Ok tt) h)
+          c.in-Some.ensures.within (omega arith) (omega arith)
+          (λ p q h. c.pendings_stay.ensures.issues cmp code p q slot done.context op issued h)
           (λ p q s h. c.pendings_stay.ensures.goes keeps stands cmp join f code p q slot done.context now (Ok (Done (Value shown) now)) held order s h)
           (g.H.Recorder.entries c.self.inside.history) c.self.inside.lows.items c.self.inside.looks.items c.self.inside.book (c.self.invariant.3 k held) c.self.invariant.1
-          (record { session = c.args.seat.session; number = issued; op = op; answer = Value shown; low = c.updates-at.result; at = c.updates-at.result; high = c.updates-at.result })
+          (record { session = c.args.seat.session; number = issued; op = op; answer = Value shown; low = at; at = at; high = at })
           refl refl count count count),
     )
 
 pub returns-clause-done : goal.returns-clause-done
 returns-clause-done g c =
-    let last = c.last.ensures in
-    let next = c.in-Some.ensures in
-    let first : c.in-Some.now - 1 ≡ c.self.inside.clock + 1 = omega arith in
-    let second : c.in-Some.now ≡ c.self.inside.clock + 2 = omega arith in
-    rw (← c.self.view_is, ← first, ← second, ← c.updates-at.ensures) (c.in-Some-update_at_once.shown, c.finish.ensures.entry, c.in-Some-update_at_once.ensures.done)
+    let ready = c.in-Ok.ensures in
+    let next = ready.now in
+    let first : c.in-Ok.ready.now - 1 ≡ c.self.inside.clock + 1 = omega arith in
+    let second : c.in-Ok.ready.now ≡ c.self.inside.clock + 2 = omega arith in
+    rw (← c.self.view_is, ← first, ← second, ← ready.at) (c.in-Some.shown, c.finish.ensures.entry, c.in-Some.ensures.done)

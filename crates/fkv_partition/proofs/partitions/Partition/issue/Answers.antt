@@ -14,7 +14,7 @@ returns-in-Some-clause-event g c =
 pub returns-in-Some-clause-pends : goal.returns-in-Some-clause-pends
 returns-in-Some-clause-pends g c = λ yes_keeps.
     issues-pend g.F.Key.Ord.cmp g.F.Functions.code c.args.self.now c.issue_on_key.new.self c.args.slot c.in-Some.keyed c.args.now c.issue_on_key.result
-    (λ p q k r h. c.pendings_stay.ensures.issues g.F.Key.Ord.cmp g.F.Mergeable.parts.joined g.F.Functions.code p q c.args.slot k c.in-Some.keyed c.args.now r h) c.issue_on_key.ensures.effect
+    (λ p q k h. c.pendings_stay.ensures.issues g.F.Key.Ord.cmp g.F.Functions.code p q c.args.slot k c.in-Some.keyed c.args.now h) c.issue_on_key.ensures.effect
 
 pub returns-in-None-clause-effect : goal.returns-in-None-clause-effect
 returns-in-None-clause-effect g c = Issues.relocation (keyed-not c.args.op (sym c.keyed.ensures ∙ c.in-None.is)) c.relocate.ensures.effect

@@ -1,4 +1,4 @@
-use Rattle.std.proofs.Common.{◌≡◌, ◌∙◌, ◌+◌, ◌*◌, ◌<◌, None, subst, refl, sym, ap}
+use Rattle.std.proofs.Common.{◌≡◌, ◌∙◌, ◌+◌, ◌*◌, ◌<◌, arith, None, subst, refl, sym, ap}
 use Rattle.std.proofs.lemmas.Bool.{OnTrue_at, OnFalse_at}
 use Rattle.fkv_operations.specs.After.{key_of}
 use Rattle.fkv_core.specs.Views.{partition_of, slots_of, context_at}
@@ -9,7 +9,7 @@ use Rattle.fkv_partition.specs.Beginning.{IssuesOnKey}
 use Rattle.fkv_partition.specs.Views.{with_core}
 use Rattle.fkv_partition.proofs.ApartLemmas.{no-later, is-before}
 use Rattle.fkv_partition.proofs.SteadyLemmas.{issues-steady}
-use Rattle.fkv_partition.proofs.KeepLemmas.{keep-issued, issues-told, issues-err}
+use Rattle.fkv_partition.proofs.KeepLemmas.{keep-issued, issues-told}
 use Rattle.fkv_partition.proofs.MoveLemmas.{open-free}
 use Rattle.fkv_partition.proofs.partitions.Partition.issue_on_key.Goals as goal
 
@@ -42,33 +42,22 @@ returns-in_default-clause-effect g c =
     rw (← c.self.view_is) (IssuesOnKey.full inside own (OnFalse_at c.if-lacks_merges.false c.lacks_merges.ensures.merges) none refl refl)
 
 pub invariant_of-self : goal.invariant_of-self
-invariant_of-self g c = rw c.in-Err.ensures.unchanged c.self.invariant
-
-pub returns-in-Err-clause-effect : goal.returns-in-Err-clause-effect
-returns-in-Err-clause-effect g c =
-    let number = c.number-held.ensures in
-    let came : c.home-came.result ≡ partition_of c.self.inside.core.count (g.F.Functions.code (key_of c.args.op)) = c.home-came.ensures ∙ ap (λ k. partition_of c.self.inside.core.count (g.F.Functions.code k)) c.key.ensures in
-    let inside = sym c.is_session.ensures.value ∙ c.if-not-is_session.false in
-    let own = sym came ∙ c.if-came-held.false ∙ number in
-    absurd (issues-err g.F.Functions.code c.self.inside.core c.issue.new.self c.args.slot c.in-Some.context c.args.op c.args.now c.in-Err.refused own (OnFalse_at c.if-lacks_merges.false c.lacks_merges.ensures.merges) c.in-Err.ensures.effect)
-
-pub invariant_of-self-2 : goal.invariant_of-self-2
-invariant_of-self-2 g c =
+invariant_of-self g c =
     let v = view_of c.self.inside.core c.self.inside.cleared c.self.inside.relocations.items in
     let new = c.issue.new.self in
-    let does = c.in-Ok.ensures.effect in
+    let does = c.issue.ensures.effect in
     let first = rw (← c.self.view_is) at c.in-Some.ensures.value in
     keep-issued g.R.Receipt.keeps g.F.Key.Ord.cmp g.F.Mergeable.parts.joined g.F.Functions.code v new (c.args.slot * 8 + c.in-Some.context) c.self.invariant c.known-2.ensures.traced c.known-2.ensures.stood
-    (c.events_preserve.ensures.issues g.R.Receipt.keeps g.F.Key.Ord.cmp g.F.Mergeable.parts.joined g.F.Functions.code v.core new c.args.slot c.in-Some.context c.args.op c.args.now _ c.known.ensures does)
-    (issues-steady v.core new c.args.slot c.in-Some.context c.args.now g.F.Functions.code c.args.op _ does)
-    (c.sessions_preserved.ensures.issues g.F.Functions.code v.core new c.args.slot c.in-Some.context c.args.op c.args.now _ does)
+    (c.events_preserve.ensures.issues g.R.Receipt.keeps g.F.Key.Ord.cmp g.F.Mergeable.parts.joined g.F.Functions.code v.core new c.args.slot c.in-Some.context c.args.op c.args.now c.known.ensures does)
+    (issues-steady v.core new c.args.slot c.in-Some.context c.args.now g.F.Functions.code c.args.op does)
+    (c.sessions_preserved.ensures.issues g.F.Functions.code v.core new c.args.slot c.in-Some.context c.args.op c.args.now does)
     first.1.relocation
 
 pub returns-clause-effect : goal.returns-clause-effect
 returns-clause-effect g c =
     let v = view_of c.self.inside.core c.self.inside.cleared c.self.inside.relocations.items in
     let first = rw (← c.self.view_is) at c.in-Some.ensures.value in
-    rw (← c.self.view_is) (issues-told g.F.Functions.code v c.issue.new.self c.args.slot c.in-Some.context c.args.op c.args.now first c.in-Ok.ensures.effect)
+    rw (← c.self.view_is) (issues-told g.F.Functions.code v c.issue.new.self c.args.slot c.in-Some.context c.args.op c.args.now first c.issue.ensures.effect)
 
 pub returns-then-not-is_session-clause-moment : goal.returns-then-not-is_session-clause-moment
 returns-then-not-is_session-clause-moment g c = no-later c.requires.later
@@ -97,20 +86,11 @@ issue-requires-clause-entered g c = sym c.is_session.ensures.value ∙ c.if-not-
 pub issue-requires-clause-context : goal.issue-requires-clause-context
 issue-requires-clause-context g c = c.in-Some.ensures.within
 
-pub returns-in-Err-clause-rest : goal.returns-in-Err-clause-rest
-returns-in-Err-clause-rest g c = ap (λ u. with_core u c.issue.new.self) c.self.view_is
-
-pub returns-in-Err-clause-unchanged : goal.returns-in-Err-clause-unchanged
-returns-in-Err-clause-unchanged g c = ap (λ p. view_of p c.self.inside.cleared c.self.inside.relocations.items) c.in-Err.ensures.unchanged ∙ c.self.view_is
-
-pub returns-in-Err-clause-moment : goal.returns-in-Err-clause-moment
-returns-in-Err-clause-moment g c = is-before (ap (λ p. view_of p c.self.inside.cleared c.self.inside.relocations.items) c.in-Err.ensures.unchanged ∙ c.self.view_is) c.requires.later
-
 pub returns-clause-rest : goal.returns-clause-rest
 returns-clause-rest g c = ap (λ u. with_core u c.issue.new.self) c.self.view_is
 
 pub returns-clause-event : goal.returns-clause-event
-returns-clause-event g c = subst (λ u. IsIssue g.F.Functions.code u.core c.issue.new.self c.args.slot c.in-Some.context c.args.op c.args.now) c.self.view_is c.in-Ok.ensures.event
+returns-clause-event g c = subst (λ u. IsIssue g.F.Functions.code u.core c.issue.new.self c.args.slot c.in-Some.context c.args.op c.args.now) c.self.view_is c.issue.ensures.event
 
 pub returns-clause-closed : goal.returns-clause-closed
 returns-clause-closed g c = open-free (slots_of c.args.self.now.core) c.args.self.now.relocations c.args.slot c.in-Some.context c.in-Some.ensures.value.1.relocation
@@ -119,7 +99,7 @@ pub returns-clause-within : goal.returns-clause-within
 returns-clause-within g c = (c.is_session.ensures.within c.if-not-is_session.false, c.in-Some.ensures.within)
 
 pub returns-clause-moment : goal.returns-clause-moment
-returns-clause-moment g c = c.issue.ensures.moment
+returns-clause-moment g c = omega (arith, ap (λ u. u.moment) c.issue.ensures.effect.is)
 
 pub returns-then-not-is_session-clause-rest : goal.returns-then-not-is_session-clause-rest
 returns-then-not-is_session-clause-rest g c = refl
@@ -149,3 +129,12 @@ pub issue-requires-clause-free : goal.issue-requires-clause-free
 issue-requires-clause-free g c =
     let v = c.args.self.now in
     subst (λ u. context_at u.core c.args.slot c.in-Some.context ≡ None) (sym c.self.view_is) (open-free (slots_of v.core) v.core.contexts c.args.slot c.in-Some.context c.in-Some.ensures.value.1.operation)
+
+pub issue-requires-clause-own : goal.issue-requires-clause-own
+issue-requires-clause-own g c =
+    let number = c.number-held.ensures in
+    let came : c.home-came.result ≡ partition_of c.self.inside.core.count (g.F.Functions.code (key_of c.args.op)) = c.home-came.ensures ∙ ap (λ k. partition_of c.self.inside.core.count (g.F.Functions.code k)) c.key.ensures in
+    sym came ∙ c.if-came-held.false ∙ number
+
+pub issue-requires-clause-merging : goal.issue-requires-clause-merging
+issue-requires-clause-merging g c = OnFalse_at c.if-lacks_merges.false c.lacks_merges.ensures.merges

@@ -37,9 +37,9 @@ invariant_of-self g c =
     let between = d.between in
     let mid = sound-issued keeps cmp join code v.core between c.args.slot k c.args.issued op c.known.ensures few d.issues in
     let one = keep-issued keeps cmp join code v between (c.args.slot * 8 + k) c.self.invariant mid.traced mid.stood
-    (c.events_preserve.ensures.issues keeps cmp join code v.core between c.args.slot k op c.args.issued (Ok tt) c.known.ensures d.issues)
-    (issues-steady v.core between c.args.slot k c.args.issued code op (Ok tt) d.issues)
-    (c.sessions_preserved.ensures.issues code v.core between c.args.slot k op c.args.issued (Ok tt) d.issues)
+    (c.events_preserve.ensures.issues keeps cmp join code v.core between c.args.slot k op c.args.issued c.known.ensures d.issues)
+    (issues-steady v.core between c.args.slot k c.args.issued code op d.issues)
+    (c.sessions_preserved.ensures.issues code v.core between c.args.slot k op c.args.issued d.issues)
     first.1.relocation in
     keep-seated keeps cmp join code (with_core v between) new one c.known-2.ensures.traced c.known-2.ensures.stood
     (c.events_preserve.ensures.goes keeps g.R.Receipt.stands cmp join g.F.Functions.meaning code between new c.args.slot k c.args.now (Ok (Done (Value shown) c.args.now)) order mid d.goes)
