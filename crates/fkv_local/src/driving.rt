@@ -145,6 +145,7 @@ pub fn update_at_once<F: Mergeable, D: Disk>(
 
 /// Counts an operation, and before every 64th moves the partition's pages on, where a record was appended since, and compacts its
 /// log where that is due. Refused as [`tidy`] is.
+#[inline(always)]
 pub fn tidy_at_times<F: Mergeable, D: Disk>(
     terms: &Terms<F>,
     shard: &mut Shard<F, D>,
@@ -166,6 +167,29 @@ pub fn tidy_at_times<F: Mergeable, D: Disk>(
     if shard.part.operations % 64 != 0 {
         return Ok(());
     }
+    tidy_where_grown(terms, shard, clock)
+}
+
+/// Moves the partition's pages on where a record was appended since they were, and compacts its log where that is due. Refused as
+/// [`tidy`] is.
+#[inline(never)]
+fn tidy_where_grown<F: Mergeable, D: Disk>(
+    terms: &Terms<F>,
+    shard: &mut Shard<F, D>,
+    clock: &mut Clock,
+) -> Result<(), Refused>
+    requires idle { IsIdle shard.old.part.partition 0 }
+    requires past { shard.old.part.partition.core.moment ≤ clock.old }
+    ensures stays { StaysIdle D.Receipt.keeps F.Key.cmp shard.old.part.partition shard.new.part.partition }
+    ensures passed { IsPassed shard.new.part.partition.core.moment clock.old clock.new }
+    ensures same_reader { OnErr result (shard.new.reader ≡ shard.old.reader) }
+    ensures unread { IsTrue terms.now.keeps_log → shard.new.reader ≡ shard.old.reader }
+    ensures beside { OnOk result (IsBeside terms.now.keeps_log
+        (failures_of D.Writer.failures D.Reader.failures shard.old.part.writer shard.old.reader)
+        (failures_of D.Writer.failures D.Reader.failures shard.new.part.writer shard.new.reader)) }
+    ensures told { IfErr result (IsMoveRefusal clock.new (D.Writer.failures shard.old.part.writer)
+        (D.Writer.failures shard.new.part.writer)) }
+{
     let tail = shard.part.partition.tail();
     if shard.part.tidied == tail {
         return Ok(());
