@@ -1,6 +1,6 @@
-//! Holds of a partition's lock, each for one event, or for an update that is issued and finished at once.
+//! Holds of a partition's lock, each for one event, or for an operation that is issued and finished at once.
 ghost use Rattle.std.specs.Prelude.{◌≡◌, ◌≢◌, ◌<◌, ◌≤◌, ◌+◌, ◌-◌, ◌^◌, IfOk, IfErr, IfSome, OnOk};
-ghost use Rattle.fkv_operations.specs.declared.operations.KeyedOp.TheVariants.{Rmw};
+ghost use Rattle.fkv_operations.specs.declared.operations.KeyedOp.TheVariants.{Read, Rmw};
 ghost use Rattle.fkv_locked.specs.Turns.{IsOf, IsTurnOf};
 ghost use Rattle.fkv_store.specs.Stores.{IsUnentered, IsUndone, IsUnseated};
 
@@ -166,6 +166,7 @@ pub(crate) fn issue<F: Mergeable, D: Disk, H: Recorder<F>, G: Gate>(
 }
 
 /// Makes an update of a caller in one call, where it is finished so. Refused as [`fkv_locked::Locked::update_at_once`] is.
+#[inline(always)]
 pub(crate) fn update_at_once<F: Mergeable, D: Disk, H: Recorder<F>, G: Gate>(
     rt: &impl Wait,
     store: &Store<F, D, H>,
@@ -185,6 +186,32 @@ pub(crate) fn update_at_once<F: Mergeable, D: Disk, H: Recorder<F>, G: Gate>(
     let mut held = store.locks[at.partition].lock(rt);
     gate.pass(at.worker, at.locked());
     match held.update_at_once(seat, key, input, known, &store.functions) {
+        Ok(entry) => Ok(entry),
+        Err(refused) => Err(told_of(refused, known)),
+    }
+}
+
+/// Makes a read of a caller in one call, where it is finished so. Refused as [`fkv_locked::Locked::read_at_once`] is.
+#[inline(always)]
+pub(crate) fn read_at_once<F: Mergeable, D: Disk, H: Recorder<F>, G: Gate>(
+    rt: &impl Wait,
+    store: &Store<F, D, H>,
+    at: At,
+    seat: Seat,
+    key: &F::Key,
+    input: &F::Input,
+    known: u64,
+    gate: &G,
+) -> Result<Option<FinishedOf<F>>, Refused>
+    requires { at.partition < store.now.count }
+    ensures op { IfOk result (λ done. IfSome done (λ e. e.op ≡ Read key.now input.now)) }
+    ensures fresh { IfOk result (λ done. IfSome done (λ e. known ≤ e.at)) }
+    ensures room { IfOk result (λ done. IfSome done (λ e. e.at < 2 ^ 64 - 1)) }
+    ensures only { IfErr result (IsUndone known) }
+{
+    let mut held = store.locks[at.partition].lock(rt);
+    gate.pass(at.worker, at.locked());
+    match held.read_at_once(seat, key, input, known, &store.functions) {
         Ok(entry) => Ok(entry),
         Err(refused) => Err(told_of(refused, known)),
     }

@@ -1,10 +1,10 @@
 //! A store that callers share: its partitions, each under a lock of its own, and the passes of its callers.
 //!
 //! A caller asks for a [`Pass`] and runs operations with it. Each hold of a partition's lock is one event of the partition, but
-//! for an update in place, which is issued and finished in one; values are built, and pages are read and written, with no
-//! partition's lock held. What stands under a lock
-//! ([`fkv_locked::Locked`]) is kept whenever the lock is free. A pass has the list of what it was answered, with each
-//! partition, and of how many updates it was told there: no answer comes from fewer.
+//! for an update in place and a read in memory, each of which is issued and finished in one; values are built, and pages are
+//! read and written, with no partition's lock held. What stands under a lock ([`fkv_locked::Locked`]) is kept whenever the lock
+//! is free. A pass has the list of what it was answered, with each partition, and of how many updates it was told there: no
+//! answer comes from fewer.
 #![tactic(auto)]
 
 pub mod closing;
@@ -20,6 +20,7 @@ pub mod tidying;
 pub mod unlisted;
 pub(crate) mod waiting;
 
+pub use fkv_histories::{Audited, Plain, Recorder};
 pub use gates::{Gate, Open, Place};
 pub use passes::Pass;
 pub use stores::Store;

@@ -7,7 +7,8 @@ ghost use Rattle.fkv_store.specs.Runs.{IsRunAs, IsEntryOf};
 
 use crate::gates::{Gate, Place};
 use crate::holds::{
-    At, Hand, IssuedOf, Turned, close, give_up, install, issue, refresh, turn, update_at_once,
+    At, Hand, IssuedOf, Turned, close, give_up, install, issue, read_at_once, refresh, turn,
+    update_at_once,
 };
 use crate::stores::Store;
 use crate::waiting::Patience;
@@ -209,8 +210,9 @@ fn run_on<F: Mergeable, D: Disk, H: Recorder<F>, G: Gate>(
     Err(Refused::Stalled)
 }
 
-/// Makes an operation in one hold, where it is an update that is finished so; where it is not, nothing has changed. Refused as
-/// [`update_at_once`] is.
+/// Makes an operation in one hold, where it is an update or a read that is finished so; where it is not, nothing has changed.
+/// Refused as [`update_at_once`] is.
+#[inline(always)]
 fn try_at_once<F: Mergeable, D: Disk, H: Recorder<F>, G: Gate>(
     rt: &impl Wait,
     store: &Store<F, D, H>,
@@ -220,13 +222,18 @@ fn try_at_once<F: Mergeable, D: Disk, H: Recorder<F>, G: Gate>(
 ) -> Result<Option<FinishedOf<F>>, Refused>
     requires { run.now.at.partition < store.now.count }
     ensures of { IfOk result (λ done. IfSome done (IsEntryOf op run.now.known)) }
-    ensures update { IfOk result (λ done. IfSome done (λ _. is_merge op ≡ false)) }
+    ensures plain { IfOk result (λ done. IfSome done (λ _. is_merge op ≡ false)) }
     ensures only { IfErr result (IsUndone run.now.known) }
 {
-    let KeyedOp::Rmw(key, input) = op else {
-        return Ok(None);
-    };
-    update_at_once(rt, store, run.at, run.seat, &key, &input, run.known, gate)
+    match op {
+        KeyedOp::Rmw(key, input) => {
+            update_at_once(rt, store, run.at, run.seat, &key, &input, run.known, gate)
+        }
+        KeyedOp::Read(key, input) => {
+            read_at_once(rt, store, run.at, run.seat, &key, &input, run.known, gate)
+        }
+        KeyedOp::Upsert(..) | KeyedOp::Delete(_) | KeyedOp::Merge(..) => Ok(None),
+    }
 }
 
 /// Issues an operation and runs it to its end. Answers its entry, or `None` where it needs a page that is not to be read. Where
@@ -281,6 +288,7 @@ fn merge_for<F: Mergeable>(op: &KeyedOpOf<F>, loads: Loads) -> Option<KeyedOpOf<
 }
 
 /// Runs an operation in a session of a pass. Where it is refused it is over, without effect.
+#[inline(always)]
 pub(crate) fn run_in<F: Mergeable, D: Disk, H: Recorder<F>, G: Gate>(
     rt: &(impl Wait + Clock),
     store: &Store<F, D, H>,
@@ -303,10 +311,35 @@ pub(crate) fn run_in<F: Mergeable, D: Disk, H: Recorder<F>, G: Gate>(
     ensures stalled { IfErr result (λ why. why ≡ Refused.Stalled → turned.new ≡ store.now.turns) }
 {
     match try_at_once(rt, store, run, op, gate) {
-        Ok(Some(entry)) => return Ok(entry),
-        Ok(None) => {}
-        Err(refused) => return Err(refused),
+        Ok(Some(entry)) => Ok(entry),
+        Ok(None) => run_by_turns(rt, store, run, readers, op, loads, turned, gate),
+        Err(refused) => Err(refused),
     }
+}
+
+/// Runs an operation as [`run_in`] does, but always by its events.
+#[inline(never)]
+fn run_by_turns<F: Mergeable, D: Disk, H: Recorder<F>, G: Gate>(
+    rt: &(impl Wait + Clock),
+    store: &Store<F, D, H>,
+    run: &Run<'_>,
+    readers: &mut Vec<D::Reader>,
+    op: KeyedOpOf<F>,
+    loads: Loads,
+    turned: &mut Turned,
+    gate: &G,
+) -> Result<FinishedOf<F>, Refused>
+    requires within { run.now.at.partition < store.now.count }
+    requires seats { length run.now.seats.now ≡ store.now.count }
+    requires readers { length readers.old.items ≡ store.now.count }
+    ensures readers { length readers.new.items ≡ length readers.old.items }
+    ensures op { IfOk result (λ e. IsRunAs loads op e.op) }
+    ensures fresh { IfOk result (λ e. run.now.known ≤ e.at) }
+    ensures room { IfOk result (λ e. e.at < 2 ^ 64 - 1) }
+    ensures merging { OnOk result (is_merge op ≡ true → F.MERGES ≡ true) }
+    ensures only { IfErr result (IsUnrun F.MERGES op run.now.known) }
+    ensures stalled { IfErr result (λ why. why ≡ Refused.Stalled → turned.new ≡ store.now.turns) }
+{
     if !F::MERGES && op.is_merge() {
         return Err(Refused::NoMerge);
     }
