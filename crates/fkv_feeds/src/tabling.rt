@@ -68,5 +68,5 @@ pub fn table_of<F: Mergeable<Key = Name>, D: Disk>(
             return Err(Refused::NoMemory);
         };
     }
-    Table::new(runs)
+    Table::new(alloc, runs)
 }

@@ -15,4 +15,5 @@ pub mod running;
 pub(crate) mod waiting;
 pub(crate) mod working;
 
+pub use fkv_feeds::{run_one, run_one_by};
 pub use running::{MOST_FEEDS, MOST_WORKERS, run_feeds, run_feeds_by};

@@ -76,7 +76,7 @@ fn list_all<F: Mergeable<Key = Name>, D: Disk>(
             return Err(Refused::NoMemory);
         };
     }
-    Run::merged(alloc, runs.as_slice())
+    Run::merged(alloc, runs)
 }
 
 impl<'a, F: Mergeable<Key = Name>, D: Disk> Job for Listing<'a, F, D> {
@@ -212,7 +212,7 @@ where
         Err(refused) => return Err(refused),
     };
     match runs_of(alloc, results) {
-        Ok(runs) => Table::new(runs),
+        Ok(runs) => Table::new(alloc, runs),
         Err(refused) => Err(refused),
     }
 }

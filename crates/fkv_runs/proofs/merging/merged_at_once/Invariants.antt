@@ -1,7 +1,7 @@
 use Rattle.std.proofs.Common.{◌≡◌, ◌++◌, length}
 use Rattle.fkv_functions.specs.Names.{name_cmp}
 use Rattle.fkv_runs.specs.Merging.{merged}
-use Rattle.fkv_runs.proofs.runs.Run.merged.Given as goal
+use Rattle.fkv_runs.proofs.merging.merged_at_once.Given as goal
 
 -- the pairs so far, and those that are left, are all
 abbrev pub invariant-loop-name : goal.invariant-loop-name

@@ -5,8 +5,6 @@ use Rattle.std.proofs.lemmas.Option.{slice_get-get_or}
 use Rattle.std.proofs.lemmas.Result.{IfOk-weaker}
 use Rattle.std.proofs.lemmas.Iterator.Adapters.{YieldsList-from_vec}
 use Rattle.std.proofs.lemmas.Iterator.Consumers.{YieldsList-end, YieldsList-turn}
-use Rattle.fkv_functions.specs.Names.{name_cmp}
-use Rattle.fkv_runs.specs.Merging.{merged}
 use Rattle.fkv_workers.specs.Listing.{IsRunOf}
 use Rattle.fkv_workers.proofs.ListingLemmas.{zip_push, runs_each, runless_in}
 use Rattle.fkv_workers.proofs.listing.list_all.Goals as goal
@@ -27,7 +25,7 @@ returns-clause-ok g c =
     let each = subst (λ parts. AllZip (λ part run. IsRunOf keeps code (part.partition ∷ []) run) parts c.loop-part.runs.items) (sym (map-id c.loop-part.yielded) ∙ end.0) c.loop-part.invariant in
     IfOk-weaker c.merged.result _ _
     (λ run is.
-    subst (IsRunOf keeps code (map (λ part. part.partition) c.args.parts.items)) (sym (is ∙ ap (merged name_cmp) c.as_slice.ensures.value))
+    subst (IsRunOf keeps code (map (λ part. part.partition) c.args.parts.items)) (sym is)
     (runs_each keeps code (λ part. part.partition) c.args.parts.items c.loop-part.runs.items each))
     c.merged.ensures.ok
 
