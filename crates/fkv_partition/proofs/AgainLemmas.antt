@@ -19,19 +19,19 @@ use Rattle.fkv_lookups.specs.declared.payloads.Payload.TheVariants.{Whole}
 use Rattle.fkv_lookups.specs.Traced.{IsTraced, IsStood}
 use Rattle.fkv_lookups.proofs.TracedLemmas.{entry-stands, traced-held}
 use Rattle.fkv_lookups.proofs.ClearedLemmas.{superseded-renewed, lives-renewed}
-use Rattle.fkv_core.specs.declared.contexts.Context.{Context}
-use Rattle.fkv_core.specs.declared.contexts.Loading.{Loading}
-use Rattle.fkv_core.specs.declared.contexts.Phase.{Phase}
-use Rattle.fkv_core.specs.declared.contexts.Phase.TheVariants as phase
-use Rattle.fkv_core.specs.Contexts.{joined, is_session, claim_of, claim_at}
-use Rattle.fkv_core.specs.Effect.{asked_by}
-use Rattle.fkv_core.specs.Grown.{IsPreserved}
-use Rattle.fkv_core.specs.Pending.{pending_by, pending_of, AllPend}
-use Rattle.fkv_core.specs.Sound.{IsLoading, StandsFor, IsSound}
-use Rattle.fkv_core.specs.Views.{CoreView, slots_of, context_at, with_appended}
-use Rattle.fkv_core.specs.Writes.{IsWrite}
-use Rattle.fkv_core.proofs.AskedLemmas.{context-other}
-use Rattle.fkv_core.proofs.EventLemmas.{stands-at}
+use Rattle.fkv_partition.specs.declared.contexts.Context.{Context}
+use Rattle.fkv_partition.specs.declared.contexts.Loading.{Loading}
+use Rattle.fkv_partition.specs.declared.contexts.Phase.{Phase}
+use Rattle.fkv_partition.specs.declared.contexts.Phase.TheVariants as phase
+use Rattle.fkv_partition.specs.CoreContexts.{joined, is_session, claim_of, claim_at}
+use Rattle.fkv_partition.specs.CoreEffect.{asked_by}
+use Rattle.fkv_partition.specs.Grown.{IsPreserved}
+use Rattle.fkv_partition.specs.Pending.{pending_by, pending_of, AllPend}
+use Rattle.fkv_partition.specs.CoreSound.{IsLoading, StandsFor, IsSound}
+use Rattle.fkv_partition.specs.CoreViews.{CoreView, slots_of, context_at, with_appended}
+use Rattle.fkv_partition.specs.Writes.{IsWrite}
+use Rattle.fkv_partition.proofs.AskedLemmas.{context-other}
+use Rattle.fkv_partition.proofs.EventLemmas.{stands-at}
 use Rattle.fkv_partition.specs.declared.relocations.Relocation.{Relocation}
 use Rattle.fkv_partition.specs.declared.relocations.Stage.{Stage}
 use Rattle.fkv_partition.specs.declared.relocations.Stage.TheVariants.{Fresh, Reading, Tracing, Ready}

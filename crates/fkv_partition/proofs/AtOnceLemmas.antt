@@ -6,15 +6,15 @@ use Rattle.fkv_device.specs.Standing.{Standing}
 use Rattle.fkv_operations.specs.declared.operations.KeyedOp.{KeyedOp}
 use Rattle.fkv_operations.specs.declared.operations.KeyedOp.TheVariants as on_key
 use Rattle.fkv_operations.specs.declared.operations.Answer.TheVariants.{Value}
-use Rattle.fkv_core.specs.declared.contexts.Phase.TheVariants.{Fresh}
-use Rattle.fkv_core.specs.declared.contexts.Progress.TheVariants.{Done}
-use Rattle.fkv_core.specs.AtOnce as key_update
-use Rattle.fkv_core.specs.Beginning.{Issues, IsEntered}
-use Rattle.fkv_core.specs.Contexts.{claim_of, joined}
-use Rattle.fkv_core.specs.Sound.{IsSound}
-use Rattle.fkv_core.specs.Views.{CoreView, slots_of, context_at}
-use Rattle.fkv_core.proofs.AskedLemmas.{context-inside, free-here}
-use Rattle.fkv_core.proofs.SoundLemmas.{sound-context}
+use Rattle.fkv_partition.specs.declared.contexts.Phase.TheVariants.{Fresh}
+use Rattle.fkv_partition.specs.declared.contexts.Progress.TheVariants.{Done}
+use Rattle.fkv_partition.specs.CoreAtOnce as key_update
+use Rattle.fkv_partition.specs.CoreBeginning.{Issues, IsEntered}
+use Rattle.fkv_partition.specs.CoreContexts.{claim_of, joined}
+use Rattle.fkv_partition.specs.CoreSound.{IsSound}
+use Rattle.fkv_partition.specs.CoreViews.{CoreView, slots_of, context_at}
+use Rattle.fkv_partition.proofs.AskedLemmas.{context-inside, free-here}
+use Rattle.fkv_partition.proofs.SoundLemmas.{sound-context}
 use Rattle.fkv_partition.specs.AtOnce.{IsAtHand, IsDoneAtOnce}
 use Rattle.fkv_partition.specs.Beginning.{IsFree, IsFirstFree}
 use Rattle.fkv_partition.specs.Events as events

@@ -28,12 +28,12 @@ use Rattle.fkv_lookups.specs.Traced.{IsTraced, IsStood}
 use Rattle.fkv_lookups.proofs.TracedLemmas.{highest, raw, traced-raw, traced-held, traced-none, traced-low}
 use Rattle.fkv_lookups.proofs.LookupLemmas.{begun, raw-traced, values_tell, between_tells}
 use Rattle.fkv_lookups.proofs.MeetingLemmas.{low_head, low_begin, low_under, tells}
-use Rattle.fkv_core.specs.Beginning.{IsEntered}
-use Rattle.fkv_core.proofs.GrownLemmas.{still-below}
-use Rattle.fkv_core.proofs.StoodLemmas.{rises}
-use Rattle.fkv_core.proofs.TruncateLemmas.{still-stood}
-use Rattle.fkv_core.specs.Sound.{IsSound}
-use Rattle.fkv_core.specs.Views.{CoreView, partition_of, slots_of, seen_at, entry_for, reached_from}
+use Rattle.fkv_partition.specs.CoreBeginning.{IsEntered}
+use Rattle.fkv_partition.proofs.GrownLemmas.{still-below}
+use Rattle.fkv_partition.proofs.StoodLemmas.{rises}
+use Rattle.fkv_partition.proofs.CoreTruncateLemmas.{still-stood}
+use Rattle.fkv_partition.specs.CoreSound.{IsSound}
+use Rattle.fkv_partition.specs.CoreViews.{CoreView, partition_of, slots_of, seen_at, entry_for, reached_from}
 use Rattle.fkv_partition.specs.declared.relocations.Liveness.TheVariants.{Superseded, Last, Further}
 use Rattle.fkv_partition.specs.Stages.{IsTracing, IsReady}
 use Rattle.fkv_partition.specs.Checking.{higher_of, liveness_at, liveness, above, told_above, renewed}

@@ -14,17 +14,17 @@ use Rattle.fkv_operations.specs.declared.operations.Answer.TheVariants.{Cleared}
 use Rattle.fkv_operations.specs.declared.operations.KeyedOp.{KeyedOp}
 use Rattle.fkv_operations.specs.declared.operations.KeyedOp.TheVariants.{Read, Upsert, Rmw, Delete, Merge}
 use Rattle.fkv_operations.specs.declared.operations.Op.TheVariants.{Relocate}
-use Rattle.fkv_core.specs.declared.contexts.Context.{Context}
-use Rattle.fkv_core.specs.declared.contexts.Progress.{Progress}
-use Rattle.fkv_core.specs.declared.contexts.Progress.TheVariants.{Done, Next, NeedsBuild, NeedsLoad, Waits}
-use Rattle.fkv_core.specs.Contexts.{joined, is_session, context_in}
-use Rattle.fkv_core.specs.Effect as key_effect
-use Rattle.fkv_core.specs.Grown.{AllStay}
-use Rattle.fkv_core.specs.Pending as key_pending
-use Rattle.fkv_core.specs.Pending.{Pending, pending, pending_of, OthersPend}
-use Rattle.fkv_core.specs.Truncating as key_truncating
-use Rattle.fkv_core.specs.Views.{CoreView, slots_of, context_at, live_of, partition_of}
-use Rattle.fkv_core.proofs.AskedLemmas.{open_at, context-inside, free-here}
+use Rattle.fkv_partition.specs.declared.contexts.Context.{Context}
+use Rattle.fkv_partition.specs.declared.contexts.Progress.{Progress}
+use Rattle.fkv_partition.specs.declared.contexts.Progress.TheVariants.{Done, Next, NeedsBuild, NeedsLoad, Waits}
+use Rattle.fkv_partition.specs.CoreContexts.{joined, is_session, context_in}
+use Rattle.fkv_partition.specs.CoreEffect as key_effect
+use Rattle.fkv_partition.specs.Grown.{AllStay}
+use Rattle.fkv_partition.specs.Pending as key_pending
+use Rattle.fkv_partition.specs.Pending.{Pending, pending, pending_of, OthersPend}
+use Rattle.fkv_partition.specs.CoreTruncating as key_truncating
+use Rattle.fkv_partition.specs.CoreViews.{CoreView, slots_of, context_at, live_of, partition_of}
+use Rattle.fkv_partition.proofs.AskedLemmas.{open_at, context-inside, free-here}
 use Rattle.fkv_partition.specs.declared.relocations.Relocation.{Relocation}
 use Rattle.fkv_partition.specs.Effect.{Asked, asked_by, asked_of, asked, HasEffect, LeavesOthers, IsQuiet, IsIssue, IsEvent, IsGiveUp, to_find, Finds, HasLoaded, IsLoaded, IsTruncation}
 use Rattle.fkv_partition.specs.Relocating.{IsRelocating}

@@ -2,9 +2,9 @@
 use Rattle.std.proofs.Common.{◌≡◌, ◌↔◌, Bool, true, false, not, cond, nat_lt, ℕ, zero, suc, ◌+◌, ◌-◌, ◌*◌, ◌<◌, IsTrue, IsSome, List, [], ◌∷◌, length, Option, Some, None, is_some, slice_get, slice_range, take, drop, position, zero-add, subst, refl, sym, ◌∙◌, ap, arith}
 use Rattle.std.proofs.lemmas.Bool.{false≢true}
 use Rattle.std.specs.List.{position_or_len}
-use Rattle.fkv_core.specs.Contexts.{joined, is_session}
-use Rattle.fkv_core.specs.Views.{slots_of}
-use Rattle.fkv_core.proofs.AskedLemmas.{open_at, context-inside, position-found, position-none}
+use Rattle.fkv_partition.specs.CoreContexts.{joined, is_session}
+use Rattle.fkv_partition.specs.CoreViews.{slots_of}
+use Rattle.fkv_partition.proofs.AskedLemmas.{open_at, context-inside, position-found, position-none}
 use Rattle.fkv_partition.specs.declared.relocations.Relocation.{Relocation}
 use Rattle.fkv_partition.specs.Views.{PartitionView, relocation_at}
 use Rattle.fkv_partition.specs.Beginning.{IsFirstOpen}

@@ -23,12 +23,12 @@ use Rattle.fkv_functions.specs.declared.refusals.Refused.{Refused}
 use Rattle.fkv_functions.proofs.ListLemmas.{get-set_cases}
 use Rattle.fkv_operations.specs.After.{key_of, is_merge}
 use Rattle.fkv_operations.specs.declared.operations.KeyedOp.{KeyedOp}
-use Rattle.fkv_core.specs.Beginning.{Issues}
-use Rattle.fkv_core.proofs.AskedLemmas.{context-inside}
+use Rattle.fkv_partition.specs.CoreBeginning.{Issues}
+use Rattle.fkv_partition.proofs.AskedLemmas.{context-inside}
 use Rattle.fkv_partition.specs.Beginning.{IssuesOnKey, IsFirstFree}
-use Rattle.fkv_core.specs.Contexts.{joined, is_session}
-use Rattle.fkv_core.specs.Views.{CoreView, slots_of, partition_of}
-use Rattle.fkv_core.specs.Grown.{IsPreserved, NoneOpens, AllStay}
+use Rattle.fkv_partition.specs.CoreContexts.{joined, is_session}
+use Rattle.fkv_partition.specs.CoreViews.{CoreView, slots_of, partition_of}
+use Rattle.fkv_partition.specs.Grown.{IsPreserved, NoneOpens, AllStay}
 use Rattle.fkv_partition.specs.declared.relocations.Relocation.{Relocation}
 use Rattle.fkv_partition.specs.declared.relocations.Stage.{Stage}
 use Rattle.fkv_partition.specs.declared.relocations.Stage.TheVariants.{Fresh, Reading, Tracing, Ready}

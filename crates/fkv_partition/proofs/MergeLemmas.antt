@@ -12,14 +12,14 @@ use Rattle.fkv_operations.specs.Operations.{op_of}
 use Rattle.fkv_operations.specs.declared.operations.KeyedOp.{KeyedOp}
 use Rattle.fkv_operations.specs.declared.operations.KeyedOp.TheVariants as on_key
 use Rattle.fkv_operations.specs.declared.operations.Op.TheVariants.{Merge, Relocate}
-use Rattle.fkv_core.specs.declared.contexts.Context.{Context}
-use Rattle.fkv_core.specs.declared.contexts.Progress.{Progress}
-use Rattle.fkv_core.specs.Asking.{AsksNothing}
-use Rattle.fkv_core.specs.Effect as key_effect
-use Rattle.fkv_core.specs.Going as going
-use Rattle.fkv_core.specs.Installing as installing
-use Rattle.fkv_core.specs.Loading as loading
-use Rattle.fkv_core.specs.Views.{context_at}
+use Rattle.fkv_partition.specs.declared.contexts.Context.{Context}
+use Rattle.fkv_partition.specs.declared.contexts.Progress.{Progress}
+use Rattle.fkv_partition.specs.Asking.{AsksNothing}
+use Rattle.fkv_partition.specs.CoreEffect as key_effect
+use Rattle.fkv_partition.specs.CoreGoing as going
+use Rattle.fkv_partition.specs.CoreInstalling as installing
+use Rattle.fkv_partition.specs.CoreLoading as loading
+use Rattle.fkv_partition.specs.CoreViews.{context_at}
 use Rattle.fkv_partition.specs.declared.relocations.Relocation.{Relocation}
 use Rattle.fkv_partition.specs.Effect.{Asked, asked, asked_of, asked_by}
 use Rattle.fkv_partition.specs.Events.{Goes, Installs, Loads}

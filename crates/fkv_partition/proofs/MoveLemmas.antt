@@ -6,9 +6,9 @@ use Rattle.fkv_records.specs.Places.{IsRecordStart}
 use Rattle.fkv_texts.proofs.PlaceLemmas.{after}
 use Rattle.fkv_lookups.specs.Traced.{IsTraced}
 use Rattle.fkv_lookups.specs.RecordsViews.{RecordsView}
-use Rattle.fkv_core.specs.Views.{slots_of}
-use Rattle.fkv_core.proofs.AskedLemmas.{open_at, IsOpenAt, context-other}
-use Rattle.fkv_core.specs.Contexts.{joined, is_session, context_in}
+use Rattle.fkv_partition.specs.CoreViews.{slots_of}
+use Rattle.fkv_partition.proofs.AskedLemmas.{open_at, IsOpenAt, context-other}
+use Rattle.fkv_partition.specs.CoreContexts.{joined, is_session, context_in}
 use Rattle.fkv_partition.specs.declared.relocations.Relocation.{Relocation}
 use Rattle.fkv_partition.specs.Views.{PartitionView, relocation_at, with_relocation, done_at, place_behind, cleared_past}
 use Rattle.fkv_partition.specs.Stages.{RelocationStands}

@@ -10,15 +10,15 @@ use Rattle.fkv_operations.specs.declared.operations.KeyedOp.{KeyedOp}
 use Rattle.fkv_operations.specs.declared.operations.KeyedOp.TheVariants as on_key
 use Rattle.fkv_operations.specs.declared.operations.Op.{Op}
 use Rattle.fkv_operations.specs.declared.operations.Op.TheVariants.{Read, Upsert, Rmw, Delete, Merge, Relocate}
-use Rattle.fkv_core.specs.declared.contexts.Progress.{Progress}
-use Rattle.fkv_core.specs.Beginning as beginning
-use Rattle.fkv_core.specs.Effect as key_effect
-use Rattle.fkv_core.specs.Loading as key_loading
-use Rattle.fkv_core.specs.Loading.{ReadsBy}
-use Rattle.fkv_core.specs.Pending as key_pending
-use Rattle.fkv_core.specs.Pending.{pending, OthersPend, AllPend}
-use Rattle.fkv_core.specs.Views.{CoreView, slots_of}
-use Rattle.fkv_core.proofs.AskedLemmas.{context-inside}
+use Rattle.fkv_partition.specs.declared.contexts.Progress.{Progress}
+use Rattle.fkv_partition.specs.CoreBeginning as beginning
+use Rattle.fkv_partition.specs.CoreEffect as key_effect
+use Rattle.fkv_partition.specs.CoreLoading as key_loading
+use Rattle.fkv_partition.specs.CoreLoading.{ReadsBy}
+use Rattle.fkv_partition.specs.Pending as key_pending
+use Rattle.fkv_partition.specs.Pending.{pending, OthersPend, AllPend}
+use Rattle.fkv_partition.specs.CoreViews.{CoreView, slots_of}
+use Rattle.fkv_partition.proofs.AskedLemmas.{context-inside}
 use Rattle.fkv_partition.specs.declared.relocations.Relocation.{Relocation}
 use Rattle.fkv_partition.specs.declared.relocations.Stage.TheVariants.{Fresh}
 use Rattle.fkv_partition.specs.Beginning.{IssuesOnKey, Relocates, Drops}

@@ -6,12 +6,12 @@ use Rattle.fkv_device.specs.Standing.{Standing, Joined}
 use Rattle.fkv_texts.specs.declared.entries.Entry.{Entry}
 use Rattle.fkv_operations.specs.declared.operations.Answer.TheVariants.{Cleared}
 use Rattle.fkv_operations.specs.declared.entries.IndexEntry.{IndexEntry}
-use Rattle.fkv_core.specs.declared.contexts.Progress.{Progress}
-use Rattle.fkv_core.specs.declared.contexts.Progress.TheVariants.{Done, Next, NeedsLoad, Waits}
-use Rattle.fkv_core.specs.declared.contexts.Wait.TheVariants.{Full}
-use Rattle.fkv_core.specs.Contexts.{context_in}
-use Rattle.fkv_core.specs.Pending.{AllPend}
-use Rattle.fkv_core.specs.Views.{slots_of}
+use Rattle.fkv_partition.specs.declared.contexts.Progress.{Progress}
+use Rattle.fkv_partition.specs.declared.contexts.Progress.TheVariants.{Done, Next, NeedsLoad, Waits}
+use Rattle.fkv_partition.specs.declared.contexts.Wait.TheVariants.{Full}
+use Rattle.fkv_partition.specs.CoreContexts.{context_in}
+use Rattle.fkv_partition.specs.Pending.{AllPend}
+use Rattle.fkv_partition.specs.CoreViews.{slots_of}
 use Rattle.fkv_partition.specs.declared.relocations.Relocation.{Relocation}
 use Rattle.fkv_partition.specs.declared.relocations.Stage.TheVariants.{Fresh}
 use Rattle.fkv_partition.specs.Effect.{IsGiveUp}

@@ -20,9 +20,9 @@ use Rattle.fkv_pages.proofs.PageLemmas.{begin_place, begins_low}
 use Rattle.fkv_lookups.specs.RecordsViews.{RecordsView}
 use Rattle.fkv_lookups.specs.Traced.{IsTraced}
 use Rattle.fkv_lookups.proofs.TracedLemmas.{raw, traced-raw}
-use Rattle.fkv_core.specs.Sound.{IsSound}
-use Rattle.fkv_core.specs.declared.contexts.Loading.{Loading}
-use Rattle.fkv_core.proofs.DecidedLemmas.{page_flushed}
+use Rattle.fkv_partition.specs.CoreSound.{IsSound}
+use Rattle.fkv_partition.specs.declared.contexts.Loading.{Loading}
+use Rattle.fkv_partition.proofs.DecidedLemmas.{page_flushed}
 use Rattle.fkv_partition.specs.declared.relocations.Relocation.{Relocation}
 use Rattle.fkv_partition.specs.declared.relocations.Stage.{Stage}
 use Rattle.fkv_partition.specs.declared.relocations.Stage.TheVariants.{Reading, Tracing}

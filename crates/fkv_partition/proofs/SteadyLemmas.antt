@@ -9,15 +9,15 @@ use Rattle.fkv_regions.specs.RegionsView.{RegionsView}
 use Rattle.fkv_texts.specs.declared.entries.Entry.{Entry}
 use Rattle.fkv_operations.specs.declared.operations.KeyedOp.{KeyedOp}
 use Rattle.fkv_lookups.specs.RecordsViews.{RecordsView}
-use Rattle.fkv_core.specs.declared.contexts.Progress.{Progress}
-use Rattle.fkv_core.specs.Beginning.{Enters, Issues}
-use Rattle.fkv_core.specs.Ending.{Leaves, GivesUp}
-use Rattle.fkv_core.specs.Going.{Goes}
-use Rattle.fkv_core.specs.Installing.{Installs}
-use Rattle.fkv_core.specs.Looking.{Refreshes, Shifts, Evicts}
-use Rattle.fkv_core.specs.Flushing.{Flushes}
-use Rattle.fkv_core.specs.Loading.{Loads}
-use Rattle.fkv_core.specs.Views.{CoreView, MovesTo}
+use Rattle.fkv_partition.specs.declared.contexts.Progress.{Progress}
+use Rattle.fkv_partition.specs.CoreBeginning.{Enters, Issues}
+use Rattle.fkv_partition.specs.CoreEnding.{Leaves, GivesUp}
+use Rattle.fkv_partition.specs.CoreGoing.{Goes}
+use Rattle.fkv_partition.specs.CoreInstalling.{Installs}
+use Rattle.fkv_partition.specs.CoreLooking.{Refreshes, Shifts, Evicts}
+use Rattle.fkv_partition.specs.CoreFlushing.{Flushes}
+use Rattle.fkv_partition.specs.CoreLoading.{Loads}
+use Rattle.fkv_partition.specs.CoreViews.{CoreView, MovesTo}
 
 -- the partition is that of the same keys, and its records begin where they began
 pub record IsSteady {K V I : Type 0} (old new : CoreView K V I) : Type 0 where

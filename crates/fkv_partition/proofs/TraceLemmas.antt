@@ -23,12 +23,12 @@ use Rattle.fkv_lookups.specs.Lookups.{IsOfClass, GoesOn, IsGathered, end_of, at_
 use Rattle.fkv_lookups.specs.RecordsViews.{RecordsView, class_in}
 use Rattle.fkv_lookups.proofs.TracedLemmas.{raw, traced-raw, traced-held, entry-stands}
 use Rattle.fkv_lookups.proofs.LookupLemmas.{raw-traced, values_tell, between_tells}
-use Rattle.fkv_core.specs.declared.contexts.Loading.{Loading}
-use Rattle.fkv_core.specs.Sound.{IsLoading, IsSound}
-use Rattle.fkv_core.specs.Views.{partition_of}
-use Rattle.fkv_core.proofs.DecidedLemmas.{page_flushed, lower_page}
-use Rattle.fkv_core.proofs.LoadLemmas.{left_of, gathered-low}
-use Rattle.fkv_core.proofs.StoodLemmas.{rises}
+use Rattle.fkv_partition.specs.declared.contexts.Loading.{Loading}
+use Rattle.fkv_partition.specs.CoreSound.{IsLoading, IsSound}
+use Rattle.fkv_partition.specs.CoreViews.{partition_of}
+use Rattle.fkv_partition.proofs.DecidedLemmas.{page_flushed, lower_page}
+use Rattle.fkv_partition.proofs.LoadLemmas.{left_of, gathered-low}
+use Rattle.fkv_partition.proofs.StoodLemmas.{rises}
 use Rattle.fkv_partition.specs.declared.relocations.Relocation.{Relocation}
 use Rattle.fkv_partition.specs.declared.relocations.Liveness.TheVariants.{Superseded, Last, Further}
 use Rattle.fkv_partition.specs.declared.relocations.Stage.{Stage}

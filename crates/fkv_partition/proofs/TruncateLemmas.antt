@@ -8,9 +8,9 @@ use Rattle.fkv_records.specs.Places.{page_at, start_at}
 use Rattle.fkv_records.proofs.PlaceLemmas.{next_start}
 use Rattle.fkv_texts.specs.declared.entries.Entry.{Entry}
 use Rattle.fkv_texts.specs.Deltas.{IsCleared}
-use Rattle.fkv_core.specs.Views.{CoreView, slots_of}
-use Rattle.fkv_core.specs.Truncating as partition
-use Rattle.fkv_core.proofs.AskedLemmas.{context-other}
+use Rattle.fkv_partition.specs.CoreViews.{CoreView, slots_of}
+use Rattle.fkv_partition.specs.CoreTruncating as partition
+use Rattle.fkv_partition.proofs.AskedLemmas.{context-other}
 use Rattle.fkv_partition.specs.declared.relocations.Relocation.{Relocation}
 use Rattle.fkv_partition.specs.Views.{PartitionView, with_core, with_relocation}
 use Rattle.fkv_partition.specs.Relocating.{IsRelocating}

@@ -14,7 +14,7 @@ use Rattle.fkv_operations.specs.Operations.{keyed, after_keyed, answer_keyed, ma
 use Rattle.fkv_operations.specs.declared.operations.Op.{Op}
 use Rattle.fkv_operations.specs.declared.operations.KeyedOp.{KeyedOp}
 use Rattle.fkv_operations.specs.declared.operations.KeyedOp.TheVariants.{Read, Upsert, Rmw, Delete, Merge}
-use Rattle.fkv_core.specs.Views.{live_of, partition_of, IsBare}
+use Rattle.fkv_partition.specs.CoreViews.{live_of, partition_of, IsBare}
 use Rattle.fkv_partition.specs.Unions.{live_at, union_of}
 use Rattle.fkv_partition.specs.Views.{PartitionView}
 

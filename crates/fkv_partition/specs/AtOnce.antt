@@ -6,9 +6,9 @@ use Rattle.fkv_device.specs.Standing.{Standing}
 use Rattle.fkv_operations.specs.declared.operations.Op.TheVariants.{Rmw}
 use Rattle.fkv_operations.specs.declared.operations.Answer.{Answer}
 use Rattle.fkv_operations.specs.declared.operations.Answer.TheVariants.{Value}
-use Rattle.fkv_core.specs.declared.contexts.Progress.TheVariants.{Done}
-use Rattle.fkv_core.specs.AtOnce as on_key
-use Rattle.fkv_core.specs.Beginning.{IsEntered}
+use Rattle.fkv_partition.specs.declared.contexts.Progress.TheVariants.{Done}
+use Rattle.fkv_partition.specs.CoreAtOnce as on_key
+use Rattle.fkv_partition.specs.CoreBeginning.{IsEntered}
 use Rattle.fkv_partition.specs.Views.{PartitionView}
 use Rattle.fkv_partition.specs.Beginning.{IsFirstFree}
 use Rattle.fkv_partition.specs.Events.{Issues, Goes}

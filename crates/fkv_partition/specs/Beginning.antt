@@ -6,11 +6,11 @@ use Rattle.fkv_functions.specs.declared.refusals.Refused.TheVariants.{Unknown, B
 use Rattle.fkv_functions.specs.declared.refusals.What.TheVariants.{Partition}
 use Rattle.fkv_operations.specs.After.{key_of, is_merge}
 use Rattle.fkv_operations.specs.declared.operations.KeyedOp.{KeyedOp}
-use Rattle.fkv_core.specs.declared.contexts.Phase.TheVariants as phase
-use Rattle.fkv_core.specs.Contexts.{is_session, joined}
-use Rattle.fkv_core.specs.Beginning.{IsEntered}
-use Rattle.fkv_core.specs.Ending.{Leaves}
-use Rattle.fkv_core.specs.Views.{slots_of, partition_of, seen_at, with_context}
+use Rattle.fkv_partition.specs.declared.contexts.Phase.TheVariants as phase
+use Rattle.fkv_partition.specs.CoreContexts.{is_session, joined}
+use Rattle.fkv_partition.specs.CoreBeginning.{IsEntered}
+use Rattle.fkv_partition.specs.CoreEnding.{Leaves}
+use Rattle.fkv_partition.specs.CoreViews.{slots_of, partition_of, seen_at, with_context}
 use Rattle.fkv_partition.specs.declared.relocations.Relocation.{Relocation}
 use Rattle.fkv_partition.specs.declared.relocations.Stage.TheVariants.{Fresh}
 use Rattle.fkv_partition.specs.Views.{PartitionView, relocation_at, with_relocation, with_core}

@@ -15,15 +15,15 @@ use Rattle.fkv_lookups.specs.Decisions.{low_of}
 use Rattle.fkv_index.specs.Places.{word_at}
 use Rattle.fkv_operations.specs.declared.entries.IndexEntry.{IndexEntry}
 use Rattle.fkv_lookups.specs.RecordsViews.{IsFull}
-use Rattle.fkv_core.specs.Views.{CoreView, partition_of, found_for, entry_for, seen_at, reached_from}
+use Rattle.fkv_partition.specs.CoreViews.{CoreView, partition_of, found_for, entry_for, seen_at, reached_from}
 use Rattle.fkv_partition.specs.declared.relocations.Relocation.{Relocation}
 use Rattle.fkv_partition.specs.declared.relocations.Liveness.{Liveness}
 use Rattle.fkv_partition.specs.declared.relocations.Liveness.TheVariants.{Superseded, Last, Further}
 use Rattle.fkv_partition.specs.declared.relocations.Stage.TheVariants.{Fresh, Tracing, Ready}
-use Rattle.fkv_core.specs.declared.contexts.Progress.{Progress}
-use Rattle.fkv_core.specs.declared.contexts.Progress.TheVariants.{Done, Next, NeedsLoad, Waits}
+use Rattle.fkv_partition.specs.declared.contexts.Progress.{Progress}
+use Rattle.fkv_partition.specs.declared.contexts.Progress.TheVariants.{Done, Next, NeedsLoad, Waits}
 use Rattle.fkv_operations.specs.declared.operations.Answer.TheVariants.{Cleared}
-use Rattle.fkv_core.specs.declared.contexts.Wait.TheVariants.{Full}
+use Rattle.fkv_partition.specs.declared.contexts.Wait.TheVariants.{Full}
 use Rattle.fkv_partition.specs.Views.{PartitionView, with_relocation, at_stage, done_at, again_at}
 
 -- the higher of two addresses

@@ -9,11 +9,11 @@ use Rattle.fkv_operations.specs.Operations.{keyed, op_of, map_after, answer_to}
 use Rattle.fkv_operations.specs.declared.operations.KeyedOp.{KeyedOp}
 use Rattle.fkv_operations.specs.declared.operations.Op.{Op}
 use Rattle.fkv_operations.specs.declared.operations.Op.TheVariants.{Read, Rmw, Relocate}
-use Rattle.fkv_core.specs.declared.contexts.Progress.{Progress}
-use Rattle.fkv_core.specs.declared.contexts.Progress.TheVariants.{Done, Next, NeedsBuild, NeedsLoad, Waits}
-use Rattle.fkv_core.specs.Effect as key_effect
-use Rattle.fkv_core.specs.Pending.{Pending, pending}
-use Rattle.fkv_core.specs.Views.{live_of, partition_of}
+use Rattle.fkv_partition.specs.declared.contexts.Progress.{Progress}
+use Rattle.fkv_partition.specs.declared.contexts.Progress.TheVariants.{Done, Next, NeedsBuild, NeedsLoad, Waits}
+use Rattle.fkv_partition.specs.CoreEffect as key_effect
+use Rattle.fkv_partition.specs.Pending.{Pending, pending}
+use Rattle.fkv_partition.specs.CoreViews.{live_of, partition_of}
 use Rattle.fkv_partition.specs.declared.relocations.Relocation.{Relocation}
 use Rattle.fkv_partition.specs.Views.{PartitionView, relocation_at}
 

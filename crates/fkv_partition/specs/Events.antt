@@ -12,14 +12,14 @@ use Rattle.fkv_operations.specs.Operations.{keyed}
 use Rattle.fkv_operations.specs.declared.operations.KeyedOp.{KeyedOp}
 use Rattle.fkv_operations.specs.declared.operations.Op.{Op}
 use Rattle.fkv_operations.specs.declared.operations.Op.TheVariants.{Relocate}
-use Rattle.fkv_core.specs.declared.contexts.Progress.{Progress}
-use Rattle.fkv_core.specs.Beginning as beginning
-use Rattle.fkv_core.specs.Ending as ending
-use Rattle.fkv_core.specs.Flushing as flushing
-use Rattle.fkv_core.specs.Going as going
-use Rattle.fkv_core.specs.Installing as installing
-use Rattle.fkv_core.specs.Loading as loading
-use Rattle.fkv_core.specs.Looking as looking
+use Rattle.fkv_partition.specs.declared.contexts.Progress.{Progress}
+use Rattle.fkv_partition.specs.CoreBeginning as beginning
+use Rattle.fkv_partition.specs.CoreEnding as ending
+use Rattle.fkv_partition.specs.CoreFlushing as flushing
+use Rattle.fkv_partition.specs.CoreGoing as going
+use Rattle.fkv_partition.specs.CoreInstalling as installing
+use Rattle.fkv_partition.specs.CoreLoading as loading
+use Rattle.fkv_partition.specs.CoreLooking as looking
 use Rattle.fkv_partition.specs.declared.relocations.Relocation.{Relocation}
 use Rattle.fkv_partition.specs.Beginning.{IssuesOnKey, Relocates, Drops}
 use Rattle.fkv_partition.specs.Going.{GoesOn}

@@ -1,6 +1,6 @@
 -- The fields behind a `PartitionView`.
 use Rattle.std.specs.Prelude.{ℕ, List, Option}
-use Rattle.fkv_core.specs.Views.{CoreView}
+use Rattle.fkv_partition.specs.CoreViews.{CoreView}
 use Rattle.fkv_partition.specs.declared.relocations.Relocation.{Relocation}
 use Rattle.fkv_partition.specs.Views.{PartitionView}
 

@@ -1,3 +1,24 @@
+pub mod Limits
+pub mod CoreContexts
+pub mod CoreViews
+pub mod CoreInside
+pub mod Writes
+pub mod CoreEffect
+pub mod CoreGoing
+pub mod Asking
+pub mod CoreInstalling
+pub mod CoreClaiming
+pub mod CoreSound
+pub mod CoreBeginning
+pub mod CoreEnding
+pub mod Pending
+pub mod Frozen
+pub mod CoreLooking
+pub mod CoreLoading
+pub mod CoreFlushing
+pub mod CoreTruncating
+pub mod Grown
+pub mod CoreAtOnce
 pub mod Views
 pub mod Inside
 pub mod Unions
@@ -12,24 +33,9 @@ pub mod Truncating
 pub mod Events
 pub mod Effect
 pub mod AtOnce
-pub use Rattle.fkv_core.specs.declared.contexts.Context
-pub use Rattle.fkv_core.specs.declared.contexts.Loading
-pub use Rattle.fkv_core.specs.declared.contexts.Phase
-pub use Rattle.fkv_core.specs.declared.contexts.Progress
-pub use Rattle.fkv_core.specs.declared.contexts.Wait
-pub use Rattle.fkv_core.specs.declared.limits.Config
-pub use Rattle.fkv_core.specs.Limits
-pub use Rattle.fkv_core.specs.Pending
-pub use Rattle.fkv_core.specs.Views as CoreViews
-pub use Rattle.fkv_core.specs.Contexts as CoreContexts
-pub use Rattle.fkv_core.specs.Beginning as CoreBeginning
-pub use Rattle.fkv_core.specs.Ending as CoreEnding
-pub use Rattle.fkv_core.specs.Flushing as CoreFlushing
-pub use Rattle.fkv_core.specs.Going as CoreGoing
-pub use Rattle.fkv_core.specs.Installing as CoreInstalling
-pub use Rattle.fkv_core.specs.Loading as CoreLoading
-pub use Rattle.fkv_core.specs.Looking as CoreLooking
-pub use Rattle.fkv_core.specs.Effect as CoreEffect
-pub use Rattle.fkv_core.specs.Sound as CoreSound
-pub use Rattle.fkv_core.specs.Claiming as CoreClaiming
-pub use Rattle.fkv_core.specs.AtOnce as CoreAtOnce
+pub use Rattle.fkv_partition.specs.declared.contexts.Context
+pub use Rattle.fkv_partition.specs.declared.contexts.Loading
+pub use Rattle.fkv_partition.specs.declared.contexts.Phase
+pub use Rattle.fkv_partition.specs.declared.contexts.Progress
+pub use Rattle.fkv_partition.specs.declared.contexts.Wait
+pub use Rattle.fkv_partition.specs.declared.limits.Config

@@ -3,9 +3,9 @@
 use Rattle.std.specs.Prelude.{◌≡◌, ◌≢◌, ◌≤◌, ◌⊎◌, ℕ, Bool, IsTrue}
 use Rattle.std.specs.declared.cmp.Ordering.{Ordering}
 use Rattle.fkv_functions.specs.Plain.{Same}
-use Rattle.fkv_core.specs.Views.{live_of}
-use Rattle.fkv_core.specs.Effect.{asked}
-use Rattle.fkv_core.specs.Pending.{AllPend}
+use Rattle.fkv_partition.specs.CoreViews.{live_of}
+use Rattle.fkv_partition.specs.CoreEffect.{asked}
+use Rattle.fkv_partition.specs.Pending.{AllPend}
 use Rattle.fkv_partition.specs.Views.{PartitionView, relocation_at}
 
 pub record IsRelocating {K V I : Type 0} (keeps : Bool) (cmp : K → K → Ordering) (old new : PartitionView K V I)

@@ -4,8 +4,8 @@ use Rattle.std.specs.Prelude.{◌≡◌, ◌+◌, ◌*◌, ◌^◌, ◌<◌, ◌
 use Rattle.std.specs.declared.cmp.Ordering.{Ordering}
 use Rattle.fkv_records.specs.Places.{IsRecordStart}
 use Rattle.fkv_texts.specs.Deltas.{IsCleared}
-use Rattle.fkv_core.specs.Contexts.{joined, is_session}
-use Rattle.fkv_core.specs.Views.{slots_of}
+use Rattle.fkv_partition.specs.CoreContexts.{joined, is_session}
+use Rattle.fkv_partition.specs.CoreViews.{slots_of}
 use Rattle.fkv_partition.specs.declared.relocations.Relocation.{Relocation}
 use Rattle.fkv_partition.specs.Views.{PartitionView}
 use Rattle.fkv_partition.specs.Stages.{RelocationStands}

@@ -8,9 +8,9 @@ use Rattle.fkv_texts.specs.Text.{entry_at, has_key}
 use Rattle.fkv_texts.specs.Chains.{IsIn}
 use Rattle.fkv_lookups.specs.RecordsViews.{RecordsView}
 use Rattle.fkv_operations.specs.declared.entries.IndexEntry.{IndexEntry}
-use Rattle.fkv_core.specs.declared.contexts.Loading.{Loading}
-use Rattle.fkv_core.specs.Sound.{IsKept, IsLoading}
-use Rattle.fkv_core.specs.Views.{CoreView, partition_of}
+use Rattle.fkv_partition.specs.declared.contexts.Loading.{Loading}
+use Rattle.fkv_partition.specs.CoreSound.{IsKept, IsLoading}
+use Rattle.fkv_partition.specs.CoreViews.{CoreView, partition_of}
 use Rattle.fkv_partition.specs.declared.relocations.Relocation.{Relocation}
 use Rattle.fkv_partition.specs.declared.relocations.Stage.{Stage}
 use Rattle.fkv_partition.specs.declared.relocations.Stage.TheVariants.{Fresh, Reading, Tracing, Ready}

@@ -2,7 +2,7 @@
 use Rattle.std.specs.Prelude.{ℕ, List, Option, Some, None, slice_get, length}
 use Rattle.std.specs.declared.cmp.Ordering.{Ordering}
 use Rattle.fkv_functions.specs.Plain.{PlainMap}
-use Rattle.fkv_core.specs.Views.{live_of, partition_of}
+use Rattle.fkv_partition.specs.CoreViews.{live_of, partition_of}
 use Rattle.fkv_partition.specs.Views.{PartitionView}
 
 -- the live map of the partition at a place; empty where there is none

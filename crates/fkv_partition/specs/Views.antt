@@ -3,9 +3,9 @@ use Rattle.std.specs.Prelude.{◌+◌, ◌*◌, ℕ, Bool, cond, nat_le, List, O
 use Rattle.fkv_texts.specs.declared.entries.Entry.{Entry}
 use Rattle.fkv_texts.specs.Places.{tail_after}
 use Rattle.fkv_operations.specs.declared.entries.IndexEntry.{IndexEntry}
-use Rattle.fkv_core.specs.declared.limits.Config.{Config}
-use Rattle.fkv_core.specs.Contexts.{context_in}
-use Rattle.fkv_core.specs.Views.{CoreView, empty_core, slots_of, with_appended}
+use Rattle.fkv_partition.specs.declared.limits.Config.{Config}
+use Rattle.fkv_partition.specs.CoreContexts.{context_in}
+use Rattle.fkv_partition.specs.CoreViews.{CoreView, empty_core, slots_of, with_appended}
 use Rattle.fkv_partition.specs.declared.relocations.Relocation.{Relocation}
 use Rattle.fkv_partition.specs.declared.relocations.Stage.{Stage}
 

@@ -3,14 +3,14 @@ ghost use Rattle.std.specs.Prelude.{◌≡◌, ◌≢◌, ◌<◌, ◌≤◌, Is
 ghost use Rattle.fkv_texts.specs.Text.{entry_at};
 ghost use Rattle.fkv_index.specs.Words.{address_of};
 ghost use Rattle.fkv_lookups.specs.RecordsViews.{class_in, IsEntryOf};
-ghost use Rattle.fkv_core.specs.Views.{partition_of, found_for, entry_for};
+ghost use Rattle.fkv_partition.specs.CoreViews.{partition_of, found_for, entry_for};
 ghost use Rattle.fkv_partition.specs.Views.{relocation_at};
 ghost use Rattle.fkv_partition.specs.Relocating.{IsRelocating};
 ghost use Rattle.fkv_partition.specs.Checking.{ChecksLiveness};
 
+use crate::contexts::{Loading, Progress, ProgressOf};
 use crate::partitions::Partition;
 use crate::relocations::{EntryOf, Liveness, RelocationOf, Stage, higher_of, liveness_of, renewed};
-use fkv_core::{Loading, Progress, ProgressOf};
 use fkv_device::Receipt;
 use fkv_functions::{Mergeable, Refused};
 use fkv_operations::{Answer, IndexEntry};

@@ -2,18 +2,18 @@
 ghost use Rattle.std.specs.Prelude.{◌≡◌, ◌≢◌, ◌<◌, ◌≤◌, ℕ, None, IsTrue, IfOk, OnOk, OnErr};
 ghost use Rattle.fkv_pages.specs.Spelled.{IsEntryIn};
 ghost use Rattle.fkv_hybrid.specs.Scans.{MayFail};
-ghost use Rattle.fkv_core.specs.Going.{Goes};
-ghost use Rattle.fkv_core.specs.Installing.{Installs};
-ghost use Rattle.fkv_core.specs.Loading.{Loads, LoadsBy, WaitsFor};
-ghost use Rattle.fkv_core.specs.Ending.{GivesUp};
-ghost use Rattle.fkv_core.specs.Effect.{IsEvent, IsGiveUp, IsIssue};
-ghost use Rattle.fkv_core.specs.Pending.{IsLoad};
+ghost use Rattle.fkv_partition.specs.CoreGoing.{Goes};
+ghost use Rattle.fkv_partition.specs.CoreInstalling.{Installs};
+ghost use Rattle.fkv_partition.specs.CoreLoading.{Loads, LoadsBy, WaitsFor};
+ghost use Rattle.fkv_partition.specs.CoreEnding.{GivesUp};
+ghost use Rattle.fkv_partition.specs.CoreEffect.{IsEvent, IsGiveUp, IsIssue};
+ghost use Rattle.fkv_partition.specs.Pending.{IsLoad};
 ghost use Rattle.fkv_partition.specs.Views.{relocation_at, with_core};
 ghost use Rattle.fkv_partition.specs.Beginning.{IssuesOnKey};
 
+use crate::contexts::ProgressOf;
 use crate::partitions::Partition;
-use fkv_core::ProgressOf;
-use fkv_core::preserving::{
+use crate::preserving::{
     events_preserve, loads_preserve, loads_preserve_sessions, sessions_preserved,
 };
 use fkv_device::{Loaded, PageReader, Receipt};
@@ -67,7 +67,7 @@ impl<F: Mergeable, R: Receipt> Partition<F, R> {
         Ok(context)
     }
 
-    /// Goes on with an operation on a key, as [`fkv_core::Core::go`] does, whose refusals it has.
+    /// Goes on with an operation on a key, as [`Core::go`] does, whose refusals it has.
     pub(crate) fn go_on_key(
         &mut self,
         slot: usize,
@@ -93,7 +93,7 @@ impl<F: Mergeable, R: Receipt> Partition<F, R> {
         gone
     }
 
-    /// Installs the value that was built for an update, as [`fkv_core::Core::install`] does, whose refusals it
+    /// Installs the value that was built for an update, as [`Core::install`] does, whose refusals it
     /// has.
     pub(crate) fn install_on_key(
         &mut self,
@@ -121,7 +121,7 @@ impl<F: Mergeable, R: Receipt> Partition<F, R> {
         installed
     }
 
-    /// Goes on with an operation on a key that waits for a page, as [`fkv_core::Core::load`] does, whose refusals it has.
+    /// Goes on with an operation on a key that waits for a page, as [`Core::load`] does, whose refusals it has.
     pub(crate) fn load_on_key(
         &mut self,
         slot: usize,
@@ -147,7 +147,7 @@ impl<F: Mergeable, R: Receipt> Partition<F, R> {
         loaded
     }
 
-    /// Goes on with an operation on a key with the page that it waits for, as [`fkv_core::Core::load_by`] does, whose
+    /// Goes on with an operation on a key with the page that it waits for, as [`Core::load_by`] does, whose
     /// refusals it has.
     pub(crate) fn load_by_on_key<P: PageReader<Receipt = R>>(
         &mut self,
@@ -177,7 +177,7 @@ impl<F: Mergeable, R: Receipt> Partition<F, R> {
         loaded
     }
 
-    /// Gives up an operation on a key, as [`fkv_core::Core::give_up`] does, whose refusals it has.
+    /// Gives up an operation on a key, as [`Core::give_up`] does, whose refusals it has.
     pub(crate) fn give_up_on_key(
         &mut self,
         slot: usize,

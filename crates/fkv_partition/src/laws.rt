@@ -7,17 +7,17 @@ ghost use Rattle.fkv_functions.specs.declared.refusals.Refused.{Refused};
 ghost use Rattle.fkv_device.specs.Standing.{Standing, Joined};
 ghost use Rattle.fkv_pages.specs.Spelled.{IsEntryIn};
 ghost use Rattle.fkv_operations.specs.declared.operations.Op.TheVariants.{Merge, Relocate};
-ghost use Rattle.fkv_core.specs.Asking.{AsksNothing};
-ghost use Rattle.fkv_core.specs.Sound.{IsSound};
-ghost use Rattle.fkv_core.specs.declared.contexts.Progress.{Progress};
-ghost use Rattle.fkv_core.specs.Pending.{pending};
+ghost use Rattle.fkv_partition.specs.Asking.{AsksNothing};
+ghost use Rattle.fkv_partition.specs.CoreSound.{IsSound};
+ghost use Rattle.fkv_partition.specs.declared.contexts.Progress.{Progress};
+ghost use Rattle.fkv_partition.specs.Pending.{pending};
 ghost use Rattle.fkv_partition.specs.declared.relocations.Relocation.{Relocation};
 ghost use Rattle.fkv_partition.specs.Effect.{Asked, asked};
 ghost use Rattle.fkv_partition.specs.Events.{Goes, Installs, Loads};
 ghost use Rattle.fkv_partition.specs.Sound.{IsCompacting};
 ghost use Rattle.fkv_partition.specs.Views.{PartitionView, relocation_at};
 
-use fkv_core::laws::{merges_ask_nothing, merges_take_no_page};
+use crate::core_laws::{merges_ask_nothing, merges_take_no_page};
 use fkv_device::Receipt;
 use fkv_functions::Mergeable;
 

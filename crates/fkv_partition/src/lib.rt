@@ -13,20 +13,40 @@
 //! or since it is a tombstone, and a truncation up to there leaves the live map.
 #![tactic(auto)]
 
+mod asking;
+mod changes;
 mod checking;
+mod clearing;
+pub mod contexts;
+mod core_laws;
+mod core_reading;
+mod core_updating;
+mod cores;
+mod ending;
+mod flushing;
+mod going;
+mod installing;
 mod keyed;
 pub mod laws;
+pub mod limits;
+mod listing;
+mod loading;
+mod looking;
 pub mod operations;
 pub mod pages;
 pub mod partitions;
 mod places;
+mod preserving;
 mod reading;
+mod regions;
 mod relocating;
 pub mod relocations;
 pub mod sessions;
 pub mod updating;
 
-pub use fkv_core::laws::pendings_stay;
-pub use fkv_core::{Config, Progress, ProgressOf, Wait, kept_page, pairs_of, read_only_page};
+pub use contexts::{Progress, ProgressOf, Wait};
+pub use core_laws::pendings_stay;
+pub use limits::{Config, kept_page, read_only_page};
+pub use listing::pairs_of;
 pub use partitions::Partition;
 pub use relocations::{Liveness, Relocation, Stage};

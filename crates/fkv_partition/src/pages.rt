@@ -9,16 +9,16 @@ ghost use Rattle.fkv_pages.specs.Spelled.{IsPageOf};
 ghost use Rattle.fkv_functions.specs.Plain.{Same};
 ghost use Rattle.fkv_hybrid.specs.Scans.{IsScanRefusal, MayFail};
 ghost use Rattle.fkv_lookups.specs.Overlays.{with_text, HasFront};
-ghost use Rattle.fkv_core.specs.Pending.{AllPend};
-ghost use Rattle.fkv_core.specs.Views.{live_of, partition_of, IsBare};
+ghost use Rattle.fkv_partition.specs.Pending.{AllPend};
+ghost use Rattle.fkv_partition.specs.CoreViews.{live_of, partition_of, IsBare};
 ghost use Rattle.fkv_partition.specs.Views.{at_moment};
 ghost use Rattle.fkv_partition.specs.Effect.{IsQuiet, IsTruncation};
 ghost use Rattle.fkv_partition.specs.Events.{Shifts, Evicts, Flushes};
 ghost use Rattle.fkv_partition.specs.Truncating.{Truncates, told_of};
 
+use crate::core_laws::pendings_stay;
 use crate::partitions::Partition;
-use fkv_core::laws::pendings_stay;
-use fkv_core::preserving::{events_preserve, sessions_preserved};
+use crate::preserving::{events_preserve, sessions_preserved};
 use fkv_device::{FlushJob, PageReader, Receipt, Written};
 use fkv_functions::{Mergeable, Refused};
 use fkv_lookups::clearing::cleared_stay;
@@ -27,7 +27,7 @@ use std::alloc::Global;
 use std::collections::BTreeMap;
 
 impl<F: Mergeable, R: Receipt> Partition<F, R> {
-    /// Moves the read-only offset to the start of a page, as [`fkv_core::Core::shift_read_only`] does, whose
+    /// Moves the read-only offset to the start of a page, as [`Core::shift_read_only`] does, whose
     /// refusals it has.
     pub fn shift_read_only(&mut self, page: u64, now: u64) -> Result<(), Refused>
         requires later { self.old.core.moment < now }
@@ -46,7 +46,7 @@ impl<F: Mergeable, R: Receipt> Partition<F, R> {
         shifted
     }
 
-    /// Moves Head to the start of a page, as [`fkv_core::Core::shift_head`] does, whose refusals it has.
+    /// Moves Head to the start of a page, as [`Core::shift_head`] does, whose refusals it has.
     pub fn shift_head(&mut self, page: u64, now: u64) -> Result<(), Refused>
         requires later { self.old.core.moment < now }
         ensures effect { Evicts R.keeps self.old self.new page now result }
@@ -111,7 +111,7 @@ impl<F: Mergeable, R: Receipt> Partition<F, R> {
         Ok(job)
     }
 
-    /// Takes in that the lowest page that is not flushed was written, as [`fkv_core::Core::flush_done`] does,
+    /// Takes in that the lowest page that is not flushed was written, as [`Core::flush_done`] does,
     /// whose refusals it has.
     pub fn flush_done(&mut self, written: Written<R>, now: u64) -> Result<(), Refused>
         requires later { self.old.core.moment < now }
@@ -174,7 +174,7 @@ impl<F: Mergeable, R: Receipt> Partition<F, R> {
         Ok(self.begin())
     }
 
-    /// The live map, as [`fkv_core::Core::live`] gives it, whose refusals it has.
+    /// The live map, as [`Core::live`] gives it, whose refusals it has.
     pub fn live<P: PageReader<Receipt = R>>(
         &self,
         functions: &F,
@@ -199,7 +199,7 @@ impl<F: Mergeable, R: Receipt> Partition<F, R> {
         self.core.live(functions, alloc, reader)
     }
 
-    /// Puts the live map into a map in which no key of this partition has a value, as [`fkv_core::Core::put_live`] does,
+    /// Puts the live map into a map in which no key of this partition has a value, as [`Core::put_live`] does,
     /// whose refusals it has.
     pub fn put_live<P: PageReader<Receipt = R>>(
         &self,

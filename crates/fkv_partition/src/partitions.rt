@@ -1,21 +1,21 @@
 //! A partition: the core of its operations on keys, its relocations, and how much of its log is cleared.
 ghost use Rattle.std.specs.Prelude.{◌≡◌, ◌≢◌, ◌<◌, ◌≤◌, ◌⊎◌, ◌+◌, ◌*◌, ◌^◌, ◌||◌, Option, Some, None, Err, IsTrue, ◌↔◌, IfOk, IfErr, IfSome, is_some, length, slice_get};
 ghost use Rattle.fkv_records.specs.Records.{size_of};
-ghost use Rattle.fkv_core.specs.Contexts.{joined};
-ghost use Rattle.fkv_core.specs.Limits.{IsPartitionOf};
+ghost use Rattle.fkv_partition.specs.CoreContexts.{joined};
+ghost use Rattle.fkv_partition.specs.Limits.{IsPartitionOf};
 ghost use Rattle.fkv_partition.specs.Effect.{asked};
-ghost use Rattle.fkv_core.specs.Beginning.{IsEntered};
-ghost use Rattle.fkv_core.specs.Views.{IsAtDelta, loading_at};
-ghost use Rattle.fkv_core.specs.Sound.{IsSound};
+ghost use Rattle.fkv_partition.specs.CoreBeginning.{IsEntered};
+ghost use Rattle.fkv_partition.specs.CoreViews.{IsAtDelta, loading_at};
+ghost use Rattle.fkv_partition.specs.CoreSound.{IsSound};
 ghost use Rattle.fkv_partition.specs.Views.{empty_partition, relocation_at};
 ghost use Rattle.fkv_partition.specs.Going.{is_awaiting};
 ghost use Rattle.fkv_partition.specs.Sound.{IsCompacting};
 ghost use Rattle.fkv_partition.specs.Beginning.{IsFirstFree};
 
+use crate::contexts::{CONTEXTS, open_at};
+use crate::cores::{Core, free_places};
+use crate::limits::Config;
 use crate::relocations::{Relocation, RelocationOf, awaited};
-use fkv_core::contexts::{CONTEXTS, open_at};
-use fkv_core::cores::free_places;
-use fkv_core::{Config, Core};
 use fkv_device::Receipt;
 use fkv_functions::{Mergeable, Refused};
 use fkv_operations::{Op, OpOf};

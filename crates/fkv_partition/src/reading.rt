@@ -9,12 +9,12 @@ ghost use Rattle.fkv_partition.specs.Views.{relocation_at};
 ghost use Rattle.fkv_partition.specs.Relocating.{IsRelocating};
 ghost use Rattle.fkv_partition.specs.Reading.{AwaitsPage, HasPage, LoadsOn, WaitsOn, LoadsOnBy};
 
+use crate::contexts::{Loading, Progress, ProgressOf};
+use crate::loading::is_no_memory;
 use crate::partitions::Partition;
 use crate::relocations::{
     EntryOf, Liveness, RelocationOf, Stage, awaited, higher_of, liveness_of, renewed,
 };
-use fkv_core::loading::is_no_memory;
-use fkv_core::{Loading, Progress, ProgressOf};
 use fkv_device::{Loaded, PageReader, Receipt};
 use fkv_functions::{Mergeable, Refused};
 use fkv_operations::Answer;

@@ -8,10 +8,11 @@ ghost use Rattle.fkv_partition.specs.Relocating.{IsRelocating};
 ghost use Rattle.fkv_partition.specs.Checking.{Ends, Asks};
 ghost use Rattle.fkv_partition.specs.Going.{GoesOn};
 
+use crate::changes::Write;
+use crate::contexts::{Progress, ProgressOf, Wait};
 use crate::partitions::Partition;
+use crate::preserving::events_preserve;
 use crate::relocations::{EntryOf, RelocationOf, Stage, StageOf};
-use fkv_core::preserving::events_preserve;
-use fkv_core::{Progress, ProgressOf, Wait, Write};
 use fkv_device::Receipt;
 use fkv_functions::{Mergeable, Refused};
 use fkv_lookups::{Payload, low_of};

@@ -4,7 +4,7 @@ ghost use Rattle.fkv_partition.specs.Views.{at_stage};
 ghost use Rattle.fkv_partition.specs.Checking.{higher_of, liveness, renewed};
 ghost use Rattle.fkv_partition.specs.Going.{awaited_by};
 
-use fkv_core::Loading;
+use crate::contexts::Loading;
 use fkv_functions::{Functions, Mergeable};
 use fkv_lookups::Gathered;
 use fkv_lookups::gathered::onto;

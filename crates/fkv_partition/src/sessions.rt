@@ -1,16 +1,16 @@
 //! Sessions of a partition, and the relocations that they begin and give up.
 ghost use Rattle.std.specs.Prelude.{◌≡◌, ◌<◌, ◌≤◌, None, IsTrue, IfOk, OnOk, OnErr};
-ghost use Rattle.fkv_core.specs.Pending.{AllPend};
+ghost use Rattle.fkv_partition.specs.Pending.{AllPend};
 ghost use Rattle.fkv_partition.specs.Views.{relocation_at};
 ghost use Rattle.fkv_partition.specs.Relocating.{IsRelocating};
 ghost use Rattle.fkv_partition.specs.Effect.{IsQuiet};
 ghost use Rattle.fkv_partition.specs.Events.{Enters, Refreshes};
 ghost use Rattle.fkv_partition.specs.Beginning.{Relocates, LeavesAll, Drops};
 
+use crate::core_laws::pendings_stay;
 use crate::partitions::Partition;
+use crate::preserving::{events_preserve, sessions_preserved};
 use crate::relocations::{Relocation, Stage};
-use fkv_core::laws::pendings_stay;
-use fkv_core::preserving::{events_preserve, sessions_preserved};
 use fkv_device::Receipt;
 use fkv_functions::{Mergeable, Refused};
 

@@ -1,12 +1,12 @@
 //! Operations that are done in one call: updates of values where they stand, and reads of keys in memory. Most operations are such.
 ghost use Rattle.std.specs.Prelude.{◌≡◌, ◌<◌, ◌≤◌, None, IfSome};
-ghost use Rattle.fkv_core.specs.AtOnce.{AsksForPage};
-ghost use Rattle.fkv_core.specs.Beginning.{IsEntered};
-ghost use Rattle.fkv_core.specs.Views.{partition_of};
+ghost use Rattle.fkv_partition.specs.CoreAtOnce.{AsksForPage};
+ghost use Rattle.fkv_partition.specs.CoreBeginning.{IsEntered};
+ghost use Rattle.fkv_partition.specs.CoreViews.{partition_of};
 ghost use Rattle.fkv_partition.specs.AtOnce.{IsAtHand, IsDoneAtOnce, IsReadAtOnce};
 
 use crate::partitions::Partition;
-use fkv_core::preserving::{events_preserve, sessions_preserved};
+use crate::preserving::{events_preserve, sessions_preserved};
 use fkv_device::Receipt;
 use fkv_functions::Mergeable;
 use fkv_operations::AnswerOf;

@@ -9,9 +9,9 @@ use Rattle.fkv_texts.specs.Deltas.{IsSuperseded}
 use Rattle.fkv_lookups.specs.declared.payloads.Payload.TheVariants.{Whole}
 use Rattle.fkv_lookups.specs.RecordsViews.{IsFull}
 use Rattle.fkv_lookups.specs.Traced.{IsTraced, IsStood}
-use Rattle.fkv_core.specs.Contexts.{claim_at}
-use Rattle.fkv_core.specs.Writes.{IsWrite}
-use Rattle.fkv_core.specs.Sound.{IsSound}
+use Rattle.fkv_partition.specs.CoreContexts.{claim_at}
+use Rattle.fkv_partition.specs.Writes.{IsWrite}
+use Rattle.fkv_partition.specs.CoreSound.{IsSound}
 use Rattle.fkv_partition.specs.declared.relocations.Stage.TheVariants.{Fresh, Ready}
 use Rattle.fkv_partition.specs.Inside.{view_of}
 use Rattle.fkv_partition.specs.Views.{relocation_at, at_stage, with_relocation, done_at, again_at}

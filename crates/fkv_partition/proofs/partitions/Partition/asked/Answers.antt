@@ -1,5 +1,5 @@
 use Rattle.std.proofs.Common.{◌≡◌, ◌∙◌, None, refl, sym, subst}
-use Rattle.fkv_core.specs.Effect.{asked as key_asked}
+use Rattle.fkv_partition.specs.CoreEffect.{asked as key_asked}
 use Rattle.fkv_partition.specs.Inside.{view_of}
 use Rattle.fkv_partition.proofs.EffectLemmas.{asked-none, asked-key, asked-relocation, asked-low}
 use Rattle.fkv_partition.proofs.partitions.Partition.asked.Goals as goal

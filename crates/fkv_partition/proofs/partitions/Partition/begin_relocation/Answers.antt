@@ -2,7 +2,7 @@ use Rattle.std.proofs.Common.{◌≡◌, ◌+◌, ◌*◌, Some, subst}
 use Rattle.fkv_partition.specs.Inside.{view_of}
 use Rattle.fkv_partition.specs.Beginning.{IsFree}
 use Rattle.fkv_partition.proofs.KeepLemmas.{keep-changed, rises-not, Fits, seat-of}
-use Rattle.fkv_core.specs.Views.{slots_of}
+use Rattle.fkv_partition.specs.CoreViews.{slots_of}
 use Rattle.fkv_partition.proofs.partitions.Partition.begin_relocation.Goals as goal
 
 pub invariant_of-self : goal.invariant_of-self

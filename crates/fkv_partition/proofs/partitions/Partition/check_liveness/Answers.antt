@@ -4,7 +4,7 @@ use Rattle.fkv_functions.proofs.KeyOrder.{key_order}
 use Rattle.fkv_index.specs.Words.{address_of}
 use Rattle.fkv_operations.specs.declared.entries.IndexEntry.{IndexEntry}
 use Rattle.fkv_lookups.specs.RecordsViews.{class_in, IsEntryOf}
-use Rattle.fkv_core.specs.Views.{partition_of, found_for, entry_for}
+use Rattle.fkv_partition.specs.CoreViews.{partition_of, found_for, entry_for}
 use Rattle.fkv_partition.specs.Checking.{NeedsNoCopy, ChecksLiveness}
 use Rattle.fkv_partition.proofs.ApartLemmas.{none-by, some-by, has-come}
 use Rattle.fkv_partition.proofs.MoveLemmas.{event-done, past-place, open-here, stands-here, low-here}

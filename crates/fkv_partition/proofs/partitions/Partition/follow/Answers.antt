@@ -1,9 +1,9 @@
 use Rattle.std.proofs.Common.{Some, refl, sym, ap, subst, ◌∙◌, arith}
 use Rattle.fkv_functions.proofs.KeyOrder.{key_order}
 use Rattle.fkv_texts.proofs.CoverLemmas.{cleared-lower}
-use Rattle.fkv_core.specs.Beginning.{IsEntered}
-use Rattle.fkv_core.specs.Views.{entry_for}
-use Rattle.fkv_core.proofs.DecidedLemmas.{page_flushed}
+use Rattle.fkv_partition.specs.CoreBeginning.{IsEntered}
+use Rattle.fkv_partition.specs.CoreViews.{entry_for}
+use Rattle.fkv_partition.proofs.DecidedLemmas.{page_flushed}
 use Rattle.fkv_partition.specs.Checking.{ChecksLiveness}
 use Rattle.fkv_functions.proofs.CallLemmas.{with_six}
 use Rattle.fkv_partition.proofs.MoveLemmas.{event-done, past-place, open-here, stands-here, low-here}

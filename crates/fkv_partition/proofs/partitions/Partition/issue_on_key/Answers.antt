@@ -1,9 +1,9 @@
 use Rattle.std.proofs.Common.{◌≡◌, ◌∙◌, ◌+◌, ◌*◌, ◌<◌, arith, None, subst, refl, sym, ap}
 use Rattle.std.proofs.lemmas.Bool.{OnTrue_at, OnFalse_at}
 use Rattle.fkv_operations.specs.After.{key_of}
-use Rattle.fkv_core.specs.Views.{partition_of, slots_of, context_at}
-use Rattle.fkv_core.specs.Beginning.{IsEntered}
-use Rattle.fkv_core.specs.Effect.{IsIssue}
+use Rattle.fkv_partition.specs.CoreViews.{partition_of, slots_of, context_at}
+use Rattle.fkv_partition.specs.CoreBeginning.{IsEntered}
+use Rattle.fkv_partition.specs.CoreEffect.{IsIssue}
 use Rattle.fkv_partition.specs.Inside.{view_of}
 use Rattle.fkv_partition.specs.Beginning.{IssuesOnKey}
 use Rattle.fkv_partition.specs.Views.{with_core}

@@ -1,5 +1,5 @@
 use Rattle.std.proofs.Common.{subst}
-use Rattle.fkv_core.specs.Sound.{IsSound}
+use Rattle.fkv_partition.specs.CoreSound.{IsSound}
 use Rattle.fkv_partition.specs.Sound.{IsCompacting}
 use Rattle.fkv_partition.proofs.partitions.Partition.known.Goals as goal
 

@@ -1,5 +1,5 @@
 use Rattle.std.proofs.Common.{inl, refl, sym, ◌∙◌}
-use Rattle.fkv_core.proofs.LoadLemmas.{reads-any}
+use Rattle.fkv_partition.proofs.LoadLemmas.{reads-any}
 use Rattle.fkv_partition.specs.Events.WaitsFor.{on_key, relocation}
 use Rattle.fkv_partition.proofs.ApartLemmas.{none-held}
 use Rattle.fkv_partition.proofs.ProceedLemmas.{loads_on-proceeds, loads_on-ends, ended-event, ended-pends}

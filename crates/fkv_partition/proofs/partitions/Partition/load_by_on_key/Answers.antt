@@ -1,4 +1,4 @@
-use Rattle.fkv_core.proofs.LoadLemmas.{reads-any}
+use Rattle.fkv_partition.proofs.LoadLemmas.{reads-any}
 use Rattle.fkv_partition.specs.Inside.{view_of}
 use Rattle.fkv_partition.proofs.SteadyLemmas.{loads-steady}
 use Rattle.fkv_partition.proofs.KeepLemmas.{keep-seated}

@@ -4,8 +4,8 @@ use Rattle.fkv_functions.proofs.KeyOrder.{key_order}
 use Rattle.fkv_records.specs.Places.{page_at}
 use Rattle.fkv_pages.specs.Loads.{IsHeldBy}
 use Rattle.fkv_hybrid.specs.Scans.{MayFail}
-use Rattle.fkv_core.specs.Loading.{idle, came, failed}
-use Rattle.fkv_core.proofs.LoadLemmas.{counted-why}
+use Rattle.fkv_partition.specs.CoreLoading.{idle, came, failed}
+use Rattle.fkv_partition.proofs.LoadLemmas.{counted-why}
 use Rattle.fkv_partition.specs.Reading.{LoadsOn}
 use Rattle.fkv_partition.proofs.ApartLemmas.{err-ok, next-done, ok-all, no-later, has-come}
 use Rattle.fkv_partition.proofs.MoveLemmas.{is-set}

@@ -2,7 +2,7 @@ use Rattle.std.proofs.Common.{◌≡◌, ◌<◌, ◌≤◌, IsSome, Some, sym, 
 use Rattle.fkv_regions.specs.Offsets.{view_at}
 use Rattle.fkv_texts.specs.Text.{entry_at}
 use Rattle.fkv_lookups.specs.Decisions.{low_of}
-use Rattle.fkv_core.specs.Beginning.{IsEntered}
+use Rattle.fkv_partition.specs.CoreBeginning.{IsEntered}
 use Rattle.fkv_partition.specs.Going.{low_at, GoesOn}
 use Rattle.fkv_functions.proofs.CallLemmas.{with_six}
 use Rattle.fkv_partition.proofs.MoveLemmas.{open-here}

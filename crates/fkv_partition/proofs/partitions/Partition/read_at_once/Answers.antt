@@ -1,8 +1,8 @@
 use Rattle.std.proofs.Common.{◌≡◌, false, sym, ◌∙◌, subst}
 use Rattle.std.proofs.lemmas.Bool.{false≢true}
 use Rattle.std.proofs.lemmas.Option.{IfSome_then}
-use Rattle.fkv_core.specs.Contexts.{is_session}
-use Rattle.fkv_core.specs.Views.{slots_of}
+use Rattle.fkv_partition.specs.CoreContexts.{is_session}
+use Rattle.fkv_partition.specs.CoreViews.{slots_of}
 use Rattle.fkv_partition.proofs.AtOnceLemmas.{told-some}
 use Rattle.fkv_partition.proofs.partitions.Partition.read_at_once.Goals as goal
 

@@ -1,6 +1,6 @@
 use Rattle.std.proofs.Common.{◌∙◌, Some, refl, sym, subst, arith}
-use Rattle.fkv_core.specs.Beginning.{IsEntered}
-use Rattle.fkv_core.specs.Views.{slots_of}
+use Rattle.fkv_partition.specs.CoreBeginning.{IsEntered}
+use Rattle.fkv_partition.specs.CoreViews.{slots_of}
 use Rattle.fkv_partition.specs.Inside.{view_of}
 use Rattle.fkv_partition.specs.Beginning.{Relocates}
 use Rattle.fkv_partition.proofs.ApartLemmas.{no-later, has-come}

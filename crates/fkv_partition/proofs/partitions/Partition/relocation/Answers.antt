@@ -1,5 +1,5 @@
 use Rattle.std.proofs.Common.{◌∙◌, length, sym, ap}
-use Rattle.fkv_core.proofs.EventLemmas.{some-all}
+use Rattle.fkv_partition.proofs.EventLemmas.{some-all}
 use Rattle.fkv_partition.specs.Inside.{view_of}
 use Rattle.fkv_partition.specs.Views.{relocation_at}
 use Rattle.fkv_partition.proofs.MoveLemmas.{open-inside, closed-outside}

@@ -1,6 +1,6 @@
 use Rattle.std.proofs.Common.{◌≡◌, ◌+◌, ◌*◌, Some, subst}
-use Rattle.fkv_core.specs.Views.{slots_of}
-use Rattle.fkv_core.proofs.AskedLemmas.{open_at}
+use Rattle.fkv_partition.specs.CoreViews.{slots_of}
+use Rattle.fkv_partition.proofs.AskedLemmas.{open_at}
 use Rattle.fkv_partition.specs.Inside.{view_of}
 use Rattle.fkv_partition.specs.Views.{relocation_at, at_stage}
 use Rattle.fkv_partition.proofs.KeepLemmas.{keep-changed, rises-not, Fits, seat-of}

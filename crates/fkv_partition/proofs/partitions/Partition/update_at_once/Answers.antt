@@ -3,10 +3,10 @@ use Rattle.std.proofs.lemmas.Bool.{false≢true}
 use Rattle.fkv_functions.proofs.KeyOrder.{key_order}
 use Rattle.fkv_operations.specs.declared.operations.KeyedOp.TheVariants.{Rmw}
 use Rattle.fkv_operations.specs.declared.operations.Answer.TheVariants.{Value}
-use Rattle.fkv_core.specs.declared.contexts.Progress.TheVariants.{Done}
-use Rattle.fkv_core.specs.Contexts.{is_session}
-use Rattle.fkv_core.specs.Beginning.{IsEntered}
-use Rattle.fkv_core.specs.Views.{slots_of, context_at}
+use Rattle.fkv_partition.specs.declared.contexts.Progress.TheVariants.{Done}
+use Rattle.fkv_partition.specs.CoreContexts.{is_session}
+use Rattle.fkv_partition.specs.CoreBeginning.{IsEntered}
+use Rattle.fkv_partition.specs.CoreViews.{slots_of, context_at}
 use Rattle.fkv_partition.specs.Inside.{view_of}
 use Rattle.fkv_partition.specs.Views.{with_core}
 use Rattle.fkv_partition.proofs.ApartLemmas.{later-still}

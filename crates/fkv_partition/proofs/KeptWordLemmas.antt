@@ -1,0 +1,37 @@
+-- Events of a partition as events of its records and the words over them.
+use Rattle.std.proofs.Common.{◌≡◌, IsTrue, ℕ, Bool, List, [], ◌∷◌, refl, ◌∙◌, subst}
+use Rattle.std.specs.declared.cmp.Ordering.{Ordering}
+use Rattle.fkv_functions.specs.Plain.{IsKeyOrder}
+use Rattle.fkv_operations.specs.declared.classes.Class.{Class}
+use Rattle.fkv_operations.specs.Classes.{class_at}
+use Rattle.fkv_operations.specs.KeptWords.{IndexedText, IsLed, AreNext, after_last}
+use Rattle.fkv_lookups.specs.RecordsViews.{indexed}
+use Rattle.fkv_lookups.proofs.TracedLemmas.{traced-led}
+use Rattle.fkv_partition.specs.Grown.{ArePreserved}
+use Rattle.fkv_partition.specs.CoreSound.{IsSound}
+use Rattle.fkv_partition.specs.CoreViews.{CoreView}
+
+abbrev pub indexed_all : {K V I : Type 0} → List (CoreView K V I) → List (IndexedText K V)
+indexed_all [] = []
+indexed_all (w ∷ ws) = indexed w.records ∷ indexed_all ws
+
+pub indexed-last : {K V I : Type 0} (v : CoreView K V I) (vs : List (CoreView K V I)) → after_last (indexed v.records) (indexed_all vs) ≡ indexed (after_last v vs).records
+indexed-last v [] = refl
+indexed-last v (w ∷ ws) = indexed-last w ws
+
+-- the classes of an index of one shape
+abbrev pub class_of : {K : Type 0} → (K → ℕ) → ℕ → ℕ → K → Class
+class_of code p b k = class_at p b (code k)
+
+module _ {K V I : Type 0} {keeps : Bool} (cmp : K → K → Ordering) (join : V → V → V) (code : K → ℕ) (order : IsKeyOrder cmp) (yes_keeps : IsTrue keeps) (p b : ℕ) where
+  pub led-at : (v : CoreView K V I) → IsSound keeps cmp join code v → v.records.partition_bits ≡ p → v.records.bucket_bits ≡ b → IsLed cmp (class_of code p b) (indexed v.records)
+  led-at v s is at =
+      subst (λ n. IsLed cmp (class_of code p n) (indexed v.records)) at
+      (subst (λ n. IsLed cmp (class_of code n v.records.bucket_bits) (indexed v.records)) is (traced-led cmp code v.records order s.traced))
+
+  pub are-next : (v : CoreView K V I) (vs : List (CoreView K V I)) → v.records.partition_bits ≡ p → v.records.bucket_bits ≡ b → ArePreserved keeps cmp join code v vs → AreNext cmp (class_of code p b) (indexed v.records) (indexed_all vs)
+  are-next v [] is at h = tt
+  are-next v (w ∷ ws) is at (borne, s, more) =
+      let here = borne.grown.shape.partition_bits ∙ is in
+      let there = borne.grown.shape.bucket_bits ∙ at in
+      (borne.next yes_keeps, led-at w s here there, are-next w ws here there more)

@@ -1,0 +1,46 @@
+use Rattle.std.proofs.Common.{◌≡◌, Some, refl, sym, ap, subst, ◌∙◌}
+use Rattle.std.specs.List.{list_any}
+use Rattle.fkv_index.specs.Words.{is_empty}
+use Rattle.fkv_index.specs.Places.{words_of}
+use Rattle.fkv_operations.specs.declared.classes.Class.{Class}
+use Rattle.fkv_lookups.specs.RecordsViews.{Claims}
+use Rattle.fkv_partition.specs.CoreContexts.{context_in}
+use Rattle.fkv_partition.specs.CoreInside.{view_of}
+use Rattle.fkv_partition.proofs.ChangeLemmas.{sound-claims}
+use Rattle.fkv_partition.proofs.AskedLemmas.{open_at}
+use Rattle.fkv_partition.proofs.cores.Core.claim.Goals as goal
+
+pub invariant_of-self-2 : goal.invariant_of-self-2
+invariant_of-self-2 g c =
+    let x = c.args.operation.now in
+    let at : context_in c.self.inside.records.regions.epochs.slots c.self.inside.contexts.items c.args.slot c.args.context ≡ Some x = rw (← c.self.view_is) at c.requires.here in
+    let made = c.in-Ok.ensures in
+    rw (c.move_on.ensures)
+    (sound-claims g.F.Key.Ord.cmp g.F.Mergeable.parts.joined g.F.Functions.code (view_of g.F.Mergeable.MERGES c.self.inside.number c.self.inside.count c.self.inside.records c.self.inside.contexts.items c.self.inside.moment) c.self.invariant c.args.slot c.args.context c.args.now x at
+    c.claim.new.self c.args.class c.in-Ok.place c.requires.unclaimed (rw (← c.self.view_is) at c.requires.class) made.ok made.changes made.free made.bucket made.word made.taken c.known.ensures.traced c.known.ensures.stood)
+
+pub returns-clause-ok : goal.returns-clause-ok
+returns-clause-ok g c =
+    rw (c.move_on.ensures, ← c.self.view_is) (record {
+      place = c.in-Ok.place;
+      records = c.claim.new.self;
+      claims = subst (λ (d : Class). Claims c.self.inside.records c.claim.new.self d c.in-Ok.place) (rw (← c.self.view_is) at c.requires.class) c.in-Ok.ensures.ok;
+      is = refl;
+    })
+
+pub move_on-requires-clause-here : goal.move_on-requires-clause-here
+move_on-requires-clause-here g c =
+    let at : context_in c.self.inside.records.regions.epochs.slots c.self.inside.contexts.items c.args.slot c.args.context ≡ Some c.args.operation.now = rw (← c.self.view_is) at c.requires.here in
+    (open_at c.self.inside.records.regions.epochs.slots c.self.inside.contexts.items c.args.slot c.args.context c.args.operation.now at).here
+
+pub invariant_of-self : goal.invariant_of-self
+invariant_of-self g c = rw c.in-Err.ensures.unchanged c.self.invariant
+
+pub returns-in-Err-clause-full : goal.returns-in-Err-clause-full
+returns-in-Err-clause-full g c = ap (λ u. list_any is_empty (words_of u.records.words c.args.class.bucket)) (sym c.self.view_is) ∙ c.in-Err.ensures.full
+
+pub returns-in-Err-clause-only : goal.returns-in-Err-clause-only
+returns-in-Err-clause-only g c = c.in-Err.ensures.only
+
+pub returns-in-Err-clause-unchanged : goal.returns-in-Err-clause-unchanged
+returns-in-Err-clause-unchanged g c = ap (λ r. view_of g.F.Mergeable.MERGES c.self.inside.number c.self.inside.count r c.self.inside.contexts.items c.self.inside.moment) c.in-Err.ensures.unchanged ∙ c.self.view_is

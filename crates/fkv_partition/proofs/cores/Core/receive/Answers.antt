@@ -1,0 +1,67 @@
+use Rattle.std.proofs.Common.{◌<◌, Err, length, refl, sym, ap, subst}
+use Rattle.std.proofs.Math.Nat.{le_of_lt}
+use Rattle.fkv_functions.proofs.KeyOrder.{key_order}
+use Rattle.fkv_functions.proofs.CallLemmas.{with_six}
+use Rattle.fkv_records.specs.Places.{page_at}
+use Rattle.fkv_pages.specs.Loads.{IsHeldBy}
+use Rattle.fkv_partition.specs.CoreInside.{view_of}
+use Rattle.fkv_partition.specs.CoreLoading.{Loads}
+use Rattle.fkv_partition.proofs.LoadLemmas.{stranger-kept, wanted-flushed}
+use Rattle.fkv_partition.proofs.cores.Core.receive.Goals as goal
+
+pub is_own-requires-whole : goal.is_own-requires-whole
+is_own-requires-whole g c κs =
+    let ord = g.met.F.Key.Ord in
+    let known = g.met.F.Key.FixedKey in
+    let order = key_order g.F.Key.PartialEq.eq g.F.Key.Ord.cmp ord.matches_eq known.exact ord.total in
+    let v = c.args.self.now in
+    let x = c.args.operation.now in
+    let l = c.args.loading in
+    let a = c.requires.awaits in
+    let p = c.args.loaded in
+    let there = wanted-flushed g.F.Key.Ord.cmp g.F.Mergeable.parts.joined g.F.Functions.code order v c.known.ensures c.args.slot c.args.context x l a in
+    with_six (
+    rw c.page_of-page.ensures (subst (λ u. page_at u.records.page_bits l.wanted < length u.records.receipts) (sym c.self.view_is) there))
+
+pub returns-in-Err-clause-effect : goal.returns-in-Err-clause-effect
+returns-in-Err-clause-effect g c =
+    let ord = g.met.F.Key.Ord in
+    let known = g.met.F.Key.FixedKey in
+    let order = key_order g.F.Key.PartialEq.eq g.F.Key.Ord.cmp ord.matches_eq known.exact ord.total in
+    let v = c.args.self.now in
+    let x = c.args.operation.now in
+    let l = c.args.loading in
+    let a = c.requires.awaits in
+    let p = c.args.loaded in
+    let there = wanted-flushed g.F.Key.Ord.cmp g.F.Mergeable.parts.joined g.F.Functions.code order v c.known.ensures c.args.slot c.args.context x l a in
+    let s = stranger-kept (view_of g.F.Mergeable.MERGES c.self.inside.number c.self.inside.count c.self.inside.records c.self.inside.contexts.items c.self.inside.moment) v c.page_of-page.result l.wanted (g.R.Receipt.stands p.receipt) c.in-Err.refused c.self.view_is c.page_of-page.ensures there c.in-Err.ensures.stranger in
+    Loads.stranger x l p s.0 a refl s.1 s.2 refl (ap Err s.3)
+
+pub returns-in-Err-clause-moment : goal.returns-in-Err-clause-moment
+returns-in-Err-clause-moment g c = le_of_lt c.requires.later
+
+pub look_on-requires-clause-own : goal.look_on-requires-clause-own
+look_on-requires-clause-own g c =
+    subst (λ v. IsHeldBy v.records.receipts (page_at v.records.page_bits c.args.loading.wanted) (g.R.Receipt.stands c.args.loaded.receipt)) c.self.view_is
+    (rw c.page_of-page.ensures at (c.in_default.ensures.own.0 refl))
+
+pub look_on-requires-clause-awaits : goal.look_on-requires-clause-awaits
+look_on-requires-clause-awaits g c = c.requires.awaits
+
+pub look_on-requires-clause-session : goal.look_on-requires-clause-session
+look_on-requires-clause-session g c = c.requires.session
+
+pub look_on-requires-clause-context : goal.look_on-requires-clause-context
+look_on-requires-clause-context g c = c.requires.context
+
+pub look_on-requires-clause-later : goal.look_on-requires-clause-later
+look_on-requires-clause-later g c = c.requires.later
+
+pub returns-clause-effect : goal.returns-clause-effect
+returns-clause-effect g c = c.look_on.ensures.effect
+
+pub returns-clause-event : goal.returns-clause-event
+returns-clause-event g c = c.look_on.ensures.event
+
+pub returns-clause-moment : goal.returns-clause-moment
+returns-clause-moment g c = c.look_on.ensures.moment

@@ -1,0 +1,145 @@
+-- What a contract sees of a partition.
+use Rattle.std.specs.Prelude.{◌≡◌, Bool, true, ◌+◌, ◌*◌, ◌%◌, ◌^◌, ℕ, List, Option, Some, None, replicate, slice_set, slice_range, position, is_some}
+use Rattle.std.specs.declared.cmp.Ordering.{Ordering}
+use Rattle.fkv_functions.specs.Plain.{PlainMap}
+use Rattle.fkv_epoch.specs.Moves as epochs
+use Rattle.fkv_regions.specs.declared.offsets.View.{View}
+use Rattle.fkv_regions.specs.Offsets.{view_at}
+use Rattle.fkv_regions.specs.RegionsView.{RegionsView}
+use Rattle.fkv_texts.specs.Text.{live}
+use Rattle.fkv_texts.specs.declared.entries.Entry.{Entry}
+use Rattle.fkv_operations.specs.declared.entries.IndexEntry.{IndexEntry}
+use Rattle.fkv_lookups.specs.RecordsViews.{RecordsView, empty_records, class_in, entry_of, found_in}
+use Rattle.fkv_lookups.specs.RecordsViews.{with_written, with_value, with_regions, IsMoved}
+use Rattle.fkv_lookups.specs.declared.payloads.Payload.{Payload}
+use Rattle.fkv_lookups.specs.declared.payloads.Payload.TheVariants.{Whole}
+use Rattle.fkv_lookups.specs.Meeting as meeting
+use Rattle.fkv_lookups.specs.Lookups.{first_up, looked_up}
+use Rattle.fkv_lookups.specs.Decisions.{low_of}
+use Rattle.fkv_texts.specs.declared.entries.ChainPosition.{ChainPosition}
+use Rattle.fkv_texts.specs.declared.entries.ChainPosition.TheVariants.{Found, Below}
+use Rattle.fkv_lookups.specs.declared.gathered.Gathered.{Gathered}
+use Rattle.fkv_lookups.specs.declared.decisions.LookupResult.{LookupResult}
+use Rattle.fkv_partition.specs.declared.contexts.Context.{Context}
+use Rattle.fkv_partition.specs.declared.contexts.Loading.{Loading}
+use Rattle.fkv_partition.specs.declared.limits.Config.{Config}
+use Rattle.fkv_partition.specs.CoreContexts.{context_in, loading_of, is_session}
+
+-- a partition: whether its functions merge; its number among how many; its records with the entries of their classes, the regions of their log and
+-- its sessions; the open operations of these; and its last moment
+pub record CoreView (K V I : Type 0) : Type 0 where
+  pub merges : Bool
+  pub number : ℕ
+  pub count : ℕ
+  pub records : RecordsView K V
+  pub contexts : List (Option (Context K V I))
+  pub moment : ℕ
+
+-- a partition with nothing in it, before the first moment, of functions that merge or not, for records of this size
+abbrev pub empty_core : {K V I : Type 0} → Bool → Config → ℕ → ℕ → CoreView K V I
+empty_core merges config record_size number = record {
+  merges = merges;
+  number = number;
+  count = 2 ^ config.partition_bits;
+  records = empty_records config.partition_bits config.bucket_bits config.page_bits record_size config.frames;
+  contexts = replicate 128 None;
+  moment = 0;
+}
+
+-- the partition of a key with this hash
+abbrev pub partition_of : ℕ → ℕ → ℕ
+partition_of count code = code % count
+
+-- the live map of a partition
+abbrev pub live_of : {K V I : Type 0} → (K → K → Ordering) → CoreView K V I → PlainMap K V
+live_of cmp v = live cmp v.records.text
+
+-- no key of this partition has a value in a map
+abbrev pub IsBare : {K V I : Type 0} → (K → ℕ) → CoreView K V I → PlainMap K V → Type 0
+IsBare {K} code v m = (k : K) → partition_of v.count (code k) ≡ v.number → m k ≡ None
+
+-- the final entry of a key's class, and the address to which it leads
+abbrev pub found_for : {K V I : Type 0} → (K → ℕ) → CoreView K V I → K → Option IndexEntry
+found_for code v k = found_in v.records (class_in code v.records k)
+
+abbrev pub entry_for : {K V I : Type 0} → (K → ℕ) → CoreView K V I → K → Option ℕ
+entry_for code v k = entry_of v.records (class_in code v.records k)
+
+-- each slot with its epoch, where a session is entered there
+abbrev pub slots_of : {K V I : Type 0} → CoreView K V I → List (Option ℕ)
+slots_of v = v.records.regions.epochs.slots
+
+-- what the session at a slot saw when it last looked
+abbrev pub seen_at : {K V I : Type 0} → CoreView K V I → ℕ → View
+seen_at v slot = view_at v.records.regions.views slot
+
+-- what the session at a slot meets when it looks a key up
+abbrev pub met_at : {K V I : Type 0} → (K → K → Ordering) → (V → V → V) → (K → ℕ) → CoreView K V I → ℕ → K → LookupResult V
+met_at cmp join code v slot k = meeting.met_at cmp join code v.records (seen_at v slot) k
+
+-- the last record of the key that it reads in memory, with the address to which the entry of the key's class leads
+abbrev pub first_from : {K V I : Type 0} → (K → K → Ordering) → (K → ℕ) → CoreView K V I → ℕ → K → Option ℕ
+    → ChainPosition K V
+first_from cmp code v slot k None = Below 1
+first_from cmp code v slot k (Some a) = first_up cmp code v.records (low_of v.records.begin (seen_at v slot)) k a
+
+-- a session is entered at the slot, and the last record of the key that it reads in memory is a delta
+pub record IsAtDelta {K V I : Type 0} (cmp : K → K → Ordering) (code : K → ℕ) (v : CoreView K V I) (slot : ℕ) (k : K) : Type 0 where
+  pub entered : is_session (slots_of v) slot ≡ true
+  pub entry : Entry K V
+  pub first : first_from cmp code v slot k (entry_for code v k) ≡ Found entry
+  pub delta : entry.delta ≡ true
+
+-- what its look-up comes to in memory, no lower than an address
+abbrev pub reached_from : {K V I : Type 0} → (K → K → Ordering) → (V → V → V) → (K → ℕ) → CoreView K V I → ℕ → K → ℕ
+    → Option ℕ → Gathered K V
+reached_from cmp join code v slot k low None = record { parts = None; position = Below 1 }
+reached_from cmp join code v slot k low (Some a) = looked_up cmp join code v.records low k a
+
+-- the operation that is open in a context of an entered session
+abbrev pub context_at : {K V I : Type 0} → CoreView K V I → ℕ → ℕ → Option (Context K V I)
+context_at v slot c = context_in (slots_of v) v.contexts slot c
+
+-- the look-up in which it waits for a page
+abbrev pub loading_at : {K V I : Type 0} → CoreView K V I → ℕ → ℕ → Option (Loading V)
+loading_at v slot c = loading_of (context_at v slot c)
+
+-- the view with this operation, or none, in a context, at another moment
+abbrev pub with_context : {K V I : Type 0} → CoreView K V I → ℕ → ℕ → Option (Context K V I) → ℕ
+    → CoreView K V I
+with_context v slot c x now = record v { contexts = slice_set v.contexts (slot * 8 + c) x; moment = now }
+
+-- the view after a record of this key with this payload, by which the key has this value, or none, was appended, behind
+-- the one to which its class's entry led, and the entry was moved to it, and the context was freed
+abbrev pub with_payload : {K V I : Type 0} → CoreView K V I → ℕ → ℕ → IndexEntry → K → Payload V → Option V → ℕ
+    → CoreView K V I
+with_payload v slot c e k payload has now = record (with_context v slot c None now) {
+  records = with_written v.records e k payload has;
+}
+
+-- the same of a value, or a tombstone
+abbrev pub with_appended : {K V I : Type 0} → CoreView K V I → ℕ → ℕ → IndexEntry → K → Option V → ℕ
+    → CoreView K V I
+with_appended v slot c e k value now = with_payload v slot c e k (Whole value) value now
+
+-- the view after the record at an address got another value, or became a tombstone, and the context was freed
+abbrev pub with_replaced : {K V I : Type 0} → CoreView K V I → ℕ → ℕ → ℕ → Option V → ℕ → CoreView K V I
+with_replaced v slot c a value now = record (with_context v slot c None now) { records = with_value v.records a value }
+
+-- the view with these regions
+abbrev pub in_regions : {K V I : Type 0} → CoreView K V I → RegionsView → ℕ → CoreView K V I
+in_regions v regions now = record v { records = with_regions v.records regions; moment = now }
+
+-- the lowest free slot
+abbrev pub free_slot : {K V I : Type 0} → CoreView K V I → Option ℕ
+free_slot v = epochs.free_slot v.records.regions.epochs
+
+-- the lowest open context of a slot
+abbrev pub open_context : {K V I : Type 0} → CoreView K V I → ℕ → Option ℕ
+open_context v slot = position is_some (slice_range v.contexts (slot * 8) (slot * 8 + 8))
+
+-- the regions have become these, and the records followed
+pub record MovesTo {K V I : Type 0} (keeps : Bool) (regions : RegionsView) (old new : CoreView K V I) (now : ℕ)
+    : Type 0 where
+  pub moves : IsMoved keeps regions old.records new.records
+  pub is : new ≡ record old { records = new.records; moment = now }

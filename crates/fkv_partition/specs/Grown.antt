@@ -1,0 +1,81 @@
+-- What events leave for one who keeps, beside a partition, entries, look-ups, records and addresses of its own.
+use Rattle.std.specs.Prelude.{◌≡◌, ◌<◌, ◌≤◌, Bool, IsTrue, true, ℕ, List, [], ◌∷◌, Option, Some, None, slice_get}
+use Rattle.std.specs.declared.cmp.Ordering.{Ordering}
+use Rattle.fkv_device.specs.Standing.{Standing}
+use Rattle.fkv_regions.specs.Agree.{IsRaised}
+use Rattle.fkv_texts.specs.declared.entries.Entry.{Entry}
+use Rattle.fkv_texts.specs.Text.{entry_at}
+use Rattle.fkv_texts.specs.Chains.{IsIn}
+use Rattle.fkv_index.specs.declared.places.Place.{Place}
+use Rattle.fkv_index.specs.Places.{IsPlace}
+use Rattle.fkv_operations.specs.declared.entries.IndexEntry.{IndexEntry}
+use Rattle.fkv_operations.specs.KeptWords.{IsNext}
+use Rattle.fkv_lookups.specs.RecordsViews.{RecordsView, indexed}
+use Rattle.fkv_texts.specs.Deltas.{IsCleared}
+use Rattle.fkv_partition.specs.declared.contexts.Loading.{Loading}
+use Rattle.fkv_partition.specs.CoreContexts.{joined, is_session}
+use Rattle.fkv_partition.specs.CoreSound.{IsKept, IsLoading, IsSound}
+use Rattle.fkv_partition.specs.CoreViews.{CoreView, slots_of}
+
+-- what a prepared update of any key kept, and what a look-up of any key that waits for a page is to find, whether or not
+-- the partition has a context of it
+pub record Bears {K V : Type 0} (keeps : Bool) (cmp : K → K → Ordering) (join : V → V → V) (code : K → ℕ) (old new : RecordsView K V)
+    : Type 0 where
+  pub kept : (k : K) (e : IndexEntry) (source : Option V)
+      → IsKept keeps cmp code old k e source
+      → IsKept keeps cmp code new k e source
+  pub loading : (k : K) (l : Loading V) → IsLoading keeps cmp join code old k l → IsLoading keeps cmp join code new k l
+
+-- what is set once for all
+pub record IsSameShape {K V : Type 0} (old new : RecordsView K V) : Type 0 where
+  pub partition_bits : new.partition_bits ≡ old.partition_bits
+  pub bucket_bits : new.bucket_bits ≡ old.bucket_bits
+  pub page_bits : new.page_bits ≡ old.page_bits
+  pub record_size : new.record_size ≡ old.record_size
+  pub frames : new.frames ≡ old.frames
+
+-- nothing falls, what is flushed stays so, and what is frozen stays as it is, where the text begins now or above; on a
+-- device that keeps, what was cleared is cleared; and a record at an address that was taken is of the key that it was of, and
+-- a delta where it was one
+pub record IsGrown {K V : Type 0} (keeps : Bool) (cmp : K → K → Ordering) (old new : RecordsView K V) : Type 0 where
+  pub shape : IsSameShape old new
+  pub begin : old.begin ≤ new.begin
+  pub tail : old.tail ≤ new.tail
+  pub raised : IsRaised old.regions.offsets new.regions.offsets
+  pub receipts : (page : ℕ) (s : Standing)
+      → slice_get old.receipts page ≡ Some s
+      → slice_get new.receipts page ≡ Some s
+  pub stay : (a : ℕ)
+      → new.from ≤ a
+      → a < old.regions.offsets.safe_read_only
+      → entry_at new.entries a ≡ entry_at old.entries a
+  pub clear : (limit : ℕ)
+      → limit ≤ old.tail
+      → IsTrue keeps
+      → IsCleared cmp old.entries limit
+      → IsCleared cmp new.entries limit
+  pub places : (p : Place) → IsPlace old.words p → IsPlace new.words p
+  pub were : (e : Entry K V)
+      → IsIn new.entries e
+      → e.address < old.tail
+      → (d : Entry K V) × IsIn old.entries d × (d.address ≡ e.address) × (d.key ≡ e.key) × (d.delta ≡ e.delta)
+
+-- both of an event; and on a device that keeps, no address is used twice
+pub record IsPreserved {K V I : Type 0} (keeps : Bool) (cmp : K → K → Ordering) (join : V → V → V) (code : K → ℕ)
+    (old new : CoreView K V I) : Type 0 where
+  pub bears : Bears keeps cmp join code old.records new.records
+  pub grown : IsGrown keeps cmp old.records new.records
+  pub next : IsTrue keeps → IsNext cmp (indexed old.records) (indexed new.records)
+
+-- events one after another
+abbrev pub ArePreserved : {K V I : Type 0} → Bool → (K → K → Ordering) → (V → V → V) → (K → ℕ) → CoreView K V I
+    → List (CoreView K V I) → Type 0
+ArePreserved keeps cmp join code v [] = Unit {0}
+ArePreserved keeps cmp join code v (w ∷ ws) = IsPreserved keeps cmp join code v w × IsSound keeps cmp join code w × ArePreserved keeps cmp join code w ws
+
+-- where no operation was open none is, and who was entered is
+abbrev pub NoneOpens : {K V I : Type 0} → CoreView K V I → CoreView K V I → Type 0
+NoneOpens old new = (p : ℕ) → joined (slice_get old.contexts p) ≡ None → joined (slice_get new.contexts p) ≡ None
+
+abbrev pub AllStay : {K V I : Type 0} → CoreView K V I → CoreView K V I → Type 0
+AllStay old new = (s : ℕ) → is_session (slots_of old) s ≡ true → is_session (slots_of new) s ≡ true

@@ -1,0 +1,273 @@
+//! What events look at in a partition. None of these changes it.
+ghost use Rattle.std.specs.Prelude.{◌≡◌, ◌+◌, ◌*◌, ◌<◌, ◌≤◌, ◌↔◌, Some, None, true, false, IsTrue, IfSome, option_map, slice_get};
+ghost use Rattle.std.specs.Bool.{OnTrue, OnFalse};
+ghost use Rattle.fkv_index.specs.Words.{address_of};
+ghost use Rattle.fkv_operations.specs.After.{key_of, is_merge};
+ghost use Rattle.fkv_texts.specs.declared.entries.Entry.{Entry};
+ghost use Rattle.fkv_lookups.specs.Decisions.{decision, low_of};
+ghost use Rattle.fkv_operations.specs.Classes.{IsClass};
+ghost use Rattle.fkv_lookups.specs.RecordsViews.{class_in, IsEntryOf};
+ghost use Rattle.fkv_partition.specs.CoreContexts.{is_session, joined};
+ghost use Rattle.fkv_partition.specs.CoreBeginning.{IsEntered};
+ghost use Rattle.fkv_partition.specs.CoreViews.{IsAtDelta, context_at, entry_for, found_for, first_from, met_at, open_context, partition_of, reached_from, seen_at, slots_of};
+ghost use Rattle.fkv_partition.specs.CoreSound.{IsSound};
+
+use crate::contexts::{ContextOf, is_vacant, open_at, open_context};
+use crate::cores::Core;
+use fkv_device::Receipt;
+use fkv_functions::{Functions, Mergeable};
+use fkv_lookups::decisions::blind;
+use fkv_lookups::laws::lookups_tell;
+use fkv_lookups::{DecisionOf, Gathered, LookupResult, decide, low_of, met_by};
+use fkv_operations::{Class, IndexEntry, KeyedOpOf, partition_at};
+use fkv_records::Address;
+use fkv_texts::ChainPosition;
+
+/// What leads nowhere.
+const NOWHERE: Address = 1;
+
+/// Where an entry leads.
+pub(crate) fn address_of(entry: &Option<IndexEntry>) -> Option<Address>
+    ensures { result ≡ option_map (λ e. address_of e.word) entry.now }
+{
+    match entry {
+        None => None,
+        Some(entry) => Some(entry.address()),
+    }
+}
+
+impl<F: Mergeable, R: Receipt> Core<F, R> {
+    /// What holds of every partition. It does nothing when it runs.
+    pub fn known(&self)
+        ensures { IsSound R.keeps F.Key.cmp F.parts.joined F.code self.now }
+    {
+        let _moment = self.moment;
+    }
+
+    /// Whether the functions merge.
+    pub fn merges(&self) -> bool
+        ensures value { result ≡ self.now.merges }
+        ensures functions { result ≡ F.MERGES }
+    {
+        let _moment = self.moment;
+        F::MERGES
+    }
+
+    /// Whether an operation is a merge, and the functions don't merge.
+    pub fn lacks_merges(&self, op: &KeyedOpOf<F>) -> bool
+        ensures lacks { OnTrue result ((is_merge op.now ≡ true) × (self.now.merges ≡ false)) }
+        ensures merges { OnFalse result (is_merge op.now ≡ true → self.now.merges ≡ true) }
+    {
+        let merges = self.merges();
+        op.is_merge() && !merges
+    }
+
+    /// The operation that is open in a context.
+    pub fn open(&self, slot: usize, context: usize) -> Option<ContextOf<F>>
+        ensures value { result ≡ context_at self.now slot context }
+        ensures session { IfSome result (λ _. slot < 16) }
+        ensures context { IfSome result (λ _. context < 8) }
+    {
+        if !self.records.is_entered(slot) {
+            return None;
+        }
+        open_at(&self.contexts, slot, context)
+    }
+
+    /// Whether no operation stands in a context of a slot.
+    pub fn is_vacant(&self, slot: usize, context: usize) -> bool
+        requires session { slot < 16 }
+        requires context { context < 8 }
+        ensures { IsTrue result ↔ (joined (slice_get self.now.contexts (slot * 8 + context)) ≡ None) }
+    {
+        is_vacant(&self.contexts, slot, context)
+    }
+
+    /// Whether a slot is that of a session.
+    pub fn is_session(&self, slot: usize) -> bool
+        ensures value { result ≡ is_session (slots_of self.now) slot }
+        ensures within { IsTrue result → slot < 16 }
+    {
+        self.records.is_entered(slot)
+    }
+
+    /// The lowest open context of a session.
+    pub(crate) fn first_open(&self, slot: usize) -> Option<usize>
+        requires { slot < 16 }
+        ensures { result ≡ open_context self.now slot }
+    {
+        open_context(&self.contexts, slot)
+    }
+
+    /// The number of the partition to which a key belongs.
+    pub fn home(&self, functions: &F, key: &F::Key) -> u64
+        ensures { result ≡ partition_of self.now.count (F.code key.now) }
+    {
+        self.known();
+        partition_at(functions.hash(key), self.count)
+    }
+
+    /// The class of a key, and its final entry.
+    pub fn find(&self, functions: &F, key: &F::Key) -> (Class, Option<IndexEntry>)
+        ensures class { result.0 ≡ class_in F.code self.now.records key.now }
+        ensures range { IsClass self.now.records.bucket_bits result.0 }
+        ensures entry { result.1 ≡ found_for F.code self.now key.now }
+        ensures address { option_map (λ e. address_of e.word) result.1 ≡ entry_for F.code self.now key.now }
+        ensures stands { IfSome result.1
+            (λ e. IsEntryOf self.now.records (class_in F.code self.now.records key.now) e) }
+    {
+        let class = self.records.class(functions, key);
+        let entry = self.records.entry(&class);
+        (class, entry)
+    }
+
+    /// The address to which the final entry of a key's class leads.
+    #[inline(always)]
+    pub(crate) fn leads(&self, functions: &F, key: &F::Key) -> Option<Address>
+        ensures { result ≡ entry_for F.code self.now key.now }
+    {
+        let class = self.records.class(functions, key);
+        self.records.leads(&class)
+    }
+
+    /// The last record of a key that the session at a slot reads in memory, by the address to which the entry of the key's
+    /// class leads, or where the records of the class lead.
+    #[inline(always)]
+    pub(crate) fn first(
+        &self,
+        slot: usize,
+        key: &F::Key,
+        entry: Option<Address>,
+    ) -> ChainPosition<F::Key, F::Value>
+        requires entered { IsEntered self.now slot }
+        requires entry { entry ≡ entry_for F.code self.now key.now }
+        ensures { result ≡ first_from F.Key.cmp F.code self.now slot key.now (entry_for F.code self.now key.now) }
+    {
+        match entry {
+            None => ChainPosition::Below(NOWHERE),
+            Some(address) => {
+                let low = self.lowest(slot);
+                self.records.first(address, key, low)
+            }
+        }
+    }
+
+    /// Whether a session is entered at a slot and the last record of a key that it reads in memory is a delta. Then an update of
+    /// the key would collect its parts, down to a page on the device, it may be.
+    pub fn is_at_delta(&self, slot: usize, functions: &F, key: &F::Key) -> bool
+        ensures { IsTrue result ↔ IsAtDelta F.Key.cmp F.code self.now slot key.now }
+    {
+        if !self.is_session(slot) {
+            return false;
+        }
+        let entry = self.leads(functions, key);
+        is_delta(&self.first(slot, key, entry))
+    }
+
+    /// The lowest address that the session at a slot reads in memory.
+    pub fn lowest(&self, slot: usize) -> Address
+        requires { IsEntered self.now slot }
+        ensures value { result ≡ low_of self.now.records.begin (seen_at self.now slot) }
+        ensures begin { self.now.records.begin ≤ result }
+        ensures closed { self.now.records.regions.offsets.closed ≤ result }
+    {
+        let view = self.records.view(slot);
+        low_of(self.records.begin(), &view)
+    }
+
+    /// What a look-up of a key comes to in memory, no lower than an address that a session reads there ([`Core::lowest`]), by
+    /// the address to which the entry of the key's class leads.
+    pub fn reach(
+        &self,
+        functions: &F,
+        slot: usize,
+        key: &F::Key,
+        low: Address,
+        entry: Option<Address>,
+    ) -> Gathered<F::Key, F::Value>
+        requires begin { self.now.records.begin ≤ low }
+        requires closed { self.now.records.regions.offsets.closed ≤ low }
+        requires entry { entry ≡ entry_for F.code self.now key.now }
+        ensures { result ≡ reached_from F.Key.cmp F.parts.joined F.code self.now slot key.now low
+            (entry_for F.code self.now key.now) }
+    {
+        let _slot = slot;
+        match entry {
+            None => Gathered {
+                parts: None,
+                position: ChainPosition::Below(NOWHERE),
+            },
+            Some(address) => {
+                let first = self.records.first(address, key, low);
+                self.records.gather(functions, address, first, key, low)
+            }
+        }
+    }
+
+    /// What the session at a slot meets, by the address to which the entry of a key's class leads and by the last record of
+    /// the key that it reads in memory.
+    #[inline(always)]
+    pub(crate) fn met(
+        &self,
+        functions: &F,
+        slot: usize,
+        key: &F::Key,
+        entry: Option<Address>,
+        first: &ChainPosition<F::Key, F::Value>,
+    ) -> LookupResult<F::Value>
+        requires entered { IsEntered self.now slot }
+        requires entry { entry ≡ entry_for F.code self.now key.now }
+        requires first { first.now ≡ first_from F.Key.cmp F.code self.now slot key.now
+            (entry_for F.code self.now key.now) }
+        ensures { result ≡ met_at F.Key.cmp F.parts.joined F.code self.now slot key.now }
+    {
+        let view = self.records.view(slot);
+        let begin = self.records.begin();
+        let Some(address) = entry else {
+            return LookupResult::NoEntry;
+        };
+        let low = self.lowest(slot);
+        let came = self.records.gather(functions, address, *first, key, low);
+        met_by(functions, entry, begin, &view, &came)
+    }
+
+    /// What an operation of the session at a slot does for what it meets: by the entry of its key's class, and by the last
+    /// record of its key that it reads in memory. Parts of deltas are not collected for an operation that needs no value.
+    pub(crate) fn decided(
+        &self,
+        slot: usize,
+        functions: &F,
+        op: &KeyedOpOf<F>,
+        entry: Option<Address>,
+        first: &ChainPosition<F::Key, F::Value>,
+    ) -> DecisionOf<F>
+        requires entered { IsEntered self.now slot }
+        requires merging { is_merge op.now ≡ true → self.now.merges ≡ true }
+        requires entry { entry ≡ entry_for F.code self.now (key_of op.now) }
+        requires first { first.now ≡ first_from F.Key.cmp F.code self.now slot (key_of op.now)
+            (entry_for F.code self.now (key_of op.now)) }
+        ensures { result ≡ decision F.meaning op.now
+            (met_at F.Key.cmp F.parts.joined F.code self.now slot (key_of op.now)) }
+    {
+        self.known();
+        let _merges = self.merges();
+        lookups_tell::<F::Key, F::Value>();
+        if is_delta(first) {
+            if let Some(decision) = blind(functions, op) {
+                return decision;
+            }
+        }
+        let met = self.met(functions, slot, &op.key(), entry, first);
+        decide(functions, op, &met)
+    }
+}
+
+/// Whether a look-up came to a delta.
+fn is_delta<K, V>(position: &ChainPosition<K, V>) -> bool
+    ensures { IsTrue result ↔ ((e : Entry K V) × (position.now ≡ ChainPosition.Found e) × (e.delta ≡ true)) }
+{
+    match position {
+        ChainPosition::Found(last) => last.delta,
+        ChainPosition::Below(_) => false,
+    }
+}
