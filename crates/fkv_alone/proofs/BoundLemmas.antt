@@ -55,7 +55,8 @@ use Rattle.fkv_partition.specs.CoreViews.{CoreView, slots_of, seen_at, context_a
 use Rattle.fkv_alone.specs.Stages.{IsReady}
 use Rattle.fkv_alone.specs.Ending.{IsOn}
 use Rattle.fkv_alone.specs.Bound.{is_evicted, evicted, evicted_to, rest_of, NoneClaims, IsMade, IsNear, IsNearer}
-use Rattle.fkv_alone.proofs.OpenLemmas.{open_at, set-here}
+use Rattle.fkv_alone.proofs.OpenLemmas.{set-here}
+use Rattle.fkv_partition.proofs.AskedLemmas.{open_at}
 use Rattle.fkv_alone.proofs.StageLemmas.{some-same, question-rmw}
 use Rattle.fkv_alone.proofs.IndexLemmas.{tentative-tag, tentative-is, tentative-place, confirmed-final, confirmed-tag, alone-made}
 use Rattle.fkv_alone.proofs.CountLemmas.{count-fewer, count-less, last-passes}

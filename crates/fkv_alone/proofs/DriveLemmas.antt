@@ -19,7 +19,8 @@ use Rattle.fkv_partition.specs.Beginning.{IsFirstFree}
 use Rattle.fkv_partition.specs.Views.{PartitionView}
 use Rattle.fkv_alone.specs.Stages.{IsOpen, HasCome}
 use Rattle.fkv_alone.specs.Ending.{IsOver, IsOn, IsHalted}
-use Rattle.fkv_alone.proofs.OpenLemmas.{leaves-then, leaves-own, leaves-self, set-here, set-frame, open_at, context-other}
+use Rattle.fkv_alone.proofs.OpenLemmas.{leaves-then, leaves-own, leaves-self, set-here, set-frame}
+use Rattle.fkv_partition.proofs.AskedLemmas.{open_at, context-other}
 
 module _ {K V I O R : Type 0} (keeps : Bool) (stands : R → Standing) (cmp : K → K → Ordering) (join : V → V → V) (f : Meanings K V I O) (code : K → ℕ) (op : KeyedOp K V I) (old : CoreView K V I) (slot c started : ℕ) where
   -- an operation that is to go on is open

@@ -21,7 +21,7 @@ use Rattle.fkv_partition.specs.CoreViews.{CoreView, slots_of, context_at, with_c
 use Rattle.fkv_partition.specs.Views.{PartitionView, with_core}
 use Rattle.fkv_alone.specs.Stages.{IsReady, IsDone, IsWaiting, HasCome}
 use Rattle.fkv_alone.specs.Ending.{IsOver, IsStop, IsOn, Opens, Drives, Ends}
-use Rattle.fkv_alone.proofs.OpenLemmas.{context-inside, context-other}
+use Rattle.fkv_partition.proofs.AskedLemmas.{context-inside, context-other}
 use Rattle.fkv_alone.proofs.DriveLemmas.{halted-over}
 
 -- an operation was issued in this context
@@ -91,6 +91,7 @@ module _ {K V I : Type 0} (code : K → ℕ) (old new : PartitionView K V I) (sl
               count = ap (λ (u : CoreView K V I). u.count) core;
               begin = ap (λ (u : CoreView K V I). u.records.begin) core;
               regions = ap (λ (u : CoreView K V I). u.records.regions) core;
+              rises = omega arith;
               moment = refl;
             };
           };

@@ -28,7 +28,7 @@ use Rattle.fkv_partition.specs.Beginning.{IssuesOnKey}
 use Rattle.fkv_partition.specs.Effect.{Asked, asked, asked_of, to_find, IsEvent, IsLoad, Finds}
 use Rattle.fkv_partition.specs.Events.{Issues, Goes, Installs, Loads, LoadsBy, WaitsFor}
 use Rattle.fkv_partition.specs.Views.{PartitionView, relocation_at, with_core}
-use Rattle.fkv_partition.proofs.EffectLemmas.{keyed-op}
+use Rattle.fkv_partition.proofs.AskedLemmas.{keyed-op}
 use Rattle.fkv_alone.proofs.StageLemmas.{Asks, Finishes, Tells}
 
 -- an operation on a key is no relocation, and is a read where it is one of all operations

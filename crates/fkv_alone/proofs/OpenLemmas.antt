@@ -1,51 +1,15 @@
 -- An open operation over each change of its context.
 use Rattle.std.proofs.Common.{◌≡◌, ◌≢◌, Bool, true, false, cond, ◌&&◌, ℕ, ◌+◌, ◌*◌, ◌<◌, ◌⊎◌, inl, inr, List, Option, Some, None, option_map, slice_get, slice_set, nat_lt, refl, ◌∙◌, ap, arith}
-use Rattle.std.proofs.lemmas.Bool.Decides.{nat_tests}
-use Rattle.fkv_functions.proofs.ListLemmas.{get-set_same, get-set_other}
 use Rattle.fkv_regions.specs.RegionsView.{RegionsView}
 use Rattle.fkv_operations.specs.declared.operations.KeyedOp.{KeyedOp}
 use Rattle.fkv_lookups.specs.RecordsViews.{RecordsView}
 use Rattle.fkv_partition.specs.Context.{Context}
-use Rattle.fkv_partition.specs.CoreContexts.{joined, is_session, context_in}
-use Rattle.fkv_partition.specs.CoreViews.{CoreView, slots_of, context_at, with_context}
+use Rattle.fkv_partition.specs.CoreContexts.{context_in}
+use Rattle.fkv_partition.specs.CoreViews.{CoreView, context_at, with_context}
 use Rattle.fkv_partition.specs.CoreEffect.{asked_by, LeavesOthers}
+use Rattle.fkv_partition.proofs.AskedLemmas.{context-same, asked-other}
 use Rattle.fkv_alone.specs.Stages.{IsOpen}
 use Rattle.fkv_alone.specs.Ending.{IsOver}
-
-joined-some : {A : Type 0} (o : Option (Option A)) (x : A) → joined o ≡ Some x → o ≡ Some (Some x)
-joined-some None x h = absurd (cc)
-joined-some (Some y) x h = ap Some h
-
--- what an open context has
-pub record IsOpenAt {K V I : Type 0} (slots : List (Option ℕ)) (contexts : List (Option (Context K V I))) (slot c : ℕ) (x : Context K V I) : Type 0 where
-  pub inside : is_session slots slot ≡ true
-  pub low : c < 8
-  pub here : slice_get contexts (slot * 8 + c) ≡ Some (Some x)
-
-pub open_at : {K V I : Type 0} (slots : List (Option ℕ)) (contexts : List (Option (Context K V I))) (slot c : ℕ) (x : Context K V I) → context_in slots contexts slot c ≡ Some x → IsOpenAt slots contexts slot c x
-open_at slots contexts slot c x h = by_cases (is_session slots slot) (nat_lt c 8) refl refl h
-  where
-    by_cases : (a b : Bool) → is_session slots slot ≡ a → nat_lt c 8 ≡ b → cond (a && b) (joined (slice_get contexts (slot * 8 + c))) None ≡ Some x → IsOpenAt slots contexts slot c x
-    by_cases true true p q e = record { inside = p; low = grind (arith, nat_tests); here = joined-some (slice_get contexts (slot * 8 + c)) x e }
-    by_cases true false p q e = absurd (cc)
-    by_cases false b p q e = absurd (cc)
-
-pub context-inside : {K V I : Type 0} (slots : List (Option ℕ)) (contexts : List (Option (Context K V I))) (slot c : ℕ) → is_session slots slot ≡ true → c < 8 → context_in slots contexts slot c ≡ joined (slice_get contexts (slot * 8 + c))
-context-inside slots contexts slot c h low = let t : nat_lt c 8 ≡ true = grind (arith, nat_tests) in rw (h, t) refl
-
-and-false : (a : Bool) → (a && false) ≡ false
-and-false true = refl
-and-false false = refl
-
-pub context-other : {K V I : Type 0} (slots : List (Option ℕ)) (contexts : List (Option (Context K V I))) (slot c s d : ℕ) (y : Option (Context K V I)) → c < 8 → (s ≢ slot) ⊎ (d ≢ c) → context_in slots (slice_set contexts (slot * 8 + c) y) s d ≡ context_in slots contexts s d
-context-other slots contexts slot c s d y low other = by_cases (nat_lt d 8) refl
-  where
-    apart : d < 8 → s * 8 + d ≢ slot * 8 + c
-    apart h e = elim other [ inl a ↦ a (omega arith) | inr b ↦ b (omega arith) ]
-
-    by_cases : (b : Bool) → nat_lt d 8 ≡ b → context_in slots (slice_set contexts (slot * 8 + c) y) s d ≡ context_in slots contexts s d
-    by_cases true t = ap (λ o. cond (is_session slots s && nat_lt d 8) (joined o) None) (get-set_other contexts (slot * 8 + c) (s * 8 + d) y (apart (grind (arith, nat_tests))))
-    by_cases false t = rw (t, and-false (is_session slots s)) refl
 
 -- the view with another operation, or none, in a context, and other records of the same log
 abbrev pub with_both : {K V I : Type 0} → CoreView K V I → ℕ → ℕ → Option (Context K V I) → ℕ → RecordsView K V → CoreView K V I
@@ -54,22 +18,19 @@ with_both v slot c y now r = record (with_context v slot c y now) { records = r 
 module _ {K V I : Type 0} (v : CoreView K V I) (slot c now : ℕ) (x : Context K V I) (h : context_at v slot c ≡ Some x) (y : Option (Context K V I)) (r : RecordsView K V) (regions : r.regions ≡ v.records.regions) where
   -- the changed context
   pub set-here : context_at (with_both v slot c y now r) slot c ≡ y
-  set-here =
-      let o = open_at (slots_of v) v.contexts slot c x h in
-      ap (λ (g : RegionsView). context_in g.epochs.slots (slice_set v.contexts (slot * 8 + c) y) slot c) regions
-      ∙ context-inside (slots_of v) (slice_set v.contexts (slot * 8 + c) y) slot c o.inside o.low
-      ∙ ap joined (get-set_same v.contexts (slot * 8 + c) (Some x) y o.here)
+  set-here = ap (λ (g : RegionsView). context_in g.epochs.slots (with_context v slot c y now).contexts slot c) regions ∙ context-same v slot c now x h y
 
   -- and every other one
   pub set-frame : r.begin ≡ v.records.begin → LeavesOthers v (with_both v slot c y now r) slot c now
   set-frame begin = record {
     others = λ s d other.
-        ap (λ (g : RegionsView). option_map asked_by (context_in g.epochs.slots (slice_set v.contexts (slot * 8 + c) y) s d)) regions
-        ∙ ap (option_map asked_by) (context-other (slots_of v) v.contexts slot c s d y (open_at (slots_of v) v.contexts slot c x h).low other);
+        ap (λ (g : RegionsView). option_map asked_by (context_in g.epochs.slots (with_context v slot c y now).contexts s d)) regions
+        ∙ asked-other v slot c now x h y s d other;
     number = refl;
     count = refl;
     begin = begin;
     regions = regions;
+    rises = omega arith;
     moment = refl;
   }
 
@@ -82,15 +43,16 @@ module _ {K V I : Type 0} where
     count = g.count ∙ f.count;
     begin = g.begin ∙ f.begin;
     regions = g.regions ∙ f.regions;
+    rises = omega arith;
     moment = g.moment;
   }
 
   -- the moment is the partition's own
   pub leaves-own : (a b : CoreView K V I) (slot c m : ℕ) → LeavesOthers a b slot c m → LeavesOthers a b slot c b.moment
-  leaves-own a b slot c m f = record { others = f.others; number = f.number; count = f.count; begin = f.begin; regions = f.regions; moment = refl }
+  leaves-own a b slot c m f = record { others = f.others; number = f.number; count = f.count; begin = f.begin; regions = f.regions; rises = f.rises; moment = refl }
 
   pub leaves-self : (v : CoreView K V I) (slot c : ℕ) → LeavesOthers v v slot c v.moment
-  leaves-self v slot c = record { others = λ s d other. refl; number = refl; count = refl; begin = refl; regions = refl; moment = refl }
+  leaves-self v slot c = record { others = λ s d other. refl; number = refl; count = refl; begin = refl; regions = refl; rises = omega arith; moment = refl }
 
   -- what two events leave, from the first partition
   pub frames : (old v w : CoreView K V I) (slot c now : ℕ) → LeavesOthers old v slot c v.moment → LeavesOthers v w slot c now → LeavesOthers old w slot c w.moment
@@ -111,7 +73,7 @@ module _ {K V I : Type 0} where
 
     -- a moment passes
     pub open-pass : (now : ℕ) → v.moment < now → IsOpen op old (record v { moment = now }) slot c started x
-    open-pass now later = open-on (record v { moment = now }) now x later o.here refl refl refl (record { others = λ s d other. refl; number = refl; count = refl; begin = refl; regions = refl; moment = refl })
+    open-pass now later = open-on (record v { moment = now }) now x later o.here refl refl refl (record { others = λ s d other. refl; number = refl; count = refl; begin = refl; regions = refl; rises = omega arith; moment = refl })
 
     -- it moves to another phase
     pub open-set : (now : ℕ) (y : Context K V I) (r : RecordsView K V) → v.moment < now → y.number ≡ x.number → y.op ≡ x.op → r ≡ record v.records { words = r.words }

@@ -21,7 +21,7 @@ use Rattle.fkv_partition.specs.Beginning.{IssuesOnKey}
 use Rattle.fkv_partition.specs.Views.{PartitionView}
 use Rattle.fkv_alone.specs.Spoilt.{Spelling, IsSpoilt}
 use Rattle.fkv_alone.specs.Stages.{IsFetching}
-use Rattle.fkv_alone.proofs.OpenLemmas.{open_at}
+use Rattle.fkv_partition.proofs.AskedLemmas.{open_at}
 
 -- no event but a load finds damage
 pub goes-undamaged : {K V I O R : Type 0} {stands : R → Standing} {cmp : K → K → Ordering} {join : V → V → V} {f : Meanings K V I O} {code : K → ℕ} {v w : CoreView K V I} {slot c now page : ℕ} → Goes {O = O} {R = R} stands cmp join f code v w slot c now (Err (Damaged page)) → ⊥

@@ -36,6 +36,9 @@ use Rattle.fkv_partition.specs.Pending.{Pending, pending, pending_of}
 use Rattle.fkv_partition.specs.CoreViews.{CoreView, context_at, with_context, live_of}
 use Rattle.fkv_alone.specs.Stages.{IsOpen, IsReady, IsAsking, IsFetching, IsHeldUp, IsDone, HasCome}
 use Rattle.fkv_alone.specs.Ending.{IsOver, IsStop, Advances}
+use Rattle.fkv_operations.specs.Operations.{op_of, map_after, answer_to}
+use Rattle.fkv_operations.specs.declared.operations.Op.{Op}
+use Rattle.fkv_partition.proofs.AskedLemmas.{of-after, of-answer, op-same}
 use Rattle.fkv_alone.proofs.OpenLemmas.{set-here, set-frame, frames, open-pass, open-set, open-over}
 
 pub some-same : {A : Type 0} (x y : A) (o : Option A) → o ≡ Some x → o ≡ Some y → x ≡ y
@@ -87,7 +90,7 @@ module _ {K V I : Type 0} (op : KeyedOp K V I) (old v : CoreView K V I) (slot c 
 
   module _ (x : Context K V I) (o : IsOpen op old v slot c started x) where
     -- what it asks
-    open-asks : (q : Asked K V I) → asked v slot c ≡ Some q → q.op ≡ x.op
+    open-asks : (q : Asked K V I) → asked v slot c ≡ Some q → q.op ≡ op_of x.op
     open-asks q h =
         let same : asked_by x ≡ q = some-same (asked_by x) q (asked v slot c) (ap (option_map asked_by) o.here) h in
         sym (ap (λ (a : Asked K V I). a.op) same)
@@ -134,7 +137,7 @@ module _ {K V I O R : Type 0} (keeps : Bool) (stands : R → Standing) (cmp : K 
       let ev : IsEvent cmp f v w slot c now (Done a now) = subst (IsEvent cmp f v w slot c now) e event in
       told-as p (Done a now) e (done-told op old v slot c started x o keeps cmp f w now a later (mapped-none asked_by (context_at w slot c) ev.effect.0) ev.frame
       (λ kept. let q = open-asks op old v slot c started x o ev.question ev.was in
-      (subst (λ (z : KeyedOp K V I). Same (live_of cmp w) (after cmp f (live_of cmp v) z)) q ev.effect.2, ev.effect.3 ∙ ap (answer f (live_of cmp v)) q)))
+      (of-after cmp f (live_of cmp v) (live_of cmp w) x.op (subst (λ (z : Op K V I). Same (live_of cmp w) (map_after cmp f (live_of cmp v) z)) q ev.effect.2), of-answer f (live_of cmp v) x.op a (ev.effect.3 ∙ ap (answer_to f (live_of cmp v)) q))))
 
   asked-page : (x : Context K V I) (b : ℕ) (parts : Option V) (e : IndexEntry) (receipt : R) → IsOpen op old v slot c started x → IsHeldBy v.records.receipts (page_at v.records.page_bits b) (stands receipt)
       → w ≡ with_context v slot c (Some (at_phase x (Load (record { begin = v.records.begin; kept = e; wanted = b; parts = parts; looked = now })))) now
@@ -202,7 +205,7 @@ module _ {K V I O R : Type 0} (keeps : Bool) (stands : R → Standing) (cmp : K 
       let o = open-same op old v slot c started h.operation x h.open_is d.here in
       let ev : IsEvent cmp f v w slot c now (NeedsBuild ask) = subst (IsEvent cmp f v w slot c now) t event in
       let same : asked_by x ≡ ev.question = some-same (asked_by x) ev.question (asked v slot c) (ap (option_map asked_by) d.here) ev.was in
-      let is_rmw : x.op ≡ Rmw (key_of x.op) i = ap (λ (a : Asked K V I). a.op) same ∙ ev.effect.3 in
+      let is_rmw : x.op ≡ Rmw (key_of x.op) i = op-same x.op (Rmw (key_of x.op) i) (ap (λ (a : Asked K V I). a.op) same ∙ ev.effect.3) in
       told-as p (NeedsBuild ask) t (rw is (record {
         operation = at_phase x (Prepared e source);
         open_is = open-set op old v slot c started x o now (at_phase x (Prepared e source)) v.records later refl refl refl;

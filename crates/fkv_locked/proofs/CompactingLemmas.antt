@@ -24,7 +24,7 @@ use Rattle.fkv_partition.specs.Reading.{LoadsOn}
 use Rattle.fkv_partition.specs.Relocating.{IsRelocating}
 use Rattle.fkv_partition.specs.Views.{PartitionView, relocation_at, with_relocation}
 use Rattle.fkv_partition.specs.declared.relocations.Relocation.{Relocation}
-use Rattle.fkv_partition.proofs.EffectLemmas.{keyed-op}
+use Rattle.fkv_partition.proofs.AskedLemmas.{keyed-op}
 use Rattle.fkv_compaction.specs.Compactor.{IsTurn, CompactsNext, CompactsLoad, GivesUpAll, Parts}
 use Rattle.fkv_histories.specs.declared.entries.Entry.{Entry}
 use Rattle.fkv_locked.specs.Compacting.{IsRelocationProgress}

@@ -15,7 +15,8 @@ use Rattle.fkv_operations.specs.declared.operations.Op.{Op}
 use Rattle.fkv_partition.specs.Pending.{Pending}
 use Rattle.fkv_partition.specs.Effect.{Asked}
 use Rattle.fkv_partition.specs.Views.{PartitionView}
-use Rattle.fkv_partition.proofs.EffectLemmas.{keyed-op, closed-pending, asked-low}
+use Rattle.fkv_partition.proofs.EffectLemmas.{closed-pending, asked-low}
+use Rattle.fkv_partition.proofs.AskedLemmas.{keyed-op}
 use Rattle.fkv_histories.specs.declared.entries.Entry.{Entry}
 use Rattle.fkv_histories.specs.Histories.{is_update_entry, updates, map_of, map_at, IsLegal}
 use Rattle.fkv_histories.proofs.HistoryLemmas.{updates_none, map_at-more, map_at-all, history_map, legal_more}

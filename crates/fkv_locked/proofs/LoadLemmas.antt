@@ -28,7 +28,8 @@ use Rattle.fkv_partition.specs.Events.{Loads}
 use Rattle.fkv_partition.specs.Effect.{Asked, asked, IsEvent, IsLoaded, IsLoad, Finds, to_find}
 use Rattle.fkv_partition.specs.Sound.{IsCompacting}
 use Rattle.fkv_partition.specs.Views.{PartitionView}
-use Rattle.fkv_partition.proofs.EffectLemmas.{keyed-op, relocation-asked}
+use Rattle.fkv_partition.proofs.EffectLemmas.{relocation-asked}
+use Rattle.fkv_partition.proofs.AskedLemmas.{keyed-op}
 use Rattle.fkv_locked.specs.declared.seats.Mine.{Mine}
 use Rattle.fkv_locked.specs.Turns.{question_of, HasCome, IsCome}
 use Rattle.fkv_locked.proofs.KeptLemmas.{op-same}

@@ -14,7 +14,8 @@ use Rattle.fkv_partition.specs.Pending.{AllPend, OthersPend, pending}
 use Rattle.fkv_partition.specs.CoreViews.{live_of}
 use Rattle.fkv_partition.specs.Effect.{Asked, asked, to_find, IsQuiet, IsIssue, IsGiveUp}
 use Rattle.fkv_partition.specs.Views.{PartitionView}
-use Rattle.fkv_partition.proofs.EffectLemmas.{keyed-op, asked-low}
+use Rattle.fkv_partition.proofs.EffectLemmas.{asked-low}
+use Rattle.fkv_partition.proofs.AskedLemmas.{keyed-op}
 use Rattle.fkv_histories.specs.declared.entries.Entry.{Entry}
 use Rattle.fkv_histories.specs.Histories.{updates}
 use Rattle.fkv_locked.specs.declared.seats.Mine.{Mine}

@@ -5,12 +5,44 @@ use Rattle.std.proofs.lemmas.Option.{slice_get_cases}
 use Rattle.std.proofs.lemmas.Bool.Decides.{nat_tests}
 use Rattle.std.specs.List.{position_or_len}
 use Rattle.std.specs.Option.{option_flatten}
+use Rattle.std.specs.declared.cmp.Ordering.{Ordering}
+use Rattle.fkv_functions.specs.Meanings.{Meanings}
+use Rattle.fkv_functions.specs.Plain.{PlainMap, Same}
+use Rattle.fkv_operations.specs.After.{after, answer}
+use Rattle.fkv_operations.specs.Operations.{keyed, op_of, map_after, after_keyed, answer_to, answer_keyed}
+use Rattle.fkv_operations.specs.declared.operations.Answer.{Answer}
+use Rattle.fkv_operations.specs.declared.operations.KeyedOp.{KeyedOp}
+use Rattle.fkv_operations.specs.declared.operations.KeyedOp.TheVariants.{Read, Upsert, Rmw, Delete, Merge}
 use Rattle.fkv_partition.specs.declared.contexts.Context.{Context}
 use Rattle.fkv_partition.specs.CoreContexts.{joined, is_session, context_in}
 use Rattle.fkv_partition.specs.CoreViews.{CoreView, slots_of, context_at, with_context, free_slot, open_context}
 use Rattle.fkv_partition.specs.CoreEffect.{asked, asked_by}
 use Rattle.fkv_functions.proofs.ListLemmas.{get-set_same, get-set_other}
 
+-- ---- operations on keys among all operations
+pub keyed-op : {K V I : Type 0} (o : KeyedOp K V I) → keyed (op_of o) ≡ Some o
+keyed-op (Read k i) = refl
+keyed-op (Upsert k v) = refl
+keyed-op (Rmw k i) = refl
+keyed-op (Delete k) = refl
+keyed-op (Merge k i) = refl
+
+pub after-op : {K V I O : Type 0} (cmp : K → K → Ordering) (f : Meanings K V I O) (m n : PlainMap K V) (op : KeyedOp K V I) → Same n (after cmp f m op) → Same n (map_after cmp f m (op_of op))
+after-op {K} {V} {I} cmp f m n op h q = h q ∙ ap (λ (o : Option (KeyedOp K V I)). after_keyed cmp f m o q) (sym (keyed-op op))
+
+pub answer-op : {K V I O : Type 0} (f : Meanings K V I O) (m : PlainMap K V) (op : KeyedOp K V I) (a : Answer O) → a ≡ answer f m op → a ≡ answer_to f m (op_of op)
+answer-op {K} {V} {I} f m op a h = h ∙ ap (λ (o : Option (KeyedOp K V I)). answer_keyed f m o) (sym (keyed-op op))
+
+pub of-after : {K V I O : Type 0} (cmp : K → K → Ordering) (f : Meanings K V I O) (m n : PlainMap K V) (op : KeyedOp K V I) → Same n (map_after cmp f m (op_of op)) → Same n (after cmp f m op)
+of-after {K} {V} {I} cmp f m n op h q = h q ∙ ap (λ (o : Option (KeyedOp K V I)). after_keyed cmp f m o q) (keyed-op op)
+
+pub of-answer : {K V I O : Type 0} (f : Meanings K V I O) (m : PlainMap K V) (op : KeyedOp K V I) (a : Answer O) → a ≡ answer_to f m (op_of op) → a ≡ answer f m op
+of-answer {K} {V} {I} f m op a h = h ∙ ap (λ (o : Option (KeyedOp K V I)). answer_keyed f m o) (keyed-op op)
+
+pub op-same : {K V I : Type 0} (a b : KeyedOp K V I) → op_of a ≡ op_of b → a ≡ b
+op-same a b h = let both : Some a ≡ Some b = sym (keyed-op a) ∙ ap keyed h ∙ keyed-op b in cc
+
+-- ---- contexts
 joined-some : {A : Type 0} (o : Option (Option A)) (x : A) → joined o ≡ Some x → o ≡ Some (Some x)
 joined-some None x h = absurd (cc)
 joined-some (Some y) x h = ap Some h

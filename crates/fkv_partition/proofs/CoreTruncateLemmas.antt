@@ -40,7 +40,7 @@ use Rattle.fkv_partition.specs.declared.contexts.Phase.{Phase}
 use Rattle.fkv_partition.specs.declared.contexts.Phase.TheVariants.{Fresh, Confirm, Prepared, Load}
 use Rattle.fkv_partition.specs.Pending.{pending_by, pending_of}
 use Rattle.fkv_partition.specs.CoreSound.{IsKept, IsLoading, StandsFor, IsSound}
-use Rattle.fkv_partition.specs.CoreTruncating.{IsTruncation}
+use Rattle.fkv_partition.specs.CoreEffect.{IsTruncation}
 use Rattle.fkv_partition.specs.CoreViews.{CoreView, context_at}
 use Rattle.fkv_partition.proofs.EventLemmas.{stands-at}
 
@@ -397,5 +397,6 @@ module _ {K V I : Type 0} {keeps : Bool} (cmp : K → K → Ordering) (join : V 
     regions = refl;
     number = refl;
     count = refl;
+    cleared = refl;
     moment = refl;
   }

@@ -9,10 +9,9 @@ use Rattle.fkv_functions.specs.declared.refusals.Refused.{Refused}
 use Rattle.fkv_functions.proofs.ListLemmas.{get-set_same}
 use Rattle.fkv_regions.specs.RegionsView.{RegionsView}
 use Rattle.fkv_operations.specs.After.{key_of}
-use Rattle.fkv_operations.specs.Operations.{keyed, op_of, after_keyed, answer_keyed}
+use Rattle.fkv_operations.specs.Operations.{keyed, op_of}
 use Rattle.fkv_operations.specs.declared.operations.Answer.TheVariants.{Cleared}
 use Rattle.fkv_operations.specs.declared.operations.KeyedOp.{KeyedOp}
-use Rattle.fkv_operations.specs.declared.operations.KeyedOp.TheVariants.{Read, Upsert, Rmw, Delete, Merge}
 use Rattle.fkv_operations.specs.declared.operations.Op.TheVariants.{Relocate}
 use Rattle.fkv_partition.specs.declared.contexts.Context.{Context}
 use Rattle.fkv_partition.specs.declared.contexts.Progress.{Progress}
@@ -20,25 +19,15 @@ use Rattle.fkv_partition.specs.declared.contexts.Progress.TheVariants.{Done, Nex
 use Rattle.fkv_partition.specs.CoreContexts.{joined, is_session, context_in}
 use Rattle.fkv_partition.specs.CoreEffect as key_effect
 use Rattle.fkv_partition.specs.Grown.{AllStay}
-use Rattle.fkv_partition.specs.Pending as key_pending
 use Rattle.fkv_partition.specs.Pending.{Pending, pending, pending_of, OthersPend}
-use Rattle.fkv_partition.specs.CoreTruncating as key_truncating
 use Rattle.fkv_partition.specs.CoreViews.{CoreView, slots_of, context_at, live_of, partition_of}
 use Rattle.fkv_partition.proofs.AskedLemmas.{open_at, context-inside, free-here}
 use Rattle.fkv_partition.specs.declared.relocations.Relocation.{Relocation}
-use Rattle.fkv_partition.specs.Effect.{Asked, asked_by, asked_of, asked, HasEffect, LeavesOthers, IsQuiet, IsIssue, IsEvent, IsGiveUp, to_find, Finds, HasLoaded, IsLoaded, IsTruncation}
+use Rattle.fkv_partition.specs.Effect.{Asked, asked_of, asked, HasEffect, LeavesOthers, IsQuiet, IsIssue, IsEvent, IsGiveUp, to_find, Finds, HasLoaded, IsLoaded, IsTruncation}
 use Rattle.fkv_partition.specs.Relocating.{IsRelocating}
 use Rattle.fkv_partition.specs.Sound.{IsCompacting}
 use Rattle.fkv_partition.specs.Views.{PartitionView, with_core, relocation_at, with_relocation}
 use Rattle.fkv_partition.proofs.MoveLemmas.{open-here}
-
--- an operation on a key is one of all operations
-pub keyed-op : {K V I : Type 0} (o : KeyedOp K V I) → keyed (op_of o) ≡ Some o
-keyed-op (Read k i) = refl
-keyed-op (Upsert k v) = refl
-keyed-op (Rmw k i) = refl
-keyed-op (Delete k) = refl
-keyed-op (Merge k i) = refl
 
 -- ---- what is told of a result that is Ok
 pub if-ok : {A : Type 0} {P Q : A → Type 0} (r : Result A Refused) → ((x : A) → P x → Q x) → IfOk r P → IfOk r Q
@@ -60,19 +49,19 @@ on-ok (Err e) f h = tt
 -- ---- what a context asks
 module _ {K V I : Type 0} (v : PartitionView K V I) (slot c : ℕ) where
   pub asked-none : key_effect.asked v.core slot c ≡ None → relocation_at v slot c ≡ None → asked v slot c ≡ None
-  asked-none a b = ap (λ (o : Option (key_effect.Asked K V I)). asked_of o (relocation_at v slot c)) a ∙ ap (λ (r : Option (Relocation K V)). asked_of {I = I} None r) b
+  asked-none a b = ap (λ (o : Option (Asked K V I)). asked_of o (relocation_at v slot c)) a ∙ ap (λ (r : Option (Relocation K V)). asked_of {I = I} None r) b
 
-  pub asked-key : (x : key_effect.Asked K V I) → key_effect.asked v.core slot c ≡ Some x → asked v slot c ≡ Some (asked_by x)
-  asked-key x h = ap (λ (o : Option (key_effect.Asked K V I)). asked_of o (relocation_at v slot c)) h
+  pub asked-key : (x : Asked K V I) → key_effect.asked v.core slot c ≡ Some x → asked v slot c ≡ Some x
+  asked-key x h = ap (λ (o : Option (Asked K V I)). asked_of o (relocation_at v slot c)) h
 
   pub asked-relocation : (x : Relocation K V) → key_effect.asked v.core slot c ≡ None → relocation_at v slot c ≡ Some x → asked v slot c ≡ Some (record { number = x.number; op = Relocate })
-  asked-relocation x a b = ap (λ (o : Option (key_effect.Asked K V I)). asked_of o (relocation_at v slot c)) a ∙ ap (λ (r : Option (Relocation K V)). asked_of {I = I} None r) b
+  asked-relocation x a b = ap (λ (o : Option (Asked K V I)). asked_of o (relocation_at v slot c)) a ∙ ap (λ (r : Option (Relocation K V)). asked_of {I = I} None r) b
 
   -- a context in which nothing is asked holds nothing
   pub nothing-asked : asked v slot c ≡ None → (key_effect.asked v.core slot c ≡ None) × (relocation_at v slot c ≡ None)
   nothing-asked h = by_parts (key_effect.asked v.core slot c) (relocation_at v slot c) refl refl h
     where
-      by_parts : (a : Option (key_effect.Asked K V I)) (r : Option (Relocation K V)) → key_effect.asked v.core slot c ≡ a → relocation_at v slot c ≡ r → asked_of a r ≡ None → (key_effect.asked v.core slot c ≡ None) × (relocation_at v slot c ≡ None)
+      by_parts : (a : Option (Asked K V I)) (r : Option (Relocation K V)) → key_effect.asked v.core slot c ≡ a → relocation_at v slot c ≡ r → asked_of a r ≡ None → (key_effect.asked v.core slot c ≡ None) × (relocation_at v slot c ≡ None)
       by_parts (Some x) r p q e = absurd (cc)
       by_parts None (Some r) p q e = absurd (cc)
       by_parts None None p q e = (p, q)
@@ -163,7 +152,7 @@ module _ {K V I : Type 0} (v : PartitionView K V I) (new : CoreView K V I) where
     moment = q.moment;
   }
 
-  pub truncated-event : {keeps : Bool} {cmp : K → K → Ordering} (page now : ℕ) → key_truncating.IsTruncation keeps cmp v.core new page now → IsTruncation keeps cmp v (with_core v new) page now
+  pub truncated-event : {keeps : Bool} {cmp : K → K → Ordering} (page now : ℕ) → key_effect.IsTruncation keeps cmp v.core new page now → IsTruncation keeps cmp v (with_core v new) page now
   truncated-event page now t = record {
     same = λ s d. ap (λ o. asked_of o (relocation_at (with_core v new) s d)) (t.same s d) ∙ ap (asked_of (key_effect.asked v.core s d)) (relocations-same t.regions s d);
     pend = t.pend;
@@ -195,52 +184,44 @@ module _ {K V I : Type 0} (v : PartitionView K V I) (new : CoreView K V I) where
     pub key-issue : (code : K → ℕ) (op : KeyedOp K V I) → key_effect.IsIssue code v.core new slot c op now → IsIssue code v (with_core v new) slot c (op_of op) now
     key-issue code op i = record {
       closed = asked-none v slot c i.closed none;
-      opened = asked-key (with_core v new) slot c (record { number = now; op = op }) i.opened;
-      own = λ o h. (let both : Some op ≡ Some o = sym (keyed-op op) ∙ h in let same : op ≡ o = cc in subst (λ (p : KeyedOp K V I). partition_of v.core.count (code (key_of p)) ≡ v.core.number) same i.own);
+      opened = asked-key (with_core v new) slot c (record { number = now; op = op_of op }) i.opened;
+      own = i.own;
       text = i.text;
       cleared = refl;
       frame = key-frame i.frame;
     }
 
     module _ {O : Type 0} (cmp : K → K → Ordering) (f : Meanings K V I O) where
-      key-effect : {R : Type 0} → relocation_at (with_core v new) slot c ≡ None → (m m' : PlainMap K V) (x : key_effect.Asked K V I) (progress : Progress K V I O R)
-          → key_effect.HasEffect cmp f m m' now x (key_effect.asked new slot c) progress
-          → HasEffect cmp f m m' now (asked_by x) (asked (with_core v new) slot c) progress
-      key-effect out m m' x (Done a effect) h = (
-        asked-none (with_core v new) slot c h.0 out,
-        h.1,
-        (λ q. h.2 q ∙ ap (λ (o : Option (KeyedOp K V I)). after_keyed cmp f m o q) (sym (keyed-op x.op))),
-        h.3 ∙ ap (λ (o : Option (KeyedOp K V I)). answer_keyed f m o) (sym (keyed-op x.op)),
-      )
+      key-effect : {R : Type 0} → relocation_at (with_core v new) slot c ≡ None → (m m' : PlainMap K V) (x : Asked K V I) (progress : Progress K V I O R)
+          → HasEffect cmp f m m' now x (key_effect.asked new slot c) progress
+          → HasEffect cmp f m m' now x (asked (with_core v new) slot c) progress
+      key-effect out m m' x (Done a effect) h = (asked-none (with_core v new) slot c h.0 out, h.1, h.2, h.3)
       key-effect out m m' x Next h = (asked-key (with_core v new) slot c x h.0, h.1)
       key-effect out m m' x (Waits why) h = (asked-key (with_core v new) slot c x h.0, h.1)
       key-effect out m m' x (NeedsLoad r a) h = (asked-key (with_core v new) slot c x h.0, h.1)
-      key-effect out m m' x (NeedsBuild ask) h = (asked-key (with_core v new) slot c x h.0, h.1, h.2, ap op_of h.3)
+      key-effect out m m' x (NeedsBuild ask) h = (asked-key (with_core v new) slot c x h.0, h.1, h.2, h.3)
 
       pub key-event : {R : Type 0} (progress : Progress K V I O R) → key_effect.IsEvent cmp f v.core new slot c now progress → IsEvent cmp f v (with_core v new) slot c now progress
       key-event progress e = record {
-        question = asked_by e.question;
+        question = e.question;
         was = asked-key v slot c e.question e.was;
         effect = key-effect (gone e.frame) (live_of cmp v.core) (live_of cmp new) e.question progress e.effect;
         cleared = λ o h. refl;
         frame = key-frame e.frame;
       }
 
-      key-loaded : {R : Type 0} → relocation_at (with_core v new) slot c ≡ None → (x : key_effect.Asked K V I) (was then : Option (Pending V)) (progress : Progress K V I O R)
-          → key_pending.HasLoaded f x (key_effect.asked new slot c) was then progress
-          → HasLoaded f (asked_by x) (asked (with_core v new) slot c) was then progress
-      key-loaded out x was then (Done a effect) h = (
-        asked-none (with_core v new) slot c h.0 out,
-        (h.1.0, h.1.1, h.1.2, (key_of x.op, h.1.3.0, ap op_of h.1.3.1, h.1.3.2)),
-      )
+      key-loaded : {R : Type 0} → relocation_at (with_core v new) slot c ≡ None → (x : Asked K V I) (was then : Option (Pending V)) (progress : Progress K V I O R)
+          → HasLoaded f x (key_effect.asked new slot c) was then progress
+          → HasLoaded f x (asked (with_core v new) slot c) was then progress
+      key-loaded out x was then (Done a effect) h = (asked-none (with_core v new) slot c h.0 out, h.1)
       key-loaded out x was then Next h = (asked-key (with_core v new) slot c x h.0, h.1, h.2)
       key-loaded out x was then (Waits why) h = absurd h
       key-loaded out x was then (NeedsLoad r b) h = (asked-key (with_core v new) slot c x h.0, h.1)
-      key-loaded out x was then (NeedsBuild ask) h = (asked-key (with_core v new) slot c x h.0, h.1, h.2, ap op_of h.3, h.4)
+      key-loaded out x was then (NeedsBuild ask) h = (asked-key (with_core v new) slot c x h.0, h.1, h.2, h.3, h.4)
 
-      pub key-load : {R : Type 0} (progress : Progress K V I O R) → key_pending.IsLoad cmp f v.core new slot c now progress → IsLoaded cmp f v (with_core v new) slot c now progress
+      pub key-load : {R : Type 0} (progress : Progress K V I O R) → key_effect.IsLoaded cmp f v.core new slot c now progress → IsLoaded cmp f v (with_core v new) slot c now progress
       key-load progress l = record {
-        question = asked_by l.question;
+        question = l.question;
         was = asked-key v slot c l.question l.was;
         effect = key-loaded (gone l.frame) l.question (pending cmp v.core slot c) (pending cmp new slot c) progress l.effect;
         live = l.live;
@@ -250,7 +231,7 @@ module _ {K V I : Type 0} (v : PartitionView K V I) (new : CoreView K V I) where
 
     pub key-give-up : key_effect.IsGiveUp v.core new slot c now → IsGiveUp v (with_core v new) slot c now
     key-give-up g = record {
-      question = asked_by g.question;
+      question = g.question;
       was = asked-key v slot c g.question g.was;
       closed = asked-none (with_core v new) slot c g.closed (gone g.frame);
       text = g.text;
@@ -258,18 +239,12 @@ module _ {K V I : Type 0} (v : PartitionView K V I) (new : CoreView K V I) where
       frame = key-frame g.frame;
     }
 
-    pub key-finds : {O R : Type 0} (cmp : K → K → Ordering) (progress : Progress K V I O R) → key_pending.Finds cmp v.core new slot c now progress → Finds cmp v (with_core v new) slot c now progress
+    pub key-finds : {O R : Type 0} (cmp : K → K → Ordering) (progress : Progress K V I O R) → key_effect.Finds cmp v.core new slot c now progress → Finds cmp v (with_core v new) slot c now progress
     key-finds cmp (Done a effect) h = h
     key-finds cmp Next h = h
     key-finds cmp (NeedsBuild ask) h = h
     key-finds cmp (Waits why) h = h
-    key-finds cmp (NeedsLoad r a) h =
-        let x = key_effect.asked_by h.operation in
-        record {
-          question = asked_by x;
-          was = asked-key v slot c x (ap (option_map key_effect.asked_by) h.was);
-          asks = h.asks ∙ ap (to_find cmp v now) (sym (keyed-op h.operation.op));
-        }
+    key-finds cmp (NeedsLoad r a) h = record { question = h.question; was = asked-key v slot c h.question h.was; asks = h.asks }
 
 -- ---- a relocation goes on
 abbrev some_relocation : {K V I : Type 0} → ℕ → Option (Asked K V I)

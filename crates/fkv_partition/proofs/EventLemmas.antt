@@ -17,6 +17,7 @@ use Rattle.fkv_lookups.specs.declared.decisions.Decision.TheVariants as decided
 use Rattle.fkv_lookups.specs.DecisionLaws.{quiet-does, append-does, replace-does, prepare-op, prepare-source, prepare-met, load-op}
 use Rattle.fkv_lookups.specs.declared.decisions.Decision.{Decision}
 use Rattle.fkv_lookups.specs.declared.decisions.Decision.TheVariants.{Append, Replace, Prepare}
+use Rattle.fkv_operations.specs.Operations.{op_of}
 use Rattle.fkv_operations.specs.declared.operations.KeyedOp.{KeyedOp}
 use Rattle.fkv_operations.specs.declared.operations.KeyedOp.TheVariants.{Read, Upsert, Rmw, Delete, Merge}
 use Rattle.fkv_operations.specs.declared.operations.Answer.{Answer}
@@ -52,7 +53,7 @@ use Rattle.fkv_partition.specs.CoreSound.{IsKept, IsLoading, StandsFor, IsSound}
 use Rattle.fkv_functions.proofs.ListLemmas.{get-set_other, get-set_same}
 use Rattle.fkv_lookups.specs.Traced.{IsTraced}
 use Rattle.fkv_partition.proofs.GrownLemmas.{newest-nowhere}
-use Rattle.fkv_partition.proofs.AskedLemmas.{open_at, context-inside, context-other, asked-same, asked-other, free-slot, idle, idle-asked, context-left, context-elsewhere, context-renewed}
+use Rattle.fkv_partition.proofs.AskedLemmas.{keyed-op, after-op, answer-op, open_at, context-inside, context-other, asked-same, asked-other, free-slot, idle, idle-asked, context-left, context-elsewhere, context-renewed}
 
 -- a context that asks nothing to be built and claims nothing is fresh
 pub fresh-by : {K V I : Type 0} (n : ℕ) (op : KeyedOp K V I) (phase : Phase V) (keeps : Bool) (cmp : K → K → Ordering) (join : V → V → V) (code : K → ℕ) (r : RecordsView K V) → StandsFor keeps cmp join code r op phase → question_by n op phase ≡ None → claim_by phase ≡ None → loading_by phase ≡ None → phase ≡ Fresh
@@ -121,7 +122,7 @@ same_or (suc d) (suc c) = elim (same_or d c) [ inl e ↦ inl (ap suc e) | inr n 
 pub quiet-regions : {K V I : Type 0} (keeps : Bool) (v : CoreView K V I) (regions : RegionsView) (now : ℕ)
     → ((t d : ℕ) → context_in regions.epochs.slots v.contexts t d ≡ context_in (slots_of v) v.contexts t d)
     → IsQuiet keeps v (in_regions v regions now) now
-quiet-regions keeps v regions now h = record { same = λ t d. ap (option_map asked_by) (h t d); text = λ keeps. refl; number = refl; count = refl; begin = refl; moment = refl }
+quiet-regions keeps v regions now h = record { same = λ t d. ap (option_map asked_by) (h t d); text = λ keeps. refl; number = refl; count = refl; begin = refl; cleared = refl; moment = refl }
 
 module _ {K V I : Type 0} {keeps : Bool} (cmp : K → K → Ordering) (join : V → V → V) (code : K → ℕ) (v : CoreView K V I) (s : IsSound keeps cmp join code v) where
   -- a context of an entered session stands for what it says
@@ -193,6 +194,7 @@ module _ {K V I O : Type 0} (cmp : K → K → Ordering) (join : V → V → V) 
       count = refl;
       begin = begin;
       regions = regions;
+      rises = omega arith;
       moment = refl;
     }
 
@@ -280,9 +282,10 @@ module _ {K V I O : Type 0} (cmp : K → K → Ordering) (join : V → V → V) 
       effect = (
         asked-same v slot c now x h None,
         refl,
-        (λ q. sym (quiet.0 q)),
-        quiet.1,
+        after-op cmp f (live_of cmp v) (live_of cmp v) x.op (λ q. sym (quiet.0 q)),
+        answer-op f (live_of cmp v) x.op a quiet.1,
       );
+      cleared = λ o k. refl;
       frame = leaves None;
     }
 
@@ -301,11 +304,11 @@ module _ {K V I O : Type 0} (cmp : K → K → Ordering) (join : V → V → V) 
           effect = (
             asked-same v slot c now x h None,
             refl,
-            (λ q. lives q
-                ∙ ap (λ (m : PlainMap K V). m q) (sym does.0)),
-            does.1,
+            after-op cmp f (live_of cmp v) _ x.op (λ q. lives q ∙ ap (λ (m : PlainMap K V). m q) (sym does.0)),
+            answer-op f (live_of cmp v) x.op a does.1,
           );
-          frame = record { others = l.others; number = refl; count = refl; begin = refl; regions = refl; moment = refl };
+          cleared = λ o k. refl;
+          frame = record { others = l.others; number = refl; count = refl; begin = refl; regions = refl; rises = omega arith; moment = refl };
         }
 
     -- or gives the last record of its key another value where it stands, or makes it a tombstone
@@ -318,10 +321,10 @@ module _ {K V I O : Type 0} (cmp : K → K → Ordering) (join : V → V → V) 
       effect = (
         asked-same v slot c now x h None,
         refl,
-        (λ q. lives q
-            ∙ ap (λ (m : PlainMap K V). m q) (sym does.0)),
-        does.1,
+        after-op cmp f (live_of cmp v) _ x.op (λ q. lives q ∙ ap (λ (m : PlainMap K V). m q) (sym does.0)),
+        answer-op f (live_of cmp v) x.op a does.1,
       );
+      cleared = λ o k. refl;
       frame = leaves-in None (with_value v.records at value) refl refl;
     }
 
@@ -331,7 +334,8 @@ module _ {K V I O : Type 0} (cmp : K → K → Ordering) (join : V → V → V) 
       question = asked_by x;
       was = was-asked;
       effect = (was-asked, (λ q. refl));
-      frame = record { others = λ t d o. refl; number = refl; count = refl; begin = refl; regions = refl; moment = refl };
+      cleared = λ o k. refl;
+      frame = record { others = λ t d o. refl; number = refl; count = refl; begin = refl; regions = refl; rises = omega arith; moment = refl };
     }
 
     -- the operation is to look again, in another phase, and the text of the records stays
@@ -341,6 +345,7 @@ module _ {K V I O : Type 0} (cmp : K → K → Ordering) (join : V → V → V) 
       question = asked_by x;
       was = was-asked;
       effect = (asked-in (Some (at_phase x phase)) records regions, λ q. ap (λ t. live cmp t q) text);
+      cleared = λ o k. refl;
       frame = leaves-in (Some (at_phase x phase)) records begin regions;
     }
 
@@ -355,7 +360,8 @@ module _ {K V I O : Type 0} (cmp : K → K → Ordering) (join : V → V → V) 
     event-prepares phase ask n is = record {
       question = asked_by x;
       was = was-asked;
-      effect = (asked-same v slot c now x h (Some (record { number = x.number; op = x.op; phase = phase })), (λ q. refl), n, is);
+      effect = (asked-same v slot c now x h (Some (record { number = x.number; op = x.op; phase = phase })), (λ q. refl), n, ap op_of is);
+      cleared = λ o k. refl;
       frame = leaves (Some (record { number = x.number; op = x.op; phase = phase }));
     }
 
@@ -365,6 +371,7 @@ module _ {K V I O : Type 0} (cmp : K → K → Ordering) (join : V → V → V) 
       question = asked_by x;
       was = was-asked;
       effect = (asked-same v slot c now x h (Some (at_phase x phase)), λ q. refl);
+      cleared = λ o k. refl;
       frame = leaves (Some (at_phase x phase));
     }
 
@@ -375,8 +382,9 @@ module _ {K V I O : Type 0} (cmp : K → K → Ordering) (join : V → V → V) 
         record {
           question = asked_by x;
           was = was-asked;
-          effect = (was-asked, (λ q. refl), w.number, w.op_is);
-          frame = record { others = λ t d o. refl; number = refl; count = refl; begin = refl; regions = refl; moment = refl };
+          effect = (was-asked, (λ q. refl), w.number, ap op_of w.op_is);
+          cleared = λ o k. refl;
+          frame = record { others = λ t d o. refl; number = refl; count = refl; begin = refl; regions = refl; rises = omega arith; moment = refl };
         }
 
     -- what was built for an update whose entry stands is what its key comes to
@@ -399,9 +407,10 @@ module _ {K V I O : Type 0} (cmp : K → K → Ordering) (join : V → V → V) 
           effect = (
             asked-same v slot c now x h None,
             refl,
-            (λ p. ap (λ (o : Option V). after_update cmp (live_of cmp v) ask.key o p) (sym meant) ∙ ap (λ o. after cmp f (live_of cmp v) o p) (sym w.op_is)),
-            ap (told_of f ask.key ask.input) (sym meant) ∙ ap (answer f (live_of cmp v)) (sym w.op_is),
+            after-op cmp f (live_of cmp v) (live_of cmp v) x.op (λ p. ap (λ (o : Option V). after_update cmp (live_of cmp v) ask.key o p) (sym meant) ∙ ap (λ o. after cmp f (live_of cmp v) o p) (sym w.op_is)),
+            answer-op f (live_of cmp v) x.op _ (ap (told_of f ask.key ask.input) (sym meant) ∙ ap (answer f (live_of cmp v)) (sym w.op_is)),
           );
+          cleared = λ o k. refl;
           frame = leaves None;
         }
 
@@ -420,12 +429,13 @@ module _ {K V I O : Type 0} (cmp : K → K → Ordering) (join : V → V → V) 
           effect = (
             asked-same v slot c now x h None,
             refl,
-            (λ p. lives (Some value) p
+            after-op cmp f (live_of cmp v) _ x.op (λ p. lives (Some value) p
                 ∙ ap (λ (o : Option V). after_update cmp (live_of cmp v) ask.key o p) (sym meant)
                 ∙ ap (λ o. after cmp f (live_of cmp v) o p) (sym w.op_is)),
-            ap (told_of f ask.key ask.input) (sym meant) ∙ ap (answer f (live_of cmp v)) (sym w.op_is),
+            answer-op f (live_of cmp v) x.op _ (ap (told_of f ask.key ask.input) (sym meant) ∙ ap (answer f (live_of cmp v)) (sym w.op_is)),
           );
-          frame = record { others = l.others; number = refl; count = refl; begin = refl; regions = refl; moment = refl };
+          cleared = λ o k. refl;
+          frame = record { others = l.others; number = refl; count = refl; begin = refl; regions = refl; rises = omega arith; moment = refl };
         }
 
 module _ {K V I : Type 0} (code : K → ℕ) (v : CoreView K V I) where
@@ -437,14 +447,16 @@ module _ {K V I : Type 0} (code : K → ℕ) (v : CoreView K V I) where
       record {
         closed = ap (option_map asked_by) (context-inside (slots_of v) v.contexts slot c inside low ∙ ap joined here);
         opened = ap (option_map asked_by) (context-inside (slots_of v) (slice_set v.contexts (slot * 8 + c) x) slot c inside low ∙ ap joined (get-set_same v.contexts (slot * 8 + c) None x here));
-        own = own;
+        own = λ o e. (let both : Some op ≡ Some o = sym (keyed-op op) ∙ e in let same : op ≡ o = cc in subst (λ (p : KeyedOp K V I). partition_of v.count (code (key_of p)) ≡ v.number) same own);
         text = refl;
+        cleared = refl;
         frame = record {
           others = λ t d o. ap (option_map asked_by) (context-other (slots_of v) v.contexts slot c t d x low o);
           number = refl;
           count = refl;
           begin = refl;
           regions = refl;
+          rises = omega arith;
           moment = refl;
         };
       }
@@ -461,6 +473,7 @@ event-moved keeps v r regions now m h = record {
   number = refl;
   count = refl;
   begin = ap (λ (w : RecordsView _ _). w.begin) m.is;
+  cleared = refl;
   moment = refl;
 }
 
@@ -477,7 +490,7 @@ refreshed-same v slot entered t d = context-renewed (slots_of v) v.contexts slot
 
 -- a page is flushed
 pub event-flushed : {K V I : Type 0} (keeps : Bool) (v : CoreView K V I) (st : Standing) (now : ℕ) → IsQuiet keeps v (record v { records = with_receipt v.records st; moment = now }) now
-event-flushed keeps v st now = record { same = λ t d. refl; text = λ yes_keeps. refl; number = refl; count = refl; begin = refl; moment = refl }
+event-flushed keeps v st now = record { same = λ t d. refl; text = λ yes_keeps. refl; number = refl; count = refl; begin = refl; cleared = refl; moment = refl }
 
 -- an operation is given up, and the text of the records stays
 pub event-give_up : {K V I : Type 0} (v : CoreView K V I) (slot c now : ℕ) (x : Context K V I) (records : RecordsView K V)
@@ -491,12 +504,14 @@ event-give_up v slot c now x records h text begin regions = record {
   was = ap (option_map asked_by) h;
   closed = ap (λ (g : RegionsView). option_map asked_by (context_in g.epochs.slots (slice_set v.contexts (slot * 8 + c) None) slot c)) regions ∙ asked-same v slot c now x h None;
   text = text;
+  cleared = refl;
   frame = record {
     others = λ t d o. ap (λ (g : RegionsView). option_map asked_by (context_in g.epochs.slots (slice_set v.contexts (slot * 8 + c) None) t d)) regions ∙ asked-other v slot c now x h None t d o;
     number = refl;
     count = refl;
     begin = begin;
     regions = regions;
+    rises = omega arith;
     moment = refl;
   };
 }

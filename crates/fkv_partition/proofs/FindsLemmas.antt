@@ -1,5 +1,5 @@
 -- What an event of an operation leaves it to find.
-use Rattle.std.proofs.Common.{◌≡◌, ℕ, Bool, true, false, cond, List, length, Option, Some, None, option_map, nat_lt, Ok, refl, ◌∙◌, ap}
+use Rattle.std.proofs.Common.{◌≡◌, ℕ, Bool, true, false, cond, List, length, Option, Some, None, option_map, nat_lt, Ok, refl, sym, ◌∙◌, ap}
 use Rattle.std.proofs.lemmas.Bool.{eq-eqb, ltb-true}
 use Rattle.std.proofs.lemmas.Option.{slice_get-get_or}
 use Rattle.std.proofs.lemmas.List.Folds.{find_at}
@@ -31,9 +31,11 @@ use Rattle.fkv_partition.specs.CoreContexts.{question_by, at_phase, context_in}
 use Rattle.fkv_partition.specs.CoreViews.{CoreView, context_at, with_context}
 use Rattle.fkv_partition.specs.CoreGoing.{Goes}
 use Rattle.fkv_partition.specs.CoreInstalling.{Installs}
-use Rattle.fkv_partition.specs.Pending.{pending_by, pending_of, pending, Finds}
+use Rattle.fkv_partition.specs.CoreEffect.{asked_by, Finds}
+use Rattle.fkv_partition.specs.Effects.{to_find}
+use Rattle.fkv_partition.specs.Pending.{pending_by, pending_of, pending}
 use Rattle.fkv_partition.specs.CoreSound.{IsSound}
-use Rattle.fkv_partition.proofs.AskedLemmas.{context-same}
+use Rattle.fkv_partition.proofs.AskedLemmas.{keyed-op, context-same}
 
 -- an entry that was found leads where its word says
 abbrev entry_in : List (List Word) → Place → IndexEntry
@@ -101,11 +103,12 @@ module _ {K V I O R : Type 0} (cmp : K → K → Ordering) (join : V → V → V
       let led = traced-held cmp code old.records (key_of x.op) order s.traced (address_of k.word) (found-leads old.records.words (class_in code old.records (key_of x.op)).bucket (class_in code old.records (key_of x.op)).tag k entry) in
       let q : progress ≡ NeedsLoad p b = cc in
       rw q (record {
-        operation = x;
-        was = d.here;
+        question = asked_by x;
+        was = ap (option_map asked_by) d.here;
         asks = ap (λ (u : CoreView _ _ _). pending cmp u slot c) is
             ∙ ap (pending_of cmp old.records) (context-same old slot c now x d.here _)
-            ∙ (rw (eq-eqb old.records.begin old.records.begin refl) (ap (λ o. Some (record { moment = now; value = value_of o })) led));
+            ∙ (rw (eq-eqb old.records.begin old.records.begin refl) (ap (λ o. Some (record { moment = now; value = value_of o })) led))
+            ∙ ap (to_find cmp old now) (sym (keyed-op x.op));
       })
   goes-find stands order s progress (Goes.unshared x b parts d is e) = absurd (cc)
 

@@ -21,7 +21,7 @@ use Rattle.fkv_partition.specs.CoreInstalling as installing
 use Rattle.fkv_partition.specs.CoreLoading as loading
 use Rattle.fkv_partition.specs.CoreViews.{context_at}
 use Rattle.fkv_partition.specs.declared.relocations.Relocation.{Relocation}
-use Rattle.fkv_partition.specs.Effect.{Asked, asked, asked_of, asked_by}
+use Rattle.fkv_partition.specs.Effect.{Asked, asked, asked_of}
 use Rattle.fkv_partition.specs.Events.{Goes, Installs, Loads}
 use Rattle.fkv_partition.specs.Sound.{IsCompacting}
 use Rattle.fkv_partition.specs.Views.{PartitionView, relocation_at}
@@ -57,7 +57,7 @@ module _ {K V I : Type 0} {keeps : Bool} (cmp : K → K → Ordering) (join : V 
       by_context : (o : Option (Context K V I)) → context_at old.core slot c ≡ o → (y : Context K V I) × (context_at old.core slot c ≡ Some y) × (is_merge y.op ≡ true)
       by_context None h = absurd (let no : None ≡ Some x = was None h in cc)
       by_context (Some y) h =
-          let same = some-is (asked_by (key_effect.asked_by y)) x (was (Some y) h) in
+          let same = some-is (key_effect.asked_by y) x (was (Some y) h) in
           (y, h, merge-is y.op k i (ap (λ (z : Asked K V I). z.op) same ∙ is))
 
   pub merge-goes : {O R : Type 0} (f : Meanings K V I O) (new : PartitionView K V I) (now : ℕ) (stands : R → Standing) (progress : Progress K V I O R)

@@ -15,7 +15,6 @@ use Rattle.fkv_partition.specs.CoreBeginning as beginning
 use Rattle.fkv_partition.specs.CoreEffect as key_effect
 use Rattle.fkv_partition.specs.CoreLoading as key_loading
 use Rattle.fkv_partition.specs.CoreLoading.{ReadsBy}
-use Rattle.fkv_partition.specs.Pending as key_pending
 use Rattle.fkv_partition.specs.Pending.{pending, OthersPend, AllPend}
 use Rattle.fkv_partition.specs.CoreViews.{CoreView, slots_of}
 use Rattle.fkv_partition.proofs.AskedLemmas.{context-inside}
@@ -119,11 +118,11 @@ module _ {K V I O R : Type 0} (cmp : K → K → Ordering) (f : Meanings K V I O
     goes-event (Err e) h = tt
     goes-event (Ok p) h = subst (λ (w : PartitionView K V I). IsEvent cmp f old w slot c now p) (sym rest) (key-event old new.core slot c now none cmp f p h)
 
-    pub goes-finds : (r : Result (Progress K V I O R) Refused) → ((p : Progress K V I O R) → r ≡ Ok p → key_pending.Finds cmp old.core new.core slot c now p) → IfOk r (Finds cmp old new slot c now)
+    pub goes-finds : (r : Result (Progress K V I O R) Refused) → ((p : Progress K V I O R) → r ≡ Ok p → key_effect.Finds cmp old.core new.core slot c now p) → IfOk r (Finds cmp old new slot c now)
     goes-finds (Err e) h = tt
     goes-finds (Ok p) h = subst (λ (w : PartitionView K V I). Finds cmp old w slot c now p) (sym rest) (key-finds old new.core slot c now none cmp p (h p refl))
 
-    pub loads-event : (r : Result (Progress K V I O R) Refused) → IfOk r (key_pending.IsLoad cmp f old.core new.core slot c now) → IfOk r (IsLoad cmp f old new slot c now)
+    pub loads-event : (r : Result (Progress K V I O R) Refused) → IfOk r (key_effect.IsLoaded cmp f old.core new.core slot c now) → IfOk r (IsLoad cmp f old new slot c now)
     loads-event (Err e) h = tt
     loads-event (Ok p) h = IsLoad.on_key (subst (λ (w : PartitionView K V I). IsLoaded cmp f old w slot c now p) (sym rest) (key-load old new.core slot c now none cmp f p h))
 

@@ -253,6 +253,7 @@ module _ {K V I O R : Type 0} (stands : R → Standing) (entry : ℕ → List �
     was = ap (option_map asked_by) h;
     closed = asked-same old slot c now x h None;
     text = refl;
+    cleared = refl;
     frame = frame-of cmp old slot c now x h None;
   }))
 

@@ -3,6 +3,7 @@ pub mod CoreContexts
 pub mod CoreViews
 pub mod CoreInside
 pub mod Writes
+pub mod Effects
 pub mod CoreEffect
 pub mod CoreGoing
 pub mod Asking

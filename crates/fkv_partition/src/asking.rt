@@ -1,5 +1,6 @@
 //! What an open operation is.
 ghost use Rattle.std.specs.Prelude.{◌≡◌, Some, None, is_some, IfOk, IfErr};
+ghost use Rattle.fkv_operations.specs.Operations.{op_of};
 ghost use Rattle.fkv_partition.specs.CoreEffect.{asked};
 ghost use Rattle.fkv_partition.specs.CoreViews.{loading_at};
 
@@ -13,7 +14,7 @@ impl<F: Mergeable, R: Receipt> Core<F, R> {
     /// The operation that is open in a context, after its number, which is the moment of its issue.
     /// Refused: `Unknown` where none is open there.
     pub fn asked(&self, slot: usize, context: usize) -> Result<(u64, KeyedOpOf<F>), Refused>
-        ensures ok { IfOk result (λ x. asked self.now slot context ≡ Some (record { number = x.0; op = x.1 })) }
+        ensures ok { IfOk result (λ x. asked self.now slot context ≡ Some (record { number = x.0; op = op_of x.1 })) }
         ensures none { IfErr result (λ _. asked self.now slot context ≡ None) }
         ensures only { IfErr result (λ refused. refused ≡ Refused.Unknown) }
     {

@@ -3,7 +3,8 @@ ghost use Rattle.std.specs.Prelude.{◌≡◌, ◌<◌, ◌≤◌, IsTrue, OnOk,
 ghost use Rattle.fkv_records.specs.Places.{start_at};
 ghost use Rattle.fkv_lookups.specs.RecordsViews.{IsTruncationDue};
 ghost use Rattle.fkv_texts.specs.Deltas.{IsCleared};
-ghost use Rattle.fkv_partition.specs.CoreTruncating.{Truncates, IsTruncation};
+ghost use Rattle.fkv_partition.specs.CoreTruncating.{Truncates};
+ghost use Rattle.fkv_partition.specs.CoreEffect.{IsTruncation};
 
 use crate::cores::Core;
 use fkv_device::Receipt;

@@ -21,8 +21,8 @@ ghost use Rattle.fkv_partition.specs.CoreInstalling.{Installs};
 ghost use Rattle.fkv_partition.specs.CoreLooking.{Refreshes, Shifts, Evicts};
 ghost use Rattle.fkv_partition.specs.CoreFlushing.{Flushes};
 ghost use Rattle.fkv_partition.specs.CoreLoading.{Loads};
-ghost use Rattle.fkv_partition.specs.CoreEffect.{IsGiveUp};
-ghost use Rattle.fkv_partition.specs.Pending.{OthersPend, AllPend, Finds};
+ghost use Rattle.fkv_partition.specs.CoreEffect.{IsGiveUp, Finds};
+ghost use Rattle.fkv_partition.specs.Pending.{OthersPend, AllPend};
 ghost use Rattle.fkv_partition.specs.Frozen.{FrozenStay};
 ghost use Rattle.fkv_partition.specs.CoreSound.{IsSound};
 

@@ -6,8 +6,7 @@ ghost use Rattle.fkv_partition.specs.CoreGoing.{Goes};
 ghost use Rattle.fkv_partition.specs.CoreInstalling.{Installs};
 ghost use Rattle.fkv_partition.specs.CoreLoading.{Loads, LoadsBy, WaitsFor};
 ghost use Rattle.fkv_partition.specs.CoreEnding.{GivesUp};
-ghost use Rattle.fkv_partition.specs.CoreEffect.{IsEvent, IsGiveUp, IsIssue};
-ghost use Rattle.fkv_partition.specs.Pending.{IsLoad};
+ghost use Rattle.fkv_partition.specs.CoreEffect.{IsEvent, IsGiveUp, IsIssue, IsLoaded};
 ghost use Rattle.fkv_partition.specs.Views.{relocation_at, with_core};
 ghost use Rattle.fkv_partition.specs.Beginning.{IssuesOnKey};
 
@@ -135,7 +134,7 @@ impl<F: Mergeable, R: Receipt> Partition<F, R> {
             slot context came now result }
         ensures rest { self.new ≡ with_core self.old self.new.core }
         ensures event { IsTrue R.keeps → IfOk result (λ progress.
-            IsLoad F.Key.cmp F.meaning self.old.core self.new.core slot context now progress) }
+            IsLoaded F.Key.cmp F.meaning self.old.core self.new.core slot context now progress) }
         ensures within { IfOk result (λ _. (slot < 16) × (context < 8)) }
         ensures moment { self.new.core.moment ≤ now }
     {
@@ -162,7 +161,7 @@ impl<F: Mergeable, R: Receipt> Partition<F, R> {
             slot context now (P.failures reader.old) (P.failures reader.new) result }
         ensures rest { self.new ≡ with_core self.old self.new.core }
         ensures event { IsTrue R.keeps → IfOk result (λ progress.
-            IsLoad F.Key.cmp F.meaning self.old.core self.new.core slot context now progress) }
+            IsLoaded F.Key.cmp F.meaning self.old.core self.new.core slot context now progress) }
         ensures unread { ((page : ℕ) → WaitsFor self.old.core slot context page → ⊥) → reader.new ≡ reader.old }
         ensures caused { P.failures reader.new ≢ P.failures reader.old → (page : ℕ)
             × MayFail R.stands P.can_fail self.old.core.records.receipts self.old.core.records.page_bits page }

@@ -11,7 +11,7 @@ ghost use Rattle.fkv_partition.specs.declared.contexts.Phase.TheVariants.{Prepar
 ghost use Rattle.fkv_partition.specs.CoreContexts.{at_phase};
 ghost use Rattle.fkv_partition.specs.CoreLoading.{AwaitsPage, MayLoad, Loads, WaitsFor, LoadsBy};
 ghost use Rattle.fkv_partition.specs.CoreSound.{IsKept, IsLoading};
-ghost use Rattle.fkv_partition.specs.Pending.{IsLoad};
+ghost use Rattle.fkv_partition.specs.CoreEffect.{IsLoaded};
 ghost use Rattle.fkv_partition.specs.CoreViews.{with_context};
 
 use crate::contexts::{ContextOf, Loading, Phase, Progress, ProgressOf, loading_of};
@@ -58,7 +58,7 @@ impl<F: Mergeable, R: Receipt> Core<F, R> {
         ensures effect { Loads R.stands (IsEntryIn F.Key.codec F.Value.codec) F.Key.cmp F.parts.joined F.meaning self.old self.new slot context came now result }
         // on a device that keeps, what comes of it is what the look-up was to find
         ensures event { IsTrue R.keeps → IfOk result
-            (λ progress. IsLoad F.Key.cmp F.meaning self.old self.new slot context now progress) }
+            (λ progress. IsLoaded F.Key.cmp F.meaning self.old self.new slot context now progress) }
         ensures within { IfOk result (λ _. (slot < 16) × (context < 8)) }
         ensures moment { self.new.moment ≤ now }
     {
@@ -101,7 +101,7 @@ impl<F: Mergeable, R: Receipt> Core<F, R> {
         ensures effect { LoadsBy R.stands (IsEntryIn F.Key.codec F.Value.codec) F.Key.cmp F.parts.joined F.meaning self.old self.new slot context now
             (P.failures reader.old) (P.failures reader.new) result }
         ensures event { IsTrue R.keeps → IfOk result
-            (λ progress. IsLoad F.Key.cmp F.meaning self.old self.new slot context now progress) }
+            (λ progress. IsLoaded F.Key.cmp F.meaning self.old self.new slot context now progress) }
         ensures unread { ((page : ℕ) → WaitsFor self.old slot context page → ⊥) → reader.new ≡ reader.old }
         ensures caused { P.failures reader.new ≢ P.failures reader.old → (page : ℕ)
             × MayFail R.stands P.can_fail self.old.records.receipts self.old.records.page_bits page }
@@ -169,7 +169,7 @@ impl<F: Mergeable, R: Receipt> Core<F, R> {
         requires awaits { AwaitsPage self.old slot context operation.now loading }
         ensures effect { Loads R.stands (IsEntryIn F.Key.codec F.Value.codec) F.Key.cmp F.parts.joined F.meaning self.old self.new slot context (Ok loaded) now result }
         ensures event { IsTrue R.keeps → IfOk result
-            (λ progress. IsLoad F.Key.cmp F.meaning self.old self.new slot context now progress) }
+            (λ progress. IsLoaded F.Key.cmp F.meaning self.old self.new slot context now progress) }
         ensures moment { self.new.moment ≤ now }
     {
         self.known();
@@ -199,7 +199,7 @@ impl<F: Mergeable, R: Receipt> Core<F, R> {
             (R.stands loaded.receipt) }
         ensures effect { Loads R.stands (IsEntryIn F.Key.codec F.Value.codec) F.Key.cmp F.parts.joined F.meaning self.old self.new slot context (Ok loaded) now result }
         ensures event { IsTrue R.keeps → IfOk result
-            (λ progress. IsLoad F.Key.cmp F.meaning self.old self.new slot context now progress) }
+            (λ progress. IsLoaded F.Key.cmp F.meaning self.old self.new slot context now progress) }
         ensures moment { self.new.moment ≤ now }
     {
         self.known();

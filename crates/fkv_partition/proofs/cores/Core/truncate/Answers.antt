@@ -9,7 +9,8 @@ use Rattle.fkv_lookups.specs.Traced.{IsTraced, IsStood}
 use Rattle.fkv_texts.specs.Deltas.{IsCleared}
 use Rattle.fkv_partition.specs.CoreInside.{view_of}
 use Rattle.fkv_partition.specs.CoreSound.{IsSound}
-use Rattle.fkv_partition.specs.CoreTruncating.{Truncates, not_due, truncates, IsTruncation}
+use Rattle.fkv_partition.specs.CoreTruncating.{Truncates, not_due, truncates}
+use Rattle.fkv_partition.specs.CoreEffect.{IsTruncation}
 use Rattle.fkv_partition.specs.CoreViews.{CoreView}
 use Rattle.fkv_partition.proofs.CoreTruncateLemmas.{sound-truncated, event-truncated}
 use Rattle.fkv_partition.proofs.cores.Core.truncate.Goals as goal
