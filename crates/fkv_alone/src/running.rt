@@ -154,7 +154,7 @@ fn attempt<F: Mergeable, R: Receipt, P: PageReader<Receipt = R>>(
     ) {
         Ok(progress) => Ok(progress),
         Err(refused) => {
-            let _given_up = partition.abandon(slot, context);
+            let _given_up = partition.give_up_untimed(slot, context);
             Err(refused)
         }
     }

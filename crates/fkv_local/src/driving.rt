@@ -97,7 +97,7 @@ pub fn run_by_events<F: Mergeable, D: Disk, P: PageReader<Receipt = D::Receipt>>
         match &told {
             Progress::Done(answer, _) => return Ok(*answer),
             Progress::Waits(_) => {
-                let _given_up = part.partition.abandon(SLOT, CONTEXT);
+                let _given_up = part.partition.give_up_untimed(SLOT, CONTEXT);
                 match tidy(terms.alloc, terms.frames, part, clock) {
                     Ok(()) => {}
                     Err(refused) => return Err(refused),
@@ -111,7 +111,7 @@ pub fn run_by_events<F: Mergeable, D: Disk, P: PageReader<Receipt = D::Receipt>>
 
 /// Makes an update in one call, where its key's last record may be changed in place. Answers what it shows, or `None`, and then
 /// nothing has changed. Refused: `Worn` where no moment is left.
-pub fn update_at_once<F: Mergeable, D: Disk>(
+pub fn try_update_in_place<F: Mergeable, D: Disk>(
     functions: &F,
     part: &mut Part<F, D>,
     key: &F::Key,
@@ -136,7 +136,7 @@ pub fn update_at_once<F: Mergeable, D: Disk>(
     part.partition.known();
     match part
         .partition
-        .update_at_once(SLOT, key, input, functions, issued, now)
+        .try_update_in_place(SLOT, key, input, functions, issued, now)
     {
         Some(shown) => Ok(Some(shown)),
         None => Ok(None),
@@ -285,7 +285,7 @@ pub fn read<F: Mergeable, D: Disk>(
     match shard
         .part
         .partition
-        .read_at_once(SLOT, key, input, functions)
+        .try_read_in_memory(SLOT, key, input, functions)
     {
         Some(answer) => Ok(answer),
         None => {
@@ -320,7 +320,7 @@ pub fn update<F: Mergeable, D: Disk>(
         Ok(()) => {}
         Err(refused) => return Err(refused),
     }
-    match update_at_once(&terms.functions, &mut shard.part, key, input, clock) {
+    match try_update_in_place(&terms.functions, &mut shard.part, key, input, clock) {
         Ok(Some(shown)) => Ok(Answer::Value(shown)),
         Ok(None) => {
             let rmw = KeyedOp::Rmw(*key, *input);

@@ -10,7 +10,7 @@ ghost use Rattle.fkv_local.specs.Storing.{Runs, Updates};
 ghost use Rattle.fkv_local.specs.Refusing.{IsStopped, IsRefusedBy};
 
 use crate::barring::NoPages;
-use crate::driving::{run_by_events, tidy_at_times, update_at_once};
+use crate::driving::{run_by_events, tidy_at_times, try_update_in_place};
 use crate::parts::{Part, SLOT, Shard, Terms};
 use fkv_device::Disk;
 use fkv_functions::{Mergeable, Refused};
@@ -120,7 +120,7 @@ pub fn update_or_merge<F: Mergeable, D: Disk>(
         Ok(()) => {}
         Err(refused) => return Err(refused),
     }
-    match update_at_once(&terms.functions, &mut shard.part, key, input, clock) {
+    match try_update_in_place(&terms.functions, &mut shard.part, key, input, clock) {
         Ok(Some(shown)) => return Ok(Answer::Value(shown)),
         Ok(None) => {}
         Err(refused) => return Err(refused),

@@ -30,7 +30,7 @@ use Rattle.fkv_partition.specs.Sound.{IsCompacting}
 use Rattle.fkv_partition.specs.Views.{PartitionView}
 use Rattle.fkv_partition.proofs.EffectLemmas.{relocation-asked}
 use Rattle.fkv_partition.proofs.AskedLemmas.{keyed-op}
-use Rattle.fkv_locked.specs.declared.seats.Mine.{Mine}
+use Rattle.fkv_locked.specs.declared.seats.OpenOperation.{OpenOperation}
 use Rattle.fkv_locked.specs.Turns.{question_of, HasCome, IsCome}
 use Rattle.fkv_locked.proofs.KeptLemmas.{op-same}
 
@@ -87,7 +87,7 @@ not-relocate : {K V I : Type 0} (op : KeyedOp K V I) → op_of op ≡ Relocate �
 not-relocate op h = let bad : Some op ≡ None = sym (keyed-op op) ∙ ap keyed h in absurd (cc)
 
 module _ {K V I O R : Type 0} (stands : R → Standing) (entry : ℕ → List ℕ → ℕ → Entry K V → Type 0) (cmp : K → K → Ordering) (join : V → V → V) (f : Meanings K V I O) (code : K → ℕ) (keeps : Bool)
-    (old new : PartitionView K V I) (mine : Mine K V I) (came : Result (Joined R) Refused) (now : ℕ)
+    (old new : PartitionView K V I) (mine : OpenOperation K V I) (came : Result (Joined R) Refused) (now : ℕ)
     (compacting : IsCompacting keeps cmp join code old)
     (asks : asked old mine.seat.slot mine.context ≡ Some (question_of mine))
     (early : (p : Pending V) → pending cmp old.core mine.seat.slot mine.context ≡ Some p → p.moment ≤ old.core.moment)

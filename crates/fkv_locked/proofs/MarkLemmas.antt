@@ -2,14 +2,14 @@
 use Rattle.std.proofs.Common.{◌≡◌, inl, inr, ℕ, Some, None, slice_index, refl, sym, ap, ◌∙◌}
 use Rattle.fkv_partition.specs.Effect.{asked}
 use Rattle.fkv_partition.proofs.EffectLemmas.{asked-low}
-use Rattle.fkv_locked.specs.declared.seats.Mine.{Mine}
+use Rattle.fkv_locked.specs.declared.seats.OpenOperation.{OpenOperation}
 use Rattle.fkv_locked.specs.Kept.{place_of}
 use Rattle.fkv_locked.specs.Locks.{LockedView}
 use Rattle.fkv_locked.specs.Marks.{Marks, IsOpen, IsOpenFrom, mark_of}
 use Rattle.fkv_locked.specs.Turns.{question_of}
 use Rattle.fkv_locked.proofs.KeptLemmas.{same_place, apart, marked_other}
 
-module _ {K V I O : Type 0} (mine : Mine K V I) where
+module _ {K V I O : Type 0} (mine : OpenOperation K V I) where
   mark_left : (old new : LockedView K V I O) → IsOpen mine old → Marks old new → mark_of mine new ≡ mark_of mine old
   mark_left old new stands (Marks.still same) = ap (λ l. slice_index l (place_of mine.seat.slot mine.context)) same
   mark_left old new stands (Marks.issues slot c low none set) =

@@ -18,7 +18,7 @@ use Rattle.fkv_partition.proofs.EffectLemmas.{asked-low}
 use Rattle.fkv_partition.proofs.AskedLemmas.{keyed-op}
 use Rattle.fkv_histories.specs.declared.entries.Entry.{Entry}
 use Rattle.fkv_histories.specs.Histories.{updates}
-use Rattle.fkv_locked.specs.declared.seats.Mine.{Mine}
+use Rattle.fkv_locked.specs.declared.seats.OpenOperation.{OpenOperation}
 use Rattle.fkv_locked.specs.Kept.{seen, place_of, IsKept}
 use Rattle.fkv_locked.specs.Turns.{question_of, IsGone, IsCome}
 use Rattle.fkv_locked.proofs.KeptLemmas.{orderly, kept_quiet, kept_still, kept_further, kept_asks, kept_closed, kept_done, kept_loaded, kept_issue}
@@ -63,7 +63,7 @@ module _ {K V I O : Type 0} (cmp : K → K → Ordering) (f : Meanings K V I O) 
       rest others es lows looks book k none lives
 
 module _ {K V I O R : Type 0} (cmp : K → K → Ordering) (f : Meanings K V I O) (old new : PartitionView K V I) (es : List (Entry K V I O)) (lows looks : List ℕ) (book now : ℕ)
-    (k : IsKept cmp f (seen cmp old) es lows looks book) (mine : Mine K V I) where
+    (k : IsKept cmp f (seen cmp old) es lows looks book) (mine : OpenOperation K V I) where
   pub went_next : IsGone {R = R} cmp f old new mine now Next → IsKept cmp f (seen cmp new) es lows looks book
   went_next e =
       let at = e.event.frame.moment in

@@ -18,7 +18,7 @@ use Rattle.fkv_partition.specs.Views.{PartitionView}
 use Rattle.fkv_histories.specs.declared.entries.Entry.{Entry}
 use Rattle.fkv_histories.specs.Histories.{is_update_entry}
 use Rattle.fkv_locked.specs.Kept.{place_of}
-use Rattle.fkv_locked.specs.declared.seats.Mine.{Mine}
+use Rattle.fkv_locked.specs.declared.seats.OpenOperation.{OpenOperation}
 use Rattle.fkv_locked.specs.declared.turns.Turn.{Turn}
 use Rattle.fkv_locked.specs.declared.turns.Turn.TheVariants.{Done, Next, NeedsBuild, NeedsLoad, Waits}
 
@@ -31,12 +31,12 @@ IsUnheard count clock told other = ⊥
 
 module _ {K V I : Type 0} where
   -- what the context of a caller's operation asks while it is open
-  abbrev pub question_of : Mine K V I → Asked K V I
+  abbrev pub question_of : OpenOperation K V I → Asked K V I
   question_of mine = record { number = mine.number; op = op_of mine.op }
 
   -- what is refused before an event of a caller's operation, and why: nothing of it is open there; there are fewer updates
   -- than the caller was told of; or there is no next number for the updates, the book or the clock
-  abbrev pub IsUnready : Option (Asked K V I) → ℕ → ℕ → ℕ → Mine K V I → Refused → Type 0
+  abbrev pub IsUnready : Option (Asked K V I) → ℕ → ℕ → ℕ → OpenOperation K V I → Refused → Type 0
   IsUnready asks count book clock mine Unknown = asks ≢ Some (question_of mine)
   IsUnready asks count book clock mine (Stranger what.Pass held came) = (held ≡ count) × (came ≡ mine.told) × (count < mine.told)
   IsUnready asks count book clock mine Worn = (count ≡ 2 ^ 64 - 1) ⊎ (book ≡ 2 ^ 64 - 1) ⊎ (clock ≡ 2 ^ 64 - 1)
@@ -45,7 +45,7 @@ module _ {K V I : Type 0} where
 
   -- a page that came is refused where its look-up was made when fewer updates stood than the caller was told of, or as many
   -- as have no next number
-  abbrev pub IsLookedEarly : ℕ → Mine K V I → Refused → Type 0
+  abbrev pub IsLookedEarly : ℕ → OpenOperation K V I → Refused → Type 0
   IsLookedEarly look mine (Stranger what.Pass held came) =
       (held ≡ look) × (came ≡ mine.told) × ((look < mine.told) ⊎ (look ≡ 2 ^ 64 - 1))
   IsLookedEarly look mine other = ⊥
@@ -62,7 +62,7 @@ pub record Noted (K V I O : Type 0) : Type 0 where
 
 module _ {K V I O : Type 0} where
   -- an entry of this operation, whose place is not before what its caller was told
-  pub record IsOf (mine : Mine K V I) (e : Entry K V I O) : Type 0 where
+  pub record IsOf (mine : OpenOperation K V I) (e : Entry K V I O) : Type 0 where
     pub session_is : e.session ≡ mine.seat.session
     pub number_is : e.number ≡ mine.number
     pub op_is : e.op ≡ mine.op
@@ -71,7 +71,7 @@ module _ {K V I O : Type 0} where
 
   -- one entry more, of this operation, which the book counts, behind so many updates: as many stood at its issue as the mark of
   -- its context says, and as many at its completion as there are. Nothing else changes
-  pub record Adds (keeps : Bool) (at : ℕ) (old new : Noted K V I O) (mine : Mine K V I) (e : Entry K V I O) : Type 0 where
+  pub record Adds (keeps : Bool) (at : ℕ) (old new : Noted K V I O) (mine : OpenOperation K V I) (e : Entry K V I O) : Type 0 where
     pub of : IsOf mine e
     pub low_is : e.low ≡ slice_index old.lows (place_of mine.seat.slot mine.context)
     pub at_is : e.at ≡ at
@@ -86,7 +86,7 @@ module _ {K V I O : Type 0} where
 module _ {K V I O R : Type 0} where
   -- what an event of a caller's operation adds: what it finishes stands behind so many updates; and where it asks for a page, so
   -- many are kept to have stood at the look-up of each context
-  abbrev pub Turns : Bool → ℕ → List ℕ → Noted K V I O → Noted K V I O → Mine K V I → Turn K V I O R → Type 0
+  abbrev pub Turns : Bool → ℕ → List ℕ → Noted K V I O → Noted K V I O → OpenOperation K V I → Turn K V I O R → Type 0
   Turns keeps at looks old new mine (Done e) = Adds keeps at old new mine e
   Turns keeps at looks old new mine Next = new ≡ old
   Turns keeps at looks old new mine (NeedsBuild ask) = new ≡ old
@@ -94,7 +94,7 @@ module _ {K V I O R : Type 0} where
   Turns keeps at looks old new mine (Waits why) = new ≡ old
 
   -- what the caller learns of a turn
-  abbrev pub IsTurnOf : Mine K V I → Turn K V I O R → Type 0
+  abbrev pub IsTurnOf : OpenOperation K V I → Turn K V I O R → Type 0
   IsTurnOf mine (Done e) = IsOf mine e
   IsTurnOf mine Next = ⊤
   IsTurnOf mine (NeedsBuild ask) = ⊤
@@ -110,7 +110,7 @@ module _ {K V I O R : Type 0} where
   IsToldBy (progress.Waits why) turn = turn ≡ Waits why
 
   -- an event of a caller's operation, as its partition tells it
-  pub record IsGone (cmp : K → K → Ordering) (f : Meanings K V I O) (old new : PartitionView K V I) (mine : Mine K V I)
+  pub record IsGone (cmp : K → K → Ordering) (f : Meanings K V I O) (old new : PartitionView K V I) (mine : OpenOperation K V I)
       (now : ℕ) (p : Progress K V I O R) : Type 0 where
     pub asks : asked old mine.seat.slot mine.context ≡ Some (question_of mine)
     pub later : old.core.moment < now
@@ -120,7 +120,7 @@ module _ {K V I O R : Type 0} where
 
   -- what a page that came makes of an operation on a key, for a history: a read is done as its look-up was to find; a look-up
   -- goes on; or nothing is to be found any more
-  abbrev pub HasCome : Meanings K V I O → Mine K V I → Option (Asked K V I) → Option (Pending V) → Option (Pending V)
+  abbrev pub HasCome : Meanings K V I O → OpenOperation K V I → Option (Asked K V I) → Option (Pending V) → Option (Pending V)
       → Progress K V I O R → Type 0
   HasCome f mine is was awaits (progress.Done a effect) = (is ≡ None)
       × ((p : Pending V) × (was ≡ Some p) × ((k : K) × (i : I) × (mine.op ≡ Read k i) × (a ≡ shown_of f k i p.value)))
@@ -130,7 +130,7 @@ module _ {K V I O R : Type 0} where
   HasCome f mine is was awaits (progress.Waits why) = awaits ≡ None
 
   -- a page came for a caller's operation
-  pub record IsCome (cmp : K → K → Ordering) (f : Meanings K V I O) (old new : PartitionView K V I) (mine : Mine K V I)
+  pub record IsCome (cmp : K → K → Ordering) (f : Meanings K V I O) (old new : PartitionView K V I) (mine : OpenOperation K V I)
       (p : Progress K V I O R) : Type 0 where
     pub asks : asked old mine.seat.slot mine.context ≡ Some (question_of mine)
     pub later : old.core.moment ≤ new.core.moment

@@ -11,7 +11,7 @@ ghost use Rattle.fkv_locked.specs.AtOnce.{IsUnfit, IsNoted, entry_at_once};
 
 use crate::finished::{FinishedOf, finish};
 use crate::locked::Locked;
-use crate::seats::Seat;
+use crate::seats::SessionId;
 use fkv_device::Receipt;
 use fkv_functions::{Mergeable, Refused, What};
 use fkv_histories::{Entry, Recorder};
@@ -71,9 +71,9 @@ impl<F: Mergeable, R: Receipt, H: Recorder<F>> Locked<F, R, H> {
     /// noted, or `None` where it can't be issued or would not be finished so, and then nothing changes. Refused, in this order,
     /// and then nothing changes: `Stranger` where fewer updates stand there; `Worn` where the updates or the book have no next
     /// number, or the clock has no two; `NoMemory`.
-    pub fn update_at_once(
+    pub fn try_update_in_place(
         &mut self,
-        seat: Seat,
+        seat: SessionId,
         key: &F::Key,
         input: &F::Input,
         told: u64,
@@ -108,8 +108,9 @@ impl<F: Mergeable, R: Receipt, H: Recorder<F>> Locked<F, R, H> {
         partition.known();
         let AtOnce { at, now } = ready;
         let issued = now - 1;
-        let Some(shown) = partition.update_at_once(seat.slot, key, input, functions, issued, now)
-        else {
+        let Some(shown) = partition.try_update_in_place(
+            seat.slot, key, input, functions, issued, now,
+        ) else {
             return Ok(None);
         };
         *clock = Clock::starting(now);
@@ -128,11 +129,11 @@ impl<F: Mergeable, R: Receipt, H: Recorder<F>> Locked<F, R, H> {
     /// Issues a read of a key in a session of a caller, which was told of so many updates, and finishes it, where no page has to
     /// be read for it: what [`Locked::issue`] and [`Locked::go`] answer then, at two moments, but the partition is left as it is,
     /// and no mark changes. Answers its entry, which is noted, or `None` where the slot is that of no session, the key belongs to
-    /// another partition, or the read would ask for a page, and then nothing changes. Refused as [`Locked::update_at_once`] is,
+    /// another partition, or the read would ask for a page, and then nothing changes. Refused as [`Locked::try_update_in_place`] is,
     /// and then nothing changes.
-    pub fn read_at_once(
+    pub fn try_read_in_memory(
         &mut self,
-        seat: Seat,
+        seat: SessionId,
         key: &F::Key,
         input: &F::Input,
         told: u64,
@@ -162,7 +163,7 @@ impl<F: Mergeable, R: Receipt, H: Recorder<F>> Locked<F, R, H> {
             Err(refused) => return Err(refused),
             Ok(ready) => ready,
         };
-        let Some(answer) = partition.read_at_once(seat.slot, key, input, functions) else {
+        let Some(answer) = partition.try_read_in_memory(seat.slot, key, input, functions) else {
             return Ok(None);
         };
         let AtOnce { at, now } = ready;

@@ -25,5 +25,5 @@ pub mod turns;
 pub use finished::{Finished, FinishedOf};
 pub use locked::{Locked, Part};
 pub use owns::Owns;
-pub use seats::{Mine, MineOf, Seat};
+pub use seats::{OpenOperation, OpenOperationOf, SessionId};
 pub use turns::{Turn, TurnOf};

@@ -11,7 +11,7 @@ ghost use Rattle.fkv_locked.specs.Turns.{question_of, IsUnheard, IsUnready, IsLo
 
 use crate::locked::{Locked, next_moment};
 use crate::marks::{mark_at, set_mark};
-use crate::seats::{Mine, MineOf, Seat};
+use crate::seats::{OpenOperation, OpenOperationOf, SessionId};
 use crate::turns::{TurnOf, make_ready, note, note_loaded};
 use fkv_device::{Loaded, Receipt};
 use fkv_functions::{Built, Mergeable, Refused, What};
@@ -20,7 +20,7 @@ use fkv_operations::{Clock, KeyedOpOf, is_same_op};
 use fkv_partition::Partition;
 
 /// Whether a caller's operation is open in its context.
-fn is_open<F: Mergeable, R: Receipt>(partition: &Partition<F, R>, mine: &MineOf<F>) -> bool
+fn is_open<F: Mergeable, R: Receipt>(partition: &Partition<F, R>, mine: &OpenOperationOf<F>) -> bool
     ensures { IsTrue result
         ↔ (asked partition.now mine.now.seat.slot mine.now.context ≡ Some (question_of mine.now)) }
 {
@@ -36,11 +36,11 @@ impl<F: Mergeable, R: Receipt, H: Recorder<F>> Locked<F, R, H> {
     /// [`fkv_partition::Partition::issue`] refuses.
     pub fn issue(
         &mut self,
-        seat: Seat,
+        seat: SessionId,
         op: KeyedOpOf<F>,
         told: u64,
         functions: &F,
-    ) -> Result<MineOf<F>, Refused>
+    ) -> Result<OpenOperationOf<F>, Refused>
         ensures issues { IfOk result (λ mine.
             Issues F.code self.old.partition self.new.partition seat.slot (op_of op) (self.old.clock + 1) (Ok mine.context)) }
         ensures mine { IfOk result (λ mine. mine
@@ -71,7 +71,7 @@ impl<F: Mergeable, R: Receipt, H: Recorder<F>> Locked<F, R, H> {
             Ok(context) => {
                 set_mark(&mut self.lows, seat.slot, context, held);
                 self.clock = Clock::starting(now);
-                Ok(Mine {
+                Ok(OpenOperation {
                     seat,
                     context,
                     number: now,
@@ -86,7 +86,7 @@ impl<F: Mergeable, R: Receipt, H: Recorder<F>> Locked<F, R, H> {
     /// nothing changes: `Unknown` where something else is open in its context, or nothing; `Stranger` where fewer updates
     /// stand there than the caller was told of; `Worn` where the updates, the book or the clock have no next number;
     /// `NoMemory`; and what that refuses.
-    pub fn go(&mut self, mine: &MineOf<F>, functions: &F) -> Result<TurnOf<F, R>, Refused>
+    pub fn go(&mut self, mine: &OpenOperationOf<F>, functions: &F) -> Result<TurnOf<F, R>, Refused>
         ensures effect { IfOk result (λ turn. (p : _) × Goes R.stands F.Key.cmp F.parts.joined F.meaning F.code
             self.old.partition
             self.new.partition mine.now.seat.slot mine.now.context (self.old.clock + 1) (Ok p) × IsToldBy p turn) }
@@ -126,7 +126,7 @@ impl<F: Mergeable, R: Receipt, H: Recorder<F>> Locked<F, R, H> {
     /// [`Locked::go`] is, with what that refuses, and then nothing changes.
     pub fn install(
         &mut self,
-        mine: &MineOf<F>,
+        mine: &OpenOperationOf<F>,
         built: Built<F>,
         functions: &F,
     ) -> Result<TurnOf<F, R>, Refused>
@@ -176,7 +176,7 @@ impl<F: Mergeable, R: Receipt, H: Recorder<F>> Locked<F, R, H> {
     /// changes; and what that refuses, which may end the operation without effect.
     pub fn load(
         &mut self,
-        mine: &MineOf<F>,
+        mine: &OpenOperationOf<F>,
         came: Result<Loaded<R>, Refused>,
         functions: &F,
     ) -> Result<TurnOf<F, R>, Refused>
@@ -230,7 +230,7 @@ impl<F: Mergeable, R: Receipt, H: Recorder<F>> Locked<F, R, H> {
 
     /// Gives an operation of a caller up: it ends without effect. Refused, in this order, and then nothing changes: `Unknown`
     /// where something else is open in its context, or nothing; `Worn` where there is no next moment.
-    pub fn give_up(&mut self, mine: &MineOf<F>) -> Result<(), Refused>
+    pub fn give_up(&mut self, mine: &OpenOperationOf<F>) -> Result<(), Refused>
         ensures effect { OnOk result (GivesUp self.old.partition self.new.partition mine.now.seat.slot mine.now.context
             (self.old.clock + 1) (Ok tt)) }
         ensures open { OnOk result (IsOpen mine.now self.old) }

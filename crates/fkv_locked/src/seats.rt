@@ -4,7 +4,7 @@ use fkv_operations::KeyedOp;
 
 /// A session of a caller, by its slot and its number.
 #[derive(Clone, Copy, Debug)]
-pub struct Seat {
+pub struct SessionId {
     pub slot: usize,
     /// The count of enters in the partition when it was entered, from 1: no other session has it.
     pub session: u64,
@@ -12,8 +12,8 @@ pub struct Seat {
 
 /// An operation of a caller.
 #[derive(Clone, Copy, Debug)]
-pub struct Mine<K, V, I> {
-    pub seat: Seat,
+pub struct OpenOperation<K, V, I> {
+    pub seat: SessionId,
     pub context: usize,
     /// The moment of its issue.
     pub number: u64,
@@ -23,4 +23,8 @@ pub struct Mine<K, V, I> {
 }
 
 /// The operations of callers of one type of functions.
-pub type MineOf<F> = Mine<<F as Functions>::Key, <F as Functions>::Value, <F as Functions>::Input>;
+pub type OpenOperationOf<F> = OpenOperation<
+    <F as Functions>::Key,
+    <F as Functions>::Value,
+    <F as Functions>::Input,
+>;

@@ -6,7 +6,7 @@ ghost use Rattle.fkv_partition.specs.Beginning.{LeavesAll};
 ghost use Rattle.fkv_locked.specs.Locks.{IsTimed, with_partition, with_session};
 
 use crate::locked::{Locked, next_moment};
-use crate::seats::Seat;
+use crate::seats::SessionId;
 use fkv_device::Receipt;
 use fkv_functions::{Mergeable, Refused};
 use fkv_histories::Recorder;
@@ -15,7 +15,7 @@ use fkv_operations::Clock;
 impl<F: Mergeable, R: Receipt, H: Recorder<F>> Locked<F, R, H> {
     /// Enters a session, as [`fkv_partition::Partition::enter`] does, and gives it the next number. Refused, in this order,
     /// and then nothing changes: `Worn` where there is no next number of sessions or no next moment, and what that refuses.
-    pub fn enter(&mut self) -> Result<Seat, Refused>
+    pub fn enter(&mut self) -> Result<SessionId, Refused>
         ensures enters { IfOk result (λ seat.
             Enters self.old.partition self.new.partition (self.old.clock + 1) (Ok seat.slot)) }
         ensures seat { IfOk result (λ seat. (seat.slot < 16) × (seat.session ≡ self.old.enters + 1)) }
@@ -36,14 +36,14 @@ impl<F: Mergeable, R: Receipt, H: Recorder<F>> Locked<F, R, H> {
             Ok(slot) => {
                 self.clock = Clock::starting(now);
                 self.enters = session;
-                Ok(Seat { slot, session })
+                Ok(SessionId { slot, session })
             }
         }
     }
 
     /// Refreshes a session, as [`fkv_partition::Partition::refresh`] does, whose refusals it has after `Worn` where there is
     /// no next moment; then nothing changes.
-    pub fn refresh(&mut self, seat: Seat) -> Result<(), Refused>
+    pub fn refresh(&mut self, seat: SessionId) -> Result<(), Refused>
         ensures effect { IsTimed self.old.clock result
             (Refreshes R.keeps self.old.partition self.new.partition seat.slot (self.old.clock + 1) result) }
         ensures after { OnOk result (self.new ≡ with_partition self.old self.new.partition) }
@@ -63,7 +63,7 @@ impl<F: Mergeable, R: Receipt, H: Recorder<F>> Locked<F, R, H> {
 
     /// Leaves a session, as [`fkv_partition::Partition::leave`] does, whose refusals it has after `Worn` where there is no
     /// next moment; then nothing changes.
-    pub fn leave(&mut self, seat: Seat) -> Result<(), Refused>
+    pub fn leave(&mut self, seat: SessionId) -> Result<(), Refused>
         ensures effect { IsTimed self.old.clock result
             (LeavesAll R.keeps self.old.partition self.new.partition seat.slot (self.old.clock + 1) result) }
         ensures after { OnOk result (self.new ≡ with_partition self.old self.new.partition) }

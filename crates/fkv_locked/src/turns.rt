@@ -8,7 +8,7 @@ ghost use Rattle.fkv_locked.specs.Turns.{question_of, IsUnready, Turns, IsToldBy
 
 use crate::finished::{Finished, finish};
 use crate::marks::{mark_at, set_mark};
-use crate::seats::MineOf;
+use crate::seats::OpenOperationOf;
 use fkv_device::Receipt;
 use fkv_functions::{Ask, Functions, Mergeable, Refused, What};
 use fkv_histories::{Entry, Recorder};
@@ -48,7 +48,7 @@ pub(crate) fn make_ready<F: Mergeable, R: Receipt, H: Recorder<F>>(
     history: &mut H,
     clock: &Clock,
     book: u64,
-    mine: &MineOf<F>,
+    mine: &OpenOperationOf<F>,
 ) -> Result<u64, Refused>
     ensures entries { H.entries history.new ≡ H.entries history.old }
     ensures count { H.count history.new ≡ H.count history.old }
@@ -94,7 +94,7 @@ pub(crate) fn note<F: Mergeable, R: Receipt, H: Recorder<F>>(
     lows: &Vec<u64>,
     looks: &mut Vec<u64>,
     book: &mut u64,
-    mine: &MineOf<F>,
+    mine: &OpenOperationOf<F>,
     progress: ProgressOf<F, R>,
 ) -> TurnOf<F, R>
     requires spare { 1 ≤ H.spare history.old }
@@ -157,7 +157,7 @@ pub(crate) fn note_loaded<F: Mergeable, R: Receipt, H: Recorder<F>>(
     lows: &Vec<u64>,
     look: u64,
     book: &mut u64,
-    mine: &MineOf<F>,
+    mine: &OpenOperationOf<F>,
     progress: ProgressOf<F, R>,
 ) -> TurnOf<F, R>
     requires spare { 1 ≤ H.spare history.old }

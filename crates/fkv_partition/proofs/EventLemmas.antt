@@ -534,22 +534,22 @@ claims-none v slot c x h quiet = ap (λ o. claim_of (joined o)) (open_at (slots_
 
 -- an entry is confirmed, or backs off
 module _ {K V I O R : Type 0} (stands : R → Standing) (cmp : K → K → Ordering) (join : V → V → V) (f : Meanings K V I O) (code : K → ℕ) (old new : CoreView K V I) (slot c now : ℕ) (x : Context K V I) (p : Place) (h : context_at old slot c ≡ Some x) (phase : x.phase ≡ Confirm p) (final : Bool) (alone : IsTrue final ↔ IsAlone old.records.words p) where
-  settle-does : OnTrue final (new ≡ record (with_context old slot c (Some (at_phase x Fresh)) now) { records = confirmed old.records p })
+  confirm_claim-does : OnTrue final (new ≡ record (with_context old slot c (Some (at_phase x Fresh)) now) { records = confirmed old.records p })
       → OnFalse final (new ≡ record (with_context old slot c (Some (at_phase x Fresh)) now) { records = released old.records p })
       → (b : Bool) → final ≡ b → Goes stands cmp join f code old new slot c now (Ok Next)
-  settle-does made emptied true e = confirms x p h phase (alone.0 e) (OnTrue_at e made) refl
-  settle-does made emptied false e = backs_off x p h phase (λ a. (let both : false ≡ true = sym e ∙ alone.1 a in absurd (cc))) (OnFalse_at e emptied) refl
+  confirm_claim-does made emptied true e = confirms x p h phase (alone.0 e) (OnTrue_at e made) refl
+  confirm_claim-does made emptied false e = backs_off x p h phase (λ a. (let both : false ≡ true = sym e ∙ alone.1 a in absurd (cc))) (OnFalse_at e emptied) refl
 
-  settle-event : OnTrue final (new ≡ record (with_context old slot c (Some (at_phase x Fresh)) now) { records = confirmed old.records p })
+  confirm_claim-event : OnTrue final (new ≡ record (with_context old slot c (Some (at_phase x Fresh)) now) { records = confirmed old.records p })
       → OnFalse final (new ≡ record (with_context old slot c (Some (at_phase x Fresh)) now) { records = released old.records p })
       → (b : Bool) → final ≡ b → IsEvent {R = R} cmp f old new slot c now Next
-  settle-event made emptied true e = rw (OnTrue_at e made) (event-next cmp join f code old slot c now x h Fresh (confirmed old.records p) refl refl refl)
-  settle-event made emptied false e = rw (OnFalse_at e emptied) (event-next cmp join f code old slot c now x h Fresh (released old.records p) refl refl refl)
+  confirm_claim-event made emptied true e = rw (OnTrue_at e made) (event-next cmp join f code old slot c now x h Fresh (confirmed old.records p) refl refl refl)
+  confirm_claim-event made emptied false e = rw (OnFalse_at e emptied) (event-next cmp join f code old slot c now x h Fresh (released old.records p) refl refl refl)
 
   pub settles : OnTrue final (new ≡ record (with_context old slot c (Some (at_phase x Fresh)) now) { records = confirmed old.records p })
       → OnFalse final (new ≡ record (with_context old slot c (Some (at_phase x Fresh)) now) { records = released old.records p })
       → Goes stands cmp join f code old new slot c now (Ok Next) × IsEvent {R = R} cmp f old new slot c now Next
-  settles made emptied = (settle-does made emptied final refl, settle-event made emptied final refl)
+  settles made emptied = (confirm_claim-does made emptied final refl, confirm_claim-event made emptied final refl)
 
 -- ---- what the records answer
 pub slot-none : (o : Option ℕ) (why : Refused) → Err why ≡ ok_or o NoSlot → (o ≡ None) × (why ≡ NoSlot)

@@ -19,7 +19,7 @@ impl<F: Mergeable, R: Receipt> Core<F, R> {
     /// Reads a key in a session, where no page is to be read for that. It answers what a read that is issued by [`Core::issue`]
     /// is finished with when it goes on by [`Core::go`], but no context is written and read again, and no moment passes. Answers
     /// `None` where its key belongs to another partition, or the read would ask for a page.
-    pub fn read_at_once(
+    pub fn try_read_in_memory(
         &self,
         slot: usize,
         key: &F::Key,

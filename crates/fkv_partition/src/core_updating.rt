@@ -18,7 +18,7 @@ impl<F: Mergeable, R: Receipt> Core<F, R> {
     /// in place, and the functions do not decline the update. That is what [`Core::issue`] and [`Core::go`] do then, but no
     /// context is written and read again. Answers what the update shows, or `None` where its key belongs to another
     /// partition or it would not be finished so, and then nothing changes.
-    pub fn update_at_once(
+    pub fn try_update_in_place(
         &mut self,
         slot: usize,
         context: usize,

@@ -42,7 +42,7 @@ impl<F: Mergeable, R: Receipt> Core<F, R> {
     }
 
     /// Gives up an operation as [`Core::give_up`] does, but takes no moment.
-    pub fn abandon(&mut self, slot: usize, context: usize) -> Result<(), Refused>
+    pub fn give_up_untimed(&mut self, slot: usize, context: usize) -> Result<(), Refused>
         ensures effect { GivesUp self.old self.new slot context self.old.moment result }
         ensures event { OnOk result (IsGiveUp self.old self.new slot context self.old.moment) }
         ensures within { OnOk result ((slot < 16) × (context < 8)) }

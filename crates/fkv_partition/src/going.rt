@@ -62,7 +62,7 @@ impl<F: Mergeable, R: Receipt> Core<F, R> {
             return Ok(Progress::NeedsBuild(question.1));
         }
         if let Some(place) = claim_of(&open.phase) {
-            return Ok(self.settle(slot, context, &open, place, now));
+            return Ok(self.confirm_claim(slot, context, &open, place, now));
         }
         if let Some(_loading) = loading_of(&open.phase) {
             return Err(Refused::NotReady);
@@ -71,7 +71,7 @@ impl<F: Mergeable, R: Receipt> Core<F, R> {
     }
 
     /// Confirms the entry that an operation made, or takes it back; the operation is to look again.
-    fn settle(
+    fn confirm_claim(
         &mut self,
         slot: usize,
         context: usize,

@@ -202,7 +202,7 @@ impl<F: Mergeable, R: Receipt> Partition<F, R> {
     /// Gives up an operation on a key, as [`Partition::give_up`] does, but takes no moment: for one that was refused or
     /// stalled at the moment that stands. Refused, and then nothing changes: `Unknown` where no operation on a key is open
     /// there.
-    pub fn abandon(&mut self, slot: usize, context: usize) -> Result<(), Refused>
+    pub fn give_up_untimed(&mut self, slot: usize, context: usize) -> Result<(), Refused>
         ensures effect { GivesUp self.old.core self.new.core slot context self.old.core.moment result }
         ensures rest { self.new ≡ with_core self.old self.new.core }
         ensures event { OnOk result (IsGiveUp self.old.core self.new.core slot context self.old.core.moment) }
@@ -213,7 +213,7 @@ impl<F: Mergeable, R: Receipt> Partition<F, R> {
         events_preserve::<F::Key, F::Value, F::Input, F::Output, R>();
         sessions_preserved::<F::Key, F::Value, F::Input, F::Output, R>();
         self.core.known();
-        let given = self.core.abandon(slot, context);
+        let given = self.core.give_up_untimed(slot, context);
         self.core.known();
         given
     }

@@ -123,7 +123,9 @@ impl<F: Mergeable, R: Receipt> Core<F, R> {
         let page = self.records.page_of(loading.wanted);
         match self.read(reader, page) {
             Err(refused) => Err(refused),
-            Ok(loaded) => self.look_on(slot, context, &open, loading, loaded, functions, now),
+            Ok(loaded) => self.resume_look_up(
+                slot, context, &open, loading, loaded, functions, now,
+            ),
         }
     }
 
@@ -177,11 +179,11 @@ impl<F: Mergeable, R: Receipt> Core<F, R> {
         if let Err(refused) = self.records.is_own(&loaded, page) {
             return Err(refused);
         }
-        self.look_on(slot, context, operation, loading, loaded, functions, now)
+        self.resume_look_up(slot, context, operation, loading, loaded, functions, now)
     }
 
     /// Follows the records of the page that an operation waits for.
-    fn look_on(
+    fn resume_look_up(
         &mut self,
         slot: usize,
         context: usize,

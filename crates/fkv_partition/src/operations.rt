@@ -187,7 +187,7 @@ impl<F: Mergeable, R: Receipt> Partition<F, R> {
         self.known();
         match self.relocation(slot, context) {
             None => self.load_on_key(slot, context, came, functions, now),
-            Some(_relocation) => self.load_on(slot, context, came, functions, now),
+            Some(_relocation) => self.resume_load(slot, context, came, functions, now),
         }
     }
 
@@ -233,7 +233,7 @@ impl<F: Mergeable, R: Receipt> Partition<F, R> {
         self.known();
         match self.relocation(slot, context) {
             None => self.load_by_on_key(slot, context, functions, reader, now),
-            Some(_relocation) => self.load_on_by(slot, context, functions, reader, now),
+            Some(_relocation) => self.resume_load_by(slot, context, functions, reader, now),
         }
     }
 
@@ -269,7 +269,7 @@ impl<F: Mergeable, R: Receipt> Partition<F, R> {
         self.known();
         match self.relocation(slot, context) {
             None => self.load_on_key(slot, context, Ok(loaded), functions, now),
-            Some(_relocation) => self.load_on_own(slot, context, loaded, functions, now),
+            Some(_relocation) => self.resume_load_own(slot, context, loaded, functions, now),
         }
     }
 

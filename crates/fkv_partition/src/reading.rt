@@ -31,7 +31,7 @@ impl<F: Mergeable, R: Receipt> Partition<F, R> {
     /// `Stranger` where the page was read by another receipt than the one that is kept of it; `Damaged` where its bytes
     /// spell no record at the target, or on the chain, or lead to no place, which ends the relocation too; `Worn`;
     /// `NoMemory` where the receipt of the next page can't be shared. A refusal that ends no relocation changes nothing.
-    pub(crate) fn load_on(
+    pub(crate) fn resume_load(
         &mut self,
         slot: usize,
         context: usize,
@@ -71,11 +71,11 @@ impl<F: Mergeable, R: Receipt> Partition<F, R> {
         }
     }
 
-    /// Goes on with a relocation that waits for a page, as [`Partition::load_on`] does, with the page that is read here, by the
+    /// Goes on with a relocation that waits for a page, as [`Partition::resume_load`] does, with the page that is read here, by the
     /// receipt that is kept of it. Where none is open there, it waits for no page, or Begin has moved, nothing is read. Refused
-    /// as `load_on` is, but never by `Stranger`; and by what the reader tells, and `NoMemory` where the receipt can't be shared:
+    /// as `resume_load` is, but never by `Stranger`; and by what the reader tells, and `NoMemory` where the receipt can't be shared:
     /// then nothing changes.
-    pub(crate) fn load_on_by<P: PageReader<Receipt = R>>(
+    pub(crate) fn resume_load_by<P: PageReader<Receipt = R>>(
         &mut self,
         slot: usize,
         context: usize,
@@ -114,9 +114,9 @@ impl<F: Mergeable, R: Receipt> Partition<F, R> {
         }
     }
 
-    /// Goes on with a relocation that waits for a page, as [`Partition::load_on`] does, with a page that is the one that is kept,
-    /// where it waits for that: it is compared with no receipt. Refused as `load_on` is, but never by `Stranger`.
-    pub(crate) fn load_on_own(
+    /// Goes on with a relocation that waits for a page, as [`Partition::resume_load`] does, with a page that is the one that is kept,
+    /// where it waits for that: it is compared with no receipt. Refused as `resume_load` is, but never by `Stranger`.
+    pub(crate) fn resume_load_own(
         &mut self,
         slot: usize,
         context: usize,
@@ -200,7 +200,7 @@ impl<F: Mergeable, R: Receipt> Partition<F, R> {
                 self.read_place(slot, context, relocation, &loaded, functions, now)
             }
             Stage::Tracing(entry, loading) => {
-                self.trace_on(
+                self.resume_trace(
                     slot, context, relocation, entry, loading, &loaded, functions, now,
                 )
             }
@@ -241,7 +241,7 @@ impl<F: Mergeable, R: Receipt> Partition<F, R> {
     }
 
     /// Follows the chain from the entry of a record's class, in a page above the target, down to the target.
-    fn trace_on(
+    fn resume_trace(
         &mut self,
         slot: usize,
         context: usize,

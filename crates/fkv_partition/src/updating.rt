@@ -16,7 +16,7 @@ impl<F: Mergeable, R: Receipt> Partition<F, R> {
     /// record of its key may be changed in place, and the functions do not decline the update. That is what
     /// [`Partition::issue`] and [`Partition::go`] do then, but no context is written and read again. Answers what the update
     /// shows, or `None` where it can't be issued or would not be finished so, and then nothing changes.
-    pub fn update_at_once(
+    pub fn try_update_in_place(
         &mut self,
         slot: usize,
         key: &F::Key,
@@ -46,7 +46,7 @@ impl<F: Mergeable, R: Receipt> Partition<F, R> {
         };
         let shown = self
             .core
-            .update_at_once(slot, context, key, input, functions, issued, now);
+            .try_update_in_place(slot, context, key, input, functions, issued, now);
         self.core.known();
         shown
     }
@@ -55,7 +55,7 @@ impl<F: Mergeable, R: Receipt> Partition<F, R> {
     /// [`Partition::issue`] is finished with when it goes on by [`Partition::go`], but takes no context, and no moment passes.
     /// Answers `None` where the slot is that of no session, the key belongs to another partition, or the read would ask for a
     /// page.
-    pub fn read_at_once(
+    pub fn try_read_in_memory(
         &self,
         slot: usize,
         key: &F::Key,
@@ -71,6 +71,6 @@ impl<F: Mergeable, R: Receipt> Partition<F, R> {
         if !self.core.is_session(slot) {
             return None;
         }
-        self.core.read_at_once(slot, key, input, functions)
+        self.core.try_read_in_memory(slot, key, input, functions)
     }
 }

@@ -1,11 +1,11 @@
 -- What a caller learns of a turn.
 use Rattle.std.proofs.Common.{ℕ, Bool, List}
 use Rattle.fkv_locked.specs.Turns.{Noted, Turns, IsTurnOf}
-use Rattle.fkv_locked.specs.declared.seats.Mine.{Mine}
+use Rattle.fkv_locked.specs.declared.seats.OpenOperation.{OpenOperation}
 use Rattle.fkv_locked.specs.declared.turns.Turn.{Turn}
 use Rattle.fkv_locked.specs.declared.turns.Turn.TheVariants.{Done, Next, NeedsBuild, NeedsLoad, Waits}
 
-pub turn_of : {K V I O R : Type 0} (keeps : Bool) (at : ℕ) (looks : List ℕ) (old new : Noted K V I O) (mine : Mine K V I) (turn : Turn K V I O R)
+pub turn_of : {K V I O R : Type 0} (keeps : Bool) (at : ℕ) (looks : List ℕ) (old new : Noted K V I O) (mine : OpenOperation K V I) (turn : Turn K V I O R)
     → Turns keeps at looks old new mine turn
     → IsTurnOf mine turn
 turn_of keeps at looks old new mine (Done e) h = h.of

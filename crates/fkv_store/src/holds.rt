@@ -10,7 +10,7 @@ use crate::stores::Store;
 use fkv_device::{Disk, Loaded, Receipt};
 use fkv_functions::{Built, Functions, Mergeable, Refused};
 use fkv_histories::Recorder;
-use fkv_locked::{FinishedOf, Mine, Seat, TurnOf};
+use fkv_locked::{FinishedOf, OpenOperation, SessionId, TurnOf};
 use fkv_operations::KeyedOpOf;
 use std::marker::Model;
 use std::sync::Wait;
@@ -31,7 +31,7 @@ impl At {
 
 /// What is at hand for the next event of an operation.
 #[derive(Drop)]
-pub(crate) enum Hand<R: Receipt> {
+pub(crate) enum EventInput<R: Receipt> {
     /// Nothing: it goes on.
     Nothing,
     /// The page that it waits for, or the refusal that came in its place.
@@ -41,13 +41,13 @@ pub(crate) enum Hand<R: Receipt> {
 /// An operation of a caller that is issued. A contract sees it as what the caller knows of it. It is neither copied nor let go: it
 /// ends where an event finished it ([`close`]), or it is given up ([`give_up`]).
 pub(crate) struct Issued<K, V, I> {
-    mine: Mine<K, V, I>,
+    mine: OpenOperation<K, V, I>,
 }
 
 impl<K, V, I> Model for Issued<K, V, I> {
-    ghost use Rattle.fkv_locked.specs.declared.seats.Mine.{Mine};
+    ghost use Rattle.fkv_locked.specs.declared.seats.OpenOperation.{OpenOperation};
 
-    ghost Value = { Mine K V I };
+    ghost Value = { OpenOperation K V I };
 
     ghost view = { λ i. i.mine };
 
@@ -92,7 +92,7 @@ pub(crate) fn enter<F: Mergeable, D: Disk, H: Recorder<F>, G: Gate>(
     store: &Store<F, D, H>,
     at: At,
     gate: &G,
-) -> Result<Seat, Refused>
+) -> Result<SessionId, Refused>
     requires { at.partition < store.now.count }
     ensures only { IfErr result IsUnentered }
 {
@@ -109,7 +109,7 @@ pub(crate) fn refresh<F: Mergeable, D: Disk, H: Recorder<F>, G: Gate>(
     rt: &impl Wait,
     store: &Store<F, D, H>,
     at: At,
-    seat: Seat,
+    seat: SessionId,
     gate: &G,
 ) -> Result<(), Refused>
     requires { at.partition < store.now.count }
@@ -128,7 +128,7 @@ pub(crate) fn leave<F: Mergeable, D: Disk, H: Recorder<F>, G: Gate>(
     rt: &impl Wait,
     store: &Store<F, D, H>,
     at: At,
-    seat: Seat,
+    seat: SessionId,
     gate: &G,
 ) -> Result<(), Refused>
     requires { at.partition < store.now.count }
@@ -147,7 +147,7 @@ pub(crate) fn issue<F: Mergeable, D: Disk, H: Recorder<F>, G: Gate>(
     rt: &impl Wait,
     store: &Store<F, D, H>,
     at: At,
-    seat: Seat,
+    seat: SessionId,
     op: KeyedOpOf<F>,
     known: u64,
     gate: &G,
@@ -165,13 +165,13 @@ pub(crate) fn issue<F: Mergeable, D: Disk, H: Recorder<F>, G: Gate>(
     }
 }
 
-/// Makes an update of a caller in one call, where it is finished so. Refused as [`fkv_locked::Locked::update_at_once`] is.
+/// Makes an update of a caller in one call, where it is finished so. Refused as [`fkv_locked::Locked::try_update_in_place`] is.
 #[inline(always)]
-pub(crate) fn update_at_once<F: Mergeable, D: Disk, H: Recorder<F>, G: Gate>(
+pub(crate) fn try_update_in_place<F: Mergeable, D: Disk, H: Recorder<F>, G: Gate>(
     rt: &impl Wait,
     store: &Store<F, D, H>,
     at: At,
-    seat: Seat,
+    seat: SessionId,
     key: &F::Key,
     input: &F::Input,
     known: u64,
@@ -185,19 +185,19 @@ pub(crate) fn update_at_once<F: Mergeable, D: Disk, H: Recorder<F>, G: Gate>(
 {
     let mut held = store.locks[at.partition].lock(rt);
     gate.pass(at.worker, at.locked());
-    match held.update_at_once(seat, key, input, known, &store.functions) {
+    match held.try_update_in_place(seat, key, input, known, &store.functions) {
         Ok(entry) => Ok(entry),
         Err(refused) => Err(told_of(refused, known)),
     }
 }
 
-/// Makes a read of a caller in one call, where it is finished so. Refused as [`fkv_locked::Locked::read_at_once`] is.
+/// Makes a read of a caller in one call, where it is finished so. Refused as [`fkv_locked::Locked::try_read_in_memory`] is.
 #[inline(always)]
-pub(crate) fn read_at_once<F: Mergeable, D: Disk, H: Recorder<F>, G: Gate>(
+pub(crate) fn try_read_in_memory<F: Mergeable, D: Disk, H: Recorder<F>, G: Gate>(
     rt: &impl Wait,
     store: &Store<F, D, H>,
     at: At,
-    seat: Seat,
+    seat: SessionId,
     key: &F::Key,
     input: &F::Input,
     known: u64,
@@ -211,7 +211,7 @@ pub(crate) fn read_at_once<F: Mergeable, D: Disk, H: Recorder<F>, G: Gate>(
 {
     let mut held = store.locks[at.partition].lock(rt);
     gate.pass(at.worker, at.locked());
-    match held.read_at_once(seat, key, input, known, &store.functions) {
+    match held.try_read_in_memory(seat, key, input, known, &store.functions) {
         Ok(entry) => Ok(entry),
         Err(refused) => Err(told_of(refused, known)),
     }
@@ -224,7 +224,7 @@ pub(crate) fn turn<F: Mergeable, D: Disk, H: Recorder<F>, G: Gate>(
     store: &Store<F, D, H>,
     at: At,
     issued: &IssuedOf<F>,
-    hand: Hand<D::Receipt>,
+    hand: EventInput<D::Receipt>,
     turned: &mut Turned,
     gate: &G,
 ) -> Result<TurnOf<F, D::Receipt>, Refused>
@@ -237,8 +237,8 @@ pub(crate) fn turn<F: Mergeable, D: Disk, H: Recorder<F>, G: Gate>(
     let mut held = store.locks[at.partition].lock(rt);
     gate.pass(at.worker, at.locked());
     let turn = match hand {
-        Hand::Nothing => held.go(&issued.mine, &store.functions),
-        Hand::Came(came) => held.load(&issued.mine, came, &store.functions),
+        EventInput::Nothing => held.go(&issued.mine, &store.functions),
+        EventInput::Came(came) => held.load(&issued.mine, came, &store.functions),
     };
     match turn {
         Ok(turn) => {

@@ -2,7 +2,7 @@
 ghost use Rattle.std.specs.Prelude.{◌≡◌, replicate, None, IfOk, IfErr};
 
 use fkv_functions::Refused;
-use fkv_locked::Seat;
+use fkv_locked::SessionId;
 use std::alloc::Global;
 
 /// So many zeros. Refused: `NoMemory`.
@@ -17,7 +17,7 @@ pub(crate) fn zeros(alloc: Global, count: usize) -> Result<Vec<u64>, Refused>
 }
 
 /// No seat, for each of so many partitions. Refused: `NoMemory`.
-pub(crate) fn no_seats(alloc: Global, count: usize) -> Result<Vec<Option<Seat>>, Refused>
+pub(crate) fn no_seats(alloc: Global, count: usize) -> Result<Vec<Option<SessionId>>, Refused>
     ensures ok { IfOk result (λ seats. seats.items ≡ replicate count None) }
     ensures only { IfErr result (λ refused. refused ≡ Refused.NoMemory) }
 {

@@ -14,7 +14,7 @@ use crate::stores::Store;
 use fkv_device::Disk;
 use fkv_functions::{Mergeable, Refused, What};
 use fkv_histories::Recorder;
-use fkv_locked::{Owns, Seat};
+use fkv_locked::{Owns, SessionId};
 use fkv_operations::{AnswerOf, KeyedOp, KeyedOpOf};
 use std::alloc::Global;
 use std::marker::Model;
@@ -31,7 +31,7 @@ pub struct Pass<F: Mergeable, D: Disk, H: Recorder<F>> {
     pub(crate) store: u64,
     pub(crate) worker: u32,
     pub(crate) owns: Owns<F, H>,
-    pub(crate) seats: Vec<Option<Seat>>,
+    pub(crate) seats: Vec<Option<SessionId>>,
     /// For each partition how often its pages had been moved when its session was refreshed.
     pub(crate) seen: Vec<u64>,
     pub(crate) readers: Vec<D::Reader>,
@@ -66,10 +66,10 @@ impl<F: Mergeable, D: Disk, H: Recorder<F>> Model for Pass<F, D, H> {
 fn seat_in<F: Mergeable, D: Disk, H: Recorder<F>, G: Gate>(
     rt: &impl Wait,
     store: &Store<F, D, H>,
-    seats: &mut Vec<Option<Seat>>,
+    seats: &mut Vec<Option<SessionId>>,
     at: At,
     gate: &G,
-) -> Result<Seat, Refused>
+) -> Result<SessionId, Refused>
     requires within { at.partition < store.now.count }
     requires seats { length seats.old.items ≡ store.now.count }
     ensures seats { length seats.new.items ≡ length seats.old.items }
@@ -92,7 +92,7 @@ fn seat_in<F: Mergeable, D: Disk, H: Recorder<F>, G: Gate>(
 fn refresh_at_times<F: Mergeable, D: Disk, H: Recorder<F>, G: Gate>(
     rt: &impl Wait,
     store: &Store<F, D, H>,
-    seats: &[Option<Seat>],
+    seats: &[Option<SessionId>],
     seen: &mut Vec<u64>,
     worker: u32,
     answered: &mut u8,
@@ -334,7 +334,7 @@ impl<F: Mergeable, D: Disk, H: Recorder<F>> Pass<F, D, H> {
 fn leave_all<F: Mergeable, D: Disk, H: Recorder<F>>(
     rt: &impl Wait,
     store: &Store<F, D, H>,
-    seats: &mut Vec<Option<Seat>>,
+    seats: &mut Vec<Option<SessionId>>,
     worker: u32,
 ) -> Result<(), Refused>
     requires { length seats.old.items ≡ store.now.count }

@@ -7,15 +7,15 @@ ghost use Rattle.fkv_store.specs.Runs.{IsRunAs, IsEntryOf};
 
 use crate::gates::{Gate, Place};
 use crate::holds::{
-    At, Hand, IssuedOf, Turned, close, give_up, install, issue, read_at_once, refresh, turn,
-    update_at_once,
+    At, EventInput, IssuedOf, Turned, close, give_up, install, issue, refresh, try_read_in_memory,
+    try_update_in_place, turn,
 };
 use crate::stores::Store;
 use crate::waiting::Patience;
 use fkv_device::{Disk, Loaded};
 use fkv_functions::{Built, Mergeable, Refused};
 use fkv_histories::Recorder;
-use fkv_locked::{FinishedOf, Seat, Turn, TurnOf};
+use fkv_locked::{FinishedOf, SessionId, Turn, TurnOf};
 use fkv_operations::{KeyedOp, KeyedOpOf};
 use std::alloc::Global;
 use std::rt::Clock;
@@ -37,8 +37,8 @@ pub(crate) enum Loads {
 pub(crate) struct Run<'a> {
     pub alloc: Global,
     pub at: At,
-    pub seats: &'a [Option<Seat>],
-    pub seat: Seat,
+    pub seats: &'a [Option<SessionId>],
+    pub seat: SessionId,
     pub known: u64,
 }
 
@@ -46,7 +46,7 @@ pub(crate) struct Run<'a> {
 pub(crate) fn refresh_all<F: Mergeable, D: Disk, H: Recorder<F>, G: Gate>(
     rt: &impl Wait,
     store: &Store<F, D, H>,
-    seats: &[Option<Seat>],
+    seats: &[Option<SessionId>],
     worker: u32,
     gate: &G,
 ) -> Result<(), Refused>
@@ -69,7 +69,7 @@ pub(crate) fn refresh_all<F: Mergeable, D: Disk, H: Recorder<F>, G: Gate>(
 pub(crate) fn refresh_moved<F: Mergeable, D: Disk, H: Recorder<F>, G: Gate>(
     rt: &impl Wait,
     store: &Store<F, D, H>,
-    seats: &[Option<Seat>],
+    seats: &[Option<SessionId>],
     seen: &mut Vec<u64>,
     worker: u32,
     gate: &G,
@@ -102,7 +102,7 @@ fn attempt<F: Mergeable, D: Disk, H: Recorder<F>, G: Gate>(
     store: &Store<F, D, H>,
     at: At,
     issued: &IssuedOf<F>,
-    hand: Hand<D::Receipt>,
+    hand: EventInput<D::Receipt>,
     turned: &mut Turned,
     gate: &G,
 ) -> Result<TurnOf<F, D::Receipt>, Refused>
@@ -181,11 +181,11 @@ fn run_on<F: Mergeable, D: Disk, H: Recorder<F>, G: Gate>(
     ensures stalled { IfErr result (λ why. why ≡ Refused.Stalled → turned.new ≡ store.now.turns) }
 {
     *turned = Turned::none();
-    let mut hand = Hand::Nothing;
+    let mut hand = EventInput::Nothing;
     let mut patience = Patience::default();
     for _turn in 0..store.turns {
         let at_hand = hand;
-        hand = Hand::Nothing;
+        hand = EventInput::Nothing;
         let made = match attempt(rt, store, run.at, issued, at_hand, turned, gate) {
             Ok(made) => made,
             Err(refused) => return Err(refused),
@@ -199,7 +199,7 @@ fn run_on<F: Mergeable, D: Disk, H: Recorder<F>, G: Gate>(
                     return Ok(None);
                 }
                 gate.pass(run.at.worker, Place::Load);
-                hand = Hand::Came(Loaded::fetch(reader, &receipt, store.page_size));
+                hand = EventInput::Came(Loaded::fetch(reader, &receipt, store.page_size));
             }
             Turn::Waits(_) => match wait(rt, store, run, &mut patience, gate) {
                 Ok(()) => {}
@@ -211,7 +211,7 @@ fn run_on<F: Mergeable, D: Disk, H: Recorder<F>, G: Gate>(
 }
 
 /// Makes an operation in one hold, where it is an update or a read that is finished so; where it is not, nothing has changed.
-/// Refused as [`update_at_once`] is.
+/// Refused as [`try_update_in_place`] is.
 #[inline(always)]
 fn try_at_once<F: Mergeable, D: Disk, H: Recorder<F>, G: Gate>(
     rt: &impl Wait,
@@ -227,10 +227,10 @@ fn try_at_once<F: Mergeable, D: Disk, H: Recorder<F>, G: Gate>(
 {
     match op {
         KeyedOp::Rmw(key, input) => {
-            update_at_once(rt, store, run.at, run.seat, &key, &input, run.known, gate)
+            try_update_in_place(rt, store, run.at, run.seat, &key, &input, run.known, gate)
         }
         KeyedOp::Read(key, input) => {
-            read_at_once(rt, store, run.at, run.seat, &key, &input, run.known, gate)
+            try_read_in_memory(rt, store, run.at, run.seat, &key, &input, run.known, gate)
         }
         KeyedOp::Upsert(..) | KeyedOp::Delete(_) | KeyedOp::Merge(..) => Ok(None),
     }

@@ -5,7 +5,7 @@ use fkv_compaction::Compactor;
 use fkv_device::{Disk, Loaded, MemoryDevice, MemoryReader, MemoryReceipt, MemoryWriter, Written};
 use fkv_functions::{Built, Name, Refused, SumFns};
 use fkv_histories::Recorder;
-use fkv_locked::{FinishedOf, Locked, MineOf, Owns, Part, Seat, Turn};
+use fkv_locked::{FinishedOf, Locked, OpenOperationOf, Owns, Part, SessionId, Turn};
 use fkv_operations::{Answer, KeyedOp, KeyedOpOf};
 use fkv_partition::{Config, Progress};
 use std::alloc::Global;
@@ -65,7 +65,7 @@ pub struct Driven<H: Recorder<SumFns>> {
     locked: Locked<SumFns, MemoryReceipt, H>,
     reader: MemoryReader,
     writer: MemoryWriter,
-    seat: Seat,
+    seat: SessionId,
     compactor: Compactor,
     /// What the caller was answered, in one partition.
     owns: Owns<SumFns, H>,
@@ -102,13 +102,13 @@ impl<H: Recorder<SumFns>> Driven<H> {
     }
 
     /// An operation of the caller, issued.
-    pub fn issued(&mut self, op: KeyedOpOf<SumFns>) -> Result<MineOf<SumFns>, Refused> {
+    pub fn issued(&mut self, op: KeyedOpOf<SumFns>) -> Result<OpenOperationOf<SumFns>, Refused> {
         let told = self.owns.told_at(0);
         self.locked.issue(self.seat, op, told, &SumFns)
     }
 
     /// The receipt of the page that an operation needs after its next event, if it needs one.
-    pub fn looked(&mut self, mine: &MineOf<SumFns>) -> Result<Option<MemoryReceipt>, Refused> {
+    pub fn looked(&mut self, mine: &OpenOperationOf<SumFns>) -> Result<Option<MemoryReceipt>, Refused> {
         self.owns.make_room(0)?;
         match self.locked.go(mine, &SumFns)? {
             Turn::NeedsLoad(receipt, _address) => Ok(Some(receipt)),
@@ -123,7 +123,7 @@ impl<H: Recorder<SumFns>> Driven<H> {
     /// What an operation is answered by the page that it needs.
     pub fn loaded(
         &mut self,
-        mine: &MineOf<SumFns>,
+        mine: &OpenOperationOf<SumFns>,
         receipt: &MemoryReceipt,
     ) -> Result<Told, Refused> {
         self.owns.make_room(0)?;
@@ -137,7 +137,7 @@ impl<H: Recorder<SumFns>> Driven<H> {
     }
 
     /// An operation that was issued, driven to its end.
-    pub fn ended(&mut self, mine: &MineOf<SumFns>) -> Result<Told, Refused> {
+    pub fn ended(&mut self, mine: &OpenOperationOf<SumFns>) -> Result<Told, Refused> {
         self.owns.make_room(0)?;
         let finished = drive(&mut self.locked, &mut self.reader, mine)?;
         Ok(Told::Done(self.owns.take(0, finished)))
@@ -150,7 +150,7 @@ impl<H: Recorder<SumFns>> Driven<H> {
         let told = self.owns.told_at(0);
         match self
             .locked
-            .update_at_once(self.seat, &key, &amount, told, &SumFns)?
+            .try_update_in_place(self.seat, &key, &amount, told, &SumFns)?
         {
             Some(finished) => Ok(Told::Done(self.owns.take(0, finished))),
             None => Ok(Told::Ok),
@@ -158,13 +158,13 @@ impl<H: Recorder<SumFns>> Driven<H> {
     }
 
     /// A read of the caller, in one call.
-    fn read_at_once(&mut self, letter: u8) -> Result<Told, Refused> {
+    fn try_read_in_memory(&mut self, letter: u8) -> Result<Told, Refused> {
         let key = key(letter)?;
         self.owns.make_room(0)?;
         let told = self.owns.told_at(0);
         match self
             .locked
-            .read_at_once(self.seat, &key, &0, told, &SumFns)?
+            .try_read_in_memory(self.seat, &key, &0, told, &SumFns)?
         {
             Some(finished) => Ok(Told::Done(self.owns.take(0, finished))),
             None => Ok(Told::Ok),
@@ -203,7 +203,7 @@ impl<H: Recorder<SumFns>> Driven<H> {
             Call::Add(letter, amount) => self.done(KeyedOp::Rmw(key(letter)?, amount)),
             Call::Read(letter) => self.done(KeyedOp::Read(key(letter)?, 0)),
             Call::AddAtOnce(letter, amount) => self.done_at_once(letter, amount),
-            Call::ReadAtOnce(letter) => self.read_at_once(letter),
+            Call::ReadAtOnce(letter) => self.try_read_in_memory(letter),
             Call::ReadOnly(page) => {
                 self.locked.shift_read_only(page)?;
                 Ok(Told::Ok)
@@ -259,7 +259,7 @@ fn fetched<H: Recorder<SumFns>>(
 fn drive<H: Recorder<SumFns>>(
     locked: &mut Locked<SumFns, MemoryReceipt, H>,
     reader: &mut MemoryReader,
-    mine: &MineOf<SumFns>,
+    mine: &OpenOperationOf<SumFns>,
 ) -> Result<FinishedOf<SumFns>, Refused> {
     let mut turn = locked.go(mine, &SumFns)?;
     for _event in 0..EVENTS {

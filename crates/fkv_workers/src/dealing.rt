@@ -5,7 +5,7 @@ ghost use Rattle.fkv_functions.specs.declared.refusals.Refused.TheVariants as re
 ghost use Rattle.fkv_store.specs.Stores.{IsUnopened};
 ghost use Rattle.fkv_workers.specs.Works.{StandsFor, IsFirstFault};
 
-use crate::deals::Hand;
+use crate::deals::FeedShare;
 use crate::working::{Work, Worked};
 use fkv_device::Disk;
 use fkv_feeds::RowMode;
@@ -30,7 +30,7 @@ pub(crate) fn works<
     store: &'a Store<F, D, H>,
     gate: &'a G,
     mode: RowMode,
-    hands: Vec<Hand<S>>,
+    hands: Vec<FeedShare<S>>,
 ) -> Result<Vec<Work<'a, S, F, D, H, G>>, Refused>
     requires { 0 < store.now.count }
     ensures feeds { IfOk result

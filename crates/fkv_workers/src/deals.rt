@@ -6,7 +6,7 @@ use fkv_functions::Refused;
 use std::alloc::Global;
 
 /// What a worker takes: items with their places, counted from 0.
-pub type Hand<T> = Vec<(usize, T)>;
+pub type FeedShare<T> = Vec<(usize, T)>;
 
 /// Adds an item. Refused: `NoMemory`.
 fn keep<T: Drop>(items: &mut Vec<T>, item: T) -> Result<(), Refused>
@@ -20,7 +20,7 @@ fn keep<T: Drop>(items: &mut Vec<T>, item: T) -> Result<(), Refused>
 }
 
 /// So many hands with nothing in them. Refused: `NoMemory`.
-fn hands<T: Drop>(alloc: Global, workers: usize) -> Result<Vec<Hand<T>>, Refused>
+fn hands<T: Drop>(alloc: Global, workers: usize) -> Result<Vec<FeedShare<T>>, Refused>
     ensures ok { IfOk result (λ hands. map (λ hand. hand.items) hands.items ≡ replicate workers []) }
     ensures only { IfErr result (λ refused. refused ≡ Refused.NoMemory) }
 {
@@ -35,7 +35,11 @@ fn hands<T: Drop>(alloc: Global, workers: usize) -> Result<Vec<Hand<T>>, Refused
 }
 
 /// Deals items out to so many workers, one in turn. Refused: `NoMemory`.
-pub fn deal<T: Drop>(alloc: Global, items: Vec<T>, workers: usize) -> Result<Vec<Hand<T>>, Refused>
+pub fn deal<T: Drop>(
+    alloc: Global,
+    items: Vec<T>,
+    workers: usize,
+) -> Result<Vec<FeedShare<T>>, Refused>
     requires { 0 < workers }
     ensures ok { IfOk result (λ hands. AreDealt workers items.items (map (λ hand. hand.items) hands.items)) }
     ensures only { IfErr result (λ refused. refused ≡ Refused.NoMemory) }

@@ -8,7 +8,7 @@ ghost use Rattle.fkv_store.specs.Stores.{IsTold};
 ghost use Rattle.fkv_store.specs.Passes.{IsPassOf};
 ghost use Rattle.fkv_workers.specs.Works.{StandsFor, AreSplit, IsUnreadOf, HasDone, IsStop, Makes};
 
-use crate::deals::Hand;
+use crate::deals::FeedShare;
 use crate::waiting::{Waiting, clear, none_wait, put, rows_of};
 use fkv_device::Disk;
 use fkv_feed_rows::{RowSink, read_feed};
@@ -212,7 +212,7 @@ pub(crate) struct Work<'a, S: Source + Drop, F: Mergeable, D: Disk, H: Recorder<
     pub gate: &'a G,
     pub mode: RowMode,
     pub pass: Pass<F, D, H>,
-    pub feeds: Hand<S>,
+    pub feeds: FeedShare<S>,
 }
 
 /// What a worker hands back: its pass, which rests, and why it stopped, if it did before its feeds ended.
@@ -225,7 +225,7 @@ pub(crate) struct Worked<F: Mergeable, D: Disk, H: Recorder<F>> {
 /// Reads feeds into a sink, one after the other. Refused as a feed is, by its number, and as the sink refuses a row.
 fn read_all<S: Source + Drop, K: RowSink>(
     alloc: Global,
-    feeds: Hand<S>,
+    feeds: FeedShare<S>,
     sink: &mut K,
 ) -> Result<(), Refused>
     requires { (rows : List (Name × ℤ)) × K.stands sink.old rows }
@@ -256,7 +256,7 @@ fn work_through<
     H: Recorder<F>,
     G: Gate,
     M: ByMode,
->(alloc: Global, feeds: Hand<S>, rows: &mut Rows<'_, W, F, D, H, G, M>) -> Result<(), Refused>
+>(alloc: Global, feeds: FeedShare<S>, rows: &mut Rows<'_, W, F, D, H, G, M>) -> Result<(), Refused>
     requires none { AreSplit H.keeps F.code M.mode rows.old.pass (map (λ rows. rows.items) rows.old.waiting.items) [] }
     requires long { length rows.old.pass.told ≡ rows.old.store.now.count }
     requires mode { rows.old.mode ≡ M.mode }

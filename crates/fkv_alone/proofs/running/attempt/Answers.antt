@@ -52,9 +52,9 @@ returns-in-Err-drive-clause-ends g c =
     let issued = issue-told g.F.Functions.code v w c.args.slot k c.in-Ok.now c.args.op (issued-on-key g.F.Functions.code v w c.args.slot c.in-Ok.now c.args.op c.op.result (Ok k) c.op.ensures c.in-Ok-issue.ensures.effect) in
     let begun = issue-begun g.F.Functions.code v w c.args.slot k c.in-Ok.now c.args.op issued c.known.ensures.core.places c.in-Ok-issue.ensures.within.0 in
     let drives = c.in-Err-drive.ensures.drives c.args.op v.core c.in-Ok.now begun.ready in
-    let given = c.abandon-given_up.new.self in
+    let given = c.give_up_untimed-given_up.new.self in
     driven-over g.R.Receipt.keeps g.R.Receipt.stands g.F.Key.Ord.cmp g.F.Mergeable.parts.joined g.F.Functions.meaning g.F.Functions.code c.args.op v c.drive.new.partition c.args.slot k c.args.limit c.args.clock.now c.in-Ok.now c.drive.new.clock (g.P.PageReader.failures c.args.reader.now) (g.P.PageReader.failures c.drive.new.reader) issued.opens first.0 first.2 given c.in-Err-drive.refused (rw first.1 at drives)
-    (given-over c.drive.new.partition.core given.core c.args.slot k c.drive.new.partition.core.moment c.abandon-given_up.result c.abandon-given_up.ensures.effect)
+    (given-over c.drive.new.partition.core given.core c.args.slot k c.drive.new.partition.core.moment c.give_up_untimed-given_up.result c.give_up_untimed-given_up.ensures.effect)
 
 pub returns-in-Ok-drive-clause-bound : goal.returns-in-Ok-drive-clause-bound
 returns-in-Ok-drive-clause-bound g c = λ kept clear.
@@ -135,10 +135,10 @@ returns-in-Err-drive-clause-others g c = λ kept s e other.
     let w = c.issue.new.self in
     let k = c.in-Ok-issue.context in
     let issued = issue-told g.F.Functions.code v w c.args.slot k c.in-Ok.now c.args.op (issued-on-key g.F.Functions.code v w c.args.slot c.in-Ok.now c.args.op c.op.result (Ok k) c.op.ensures c.in-Ok-issue.ensures.effect) in
-    let given = c.abandon-given_up.new.self in
+    let given = c.give_up_untimed-given_up.new.self in
     pend-free g.F.Key.Ord.cmp v w.core given.core c.args.slot k s e (c.in-Ok-issue.ensures.pends kept)
     (pend-then g.F.Key.Ord.cmp w.core c.drive.new.partition.core given.core c.args.slot k (c.in-Err-drive.ensures.others kept)
-    (given-others g.F.Key.Ord.cmp c.drive.new.partition.core given.core c.args.slot k c.drive.new.partition.core.moment c.abandon-given_up.result c.abandon-given_up.ensures.effect))
+    (given-others g.F.Key.Ord.cmp c.drive.new.partition.core given.core c.args.slot k c.drive.new.partition.core.moment c.give_up_untimed-given_up.result c.give_up_untimed-given_up.ensures.effect))
     issued.opens.free other
 
 pub returns-in-Err-issue-clause-rest : goal.returns-in-Err-issue-clause-rest
@@ -161,7 +161,7 @@ returns-in-Err-drive-clause-rest g c =
     let k = c.in-Ok-issue.context in
     let issued = issue-told g.F.Functions.code v w c.args.slot k c.in-Ok.now c.args.op (issued-on-key g.F.Functions.code v w c.args.slot c.in-Ok.now c.args.op c.op.result (Ok k) c.op.ensures c.in-Ok-issue.ensures.effect) in
     let driven = rest-then v w c.drive.new.partition (issue-rest g.F.Functions.code v w c.args.slot k c.in-Ok.now c.args.op issued) c.in-Err-drive.ensures.rest in
-    rest-then v c.drive.new.partition c.abandon-given_up.new.self driven c.abandon-given_up.ensures.rest
+    rest-then v c.drive.new.partition c.give_up_untimed-given_up.new.self driven c.give_up_untimed-given_up.ensures.rest
 
 pub returns-in-Ok-drive-clause-within : goal.returns-in-Ok-drive-clause-within
 returns-in-Ok-drive-clause-within g c =

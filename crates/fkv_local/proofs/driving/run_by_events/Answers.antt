@@ -44,7 +44,7 @@ returns-in-Err-tidy-clause-runs g c =
     let later = c.loop-try.invariant.waited in
     let first = c.requires.begun in
     let begun : 0 < c.loop-try.clock = omega arith in
-    let left = wait-given_up s own c.in-Ok.ensures.rest begun c.in-Ok.ensures.small (rw c.in-Waits.is at c.in-Ok.ensures.ends) c.abandon-given_up.ensures.effect c.abandon-given_up.ensures.event c.abandon-given_up.ensures.rest in
+    let left = wait-given_up s own c.in-Ok.ensures.rest begun c.in-Ok.ensures.small (rw c.in-Waits.is at c.in-Ok.ensures.ends) c.give_up_untimed-given_up.ensures.effect c.give_up_untimed-given_up.ensures.event c.give_up_untimed-given_up.ensures.rest in
     left-runs (stays-tidied left c.tidy.ensures.tidied)
 
 pub returns-in-Err-tidy-clause-told : goal.returns-in-Err-tidy-clause-told
@@ -75,9 +75,9 @@ loop-try-preserved g c =
     let later = c.loop-try.invariant.waited in
     let first = c.requires.begun in
     let begun : 0 < c.loop-try.clock = omega arith in
-    let left = wait-given_up s own c.in-Ok.ensures.rest begun c.in-Ok.ensures.small (rw c.in-Waits.is at c.in-Ok.ensures.ends) c.abandon-given_up.ensures.effect c.abandon-given_up.ensures.event c.abandon-given_up.ensures.rest in
+    let left = wait-given_up s own c.in-Ok.ensures.rest begun c.in-Ok.ensures.small (rw c.in-Waits.is at c.in-Ok.ensures.ends) c.give_up_untimed-given_up.ensures.effect c.give_up_untimed-given_up.ensures.event c.give_up_untimed-given_up.ensures.rest in
     let passed = c.tidy.ensures.passed in
-    let given = c.abandon-given_up.ensures.moment in
+    let given = c.give_up_untimed-given_up.ensures.moment in
     let ran = c.in-Ok.ensures.passed in
     record {
       stays = stays-tidied left c.tidy.ensures.tidied;

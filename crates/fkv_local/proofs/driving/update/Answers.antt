@@ -9,11 +9,11 @@ returns-in-Err-clause-told g c = move-refused c.in-Err.ensures.told (ap g.D.Read
 pub returns-in-Ok-None-clause-told : goal.returns-in-Ok-None-clause-told
 returns-in-Ok-None-clause-told g c =
     let tidied = c.tidy_at_times.ensures.passed.later in
-    let updated = c.update_at_once.ensures.passed.later in
-    let later : c.args.clock.now ≤ c.update_at_once.new.clock = omega arith in
+    let updated = c.try_update_in_place.ensures.passed.later in
+    let later : c.args.clock.now ≤ c.try_update_in_place.new.clock = omega arith in
     let reader = c.tidy_at_times.new.shard.reader in
-    let beside = beside-then c.args.terms.now.keeps_log g.D.Writer.PageWriter.failures g.D.Reader.PageReader.failures c.args.shard.now.part.writer c.args.shard.now.reader reader c.update_at_once.ensures.same_writer c.in-Ok.ensures.beside in
-    IfErr-weaker c.run_by_events.result _ _ (λ e. refused-by later c.update_at_once.new.part.writer reader beside) c.run_by_events.ensures.told
+    let beside = beside-then c.args.terms.now.keeps_log g.D.Writer.PageWriter.failures g.D.Reader.PageReader.failures c.args.shard.now.part.writer c.args.shard.now.reader reader c.try_update_in_place.ensures.same_writer c.in-Ok.ensures.beside in
+    IfErr-weaker c.run_by_events.result _ _ (λ e. refused-by later c.try_update_in_place.new.part.writer reader beside) c.run_by_events.ensures.told
 
-pub returns-in-Err-update_at_once-clause-told : goal.returns-in-Err-update_at_once-clause-told
-returns-in-Err-update_at_once-clause-told g c = worn-refused c.tidy_at_times.new.shard.part.writer c.in-Ok.ensures.beside (ap g.D.Writer.PageWriter.failures c.update_at_once.ensures.same_writer) c.in-Err-update_at_once.ensures.told
+pub returns-in-Err-try_update_in_place-clause-told : goal.returns-in-Err-try_update_in_place-clause-told
+returns-in-Err-try_update_in_place-clause-told g c = worn-refused c.tidy_at_times.new.shard.part.writer c.in-Ok.ensures.beside (ap g.D.Writer.PageWriter.failures c.try_update_in_place.ensures.same_writer) c.in-Err-try_update_in_place.ensures.told

@@ -32,29 +32,29 @@ returns-in-Some-question_of-clause-within g c = (c.in-Some.ensures.session, c.in
 pub returns-in-Some-question_of-clause-moment : goal.returns-in-Some-question_of-clause-moment
 returns-in-Some-question_of-clause-moment g c = rw c.pass.ensures (le_refl c.args.now)
 
-pub settle-requires-clause-session : goal.settle-requires-clause-session
-settle-requires-clause-session g c = c.in-Some.ensures.session
+pub confirm_claim-requires-clause-session : goal.confirm_claim-requires-clause-session
+confirm_claim-requires-clause-session g c = c.in-Some.ensures.session
 
-pub settle-requires-clause-context : goal.settle-requires-clause-context
-settle-requires-clause-context g c = c.in-Some.ensures.context
+pub confirm_claim-requires-clause-context : goal.confirm_claim-requires-clause-context
+confirm_claim-requires-clause-context g c = c.in-Some.ensures.context
 
-pub settle-requires-clause-here : goal.settle-requires-clause-here
-settle-requires-clause-here g c = sym c.in-Some.ensures.value
+pub confirm_claim-requires-clause-here : goal.confirm_claim-requires-clause-here
+confirm_claim-requires-clause-here g c = sym c.in-Some.ensures.value
 
-pub settle-requires-clause-phase : goal.settle-requires-clause-phase
-settle-requires-clause-phase g c = sym c.in-Some-claim_of.ensures
+pub confirm_claim-requires-clause-phase : goal.confirm_claim-requires-clause-phase
+confirm_claim-requires-clause-phase g c = sym c.in-Some-claim_of.ensures
 
 pub returns-in-Some-claim_of-clause-effect : goal.returns-in-Some-claim_of-clause-effect
-returns-in-Some-claim_of-clause-effect g c = c.settle.ensures.effect
+returns-in-Some-claim_of-clause-effect g c = c.confirm_claim.ensures.effect
 
 pub returns-in-Some-claim_of-clause-event : goal.returns-in-Some-claim_of-clause-event
-returns-in-Some-claim_of-clause-event g c = c.settle.ensures.event
+returns-in-Some-claim_of-clause-event g c = c.confirm_claim.ensures.event
 
 pub returns-in-Some-claim_of-clause-within : goal.returns-in-Some-claim_of-clause-within
 returns-in-Some-claim_of-clause-within g c = (c.in-Some.ensures.session, c.in-Some.ensures.context)
 
 pub returns-in-Some-claim_of-clause-moment : goal.returns-in-Some-claim_of-clause-moment
-returns-in-Some-claim_of-clause-moment g c = c.settle.ensures.moment
+returns-in-Some-claim_of-clause-moment g c = c.confirm_claim.ensures.moment
 
 pub returns-in-Some-loading_of-clause-moment : goal.returns-in-Some-loading_of-clause-moment
 returns-in-Some-loading_of-clause-moment g c = le_of_lt c.requires.later

@@ -47,7 +47,7 @@ returns-in-Ok-clause-effect g c =
     } in
     let page = c.page_of-page.ensures ∙ ap (λ u. page_at u.records.page_bits c.in-Some-loading_of.loading.wanted) c.self.view_is in
     came c.page_of-page.result c.in-Ok.loaded (record { operation = c.in-Some.open; loading = c.in-Some-loading_of.loading; awaits = a; page_is = page })
-    c.in-Ok.ensures.own c.look_on.ensures.effect c.in-Ok.ensures.steady
+    c.in-Ok.ensures.own c.resume_look_up.ensures.effect c.in-Ok.ensures.steady
 
 pub returns-in_default-clause-caused : goal.returns-in_default-clause-caused
 returns-in_default-clause-caused g c = λ other. absurd (other refl)
@@ -97,20 +97,20 @@ read-requires g c =
     let page = c.page_of-page.ensures ∙ ap (λ u. page_at u.records.page_bits c.in-Some-loading_of.loading.wanted) c.self.view_is in
     record { flushed = rw page (wanted-flushed g.F.Key.Ord.cmp g.F.Mergeable.parts.joined g.F.Functions.code order c.args.self.now c.known.ensures c.args.slot c.args.context c.in-Some.open c.in-Some-loading_of.loading a) }
 
-pub look_on-requires-clause-awaits : goal.look_on-requires-clause-awaits
-look_on-requires-clause-awaits g c = record {
+pub resume_look_up-requires-clause-awaits : goal.resume_look_up-requires-clause-awaits
+resume_look_up-requires-clause-awaits g c = record {
   here = sym c.in-Some.ensures.value;
   loading = loading-is c.in-Some.open.phase c.in-Some-loading_of.loading (sym c.in-Some-loading_of.ensures);
   begin = c.if-loading-begin.false ∙ c.begin-begin.ensures ∙ ap (λ u. u.records.begin) c.self.view_is;
 }
 
-pub look_on-requires-clause-own : goal.look_on-requires-clause-own
-look_on-requires-clause-own g c =
+pub resume_look_up-requires-clause-own : goal.resume_look_up-requires-clause-own
+resume_look_up-requires-clause-own g c =
     let page = c.page_of-page.ensures ∙ ap (λ u. page_at u.records.page_bits c.in-Some-loading_of.loading.wanted) c.self.view_is in
     rw page at c.in-Ok.ensures.own
 
 pub returns-in-Ok-clause-within : goal.returns-in-Ok-clause-within
-returns-in-Ok-clause-within g c = if-all c.look_on.result (c.in-Some.ensures.session, c.in-Some.ensures.context)
+returns-in-Ok-clause-within g c = if-all c.resume_look_up.result (c.in-Some.ensures.session, c.in-Some.ensures.context)
 
 pub returns-then-loading-begin-clause-event : goal.returns-then-loading-begin-clause-event
 returns-then-loading-begin-clause-event g c = λ keeps.
@@ -145,17 +145,17 @@ returns-then-loading-begin-clause-within g c = (c.in-Some.ensures.session, c.in-
 pub returns-then-loading-begin-clause-moment : goal.returns-then-loading-begin-clause-moment
 returns-then-loading-begin-clause-moment g c = rw c.set_phase.ensures (le_refl c.args.now)
 
-pub look_on-requires-clause-session : goal.look_on-requires-clause-session
-look_on-requires-clause-session g c = c.in-Some.ensures.session
+pub resume_look_up-requires-clause-session : goal.resume_look_up-requires-clause-session
+resume_look_up-requires-clause-session g c = c.in-Some.ensures.session
 
-pub look_on-requires-clause-context : goal.look_on-requires-clause-context
-look_on-requires-clause-context g c = c.in-Some.ensures.context
+pub resume_look_up-requires-clause-context : goal.resume_look_up-requires-clause-context
+resume_look_up-requires-clause-context g c = c.in-Some.ensures.context
 
 pub returns-in-Err-clause-moment : goal.returns-in-Err-clause-moment
 returns-in-Err-clause-moment g c = le_of_lt c.requires.later
 
 pub returns-in-Ok-clause-event : goal.returns-in-Ok-clause-event
-returns-in-Ok-clause-event g c = c.look_on.ensures.event
+returns-in-Ok-clause-event g c = c.resume_look_up.ensures.event
 
 pub returns-in-Ok-clause-moment : goal.returns-in-Ok-clause-moment
-returns-in-Ok-clause-moment g c = c.look_on.ensures.moment
+returns-in-Ok-clause-moment g c = c.resume_look_up.ensures.moment

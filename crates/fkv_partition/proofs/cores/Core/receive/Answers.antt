@@ -40,28 +40,28 @@ returns-in-Err-clause-effect g c =
 pub returns-in-Err-clause-moment : goal.returns-in-Err-clause-moment
 returns-in-Err-clause-moment g c = le_of_lt c.requires.later
 
-pub look_on-requires-clause-own : goal.look_on-requires-clause-own
-look_on-requires-clause-own g c =
+pub resume_look_up-requires-clause-own : goal.resume_look_up-requires-clause-own
+resume_look_up-requires-clause-own g c =
     subst (λ v. IsHeldBy v.records.receipts (page_at v.records.page_bits c.args.loading.wanted) (g.R.Receipt.stands c.args.loaded.receipt)) c.self.view_is
     (rw c.page_of-page.ensures at (c.in_default.ensures.own.0 refl))
 
-pub look_on-requires-clause-awaits : goal.look_on-requires-clause-awaits
-look_on-requires-clause-awaits g c = c.requires.awaits
+pub resume_look_up-requires-clause-awaits : goal.resume_look_up-requires-clause-awaits
+resume_look_up-requires-clause-awaits g c = c.requires.awaits
 
-pub look_on-requires-clause-session : goal.look_on-requires-clause-session
-look_on-requires-clause-session g c = c.requires.session
+pub resume_look_up-requires-clause-session : goal.resume_look_up-requires-clause-session
+resume_look_up-requires-clause-session g c = c.requires.session
 
-pub look_on-requires-clause-context : goal.look_on-requires-clause-context
-look_on-requires-clause-context g c = c.requires.context
+pub resume_look_up-requires-clause-context : goal.resume_look_up-requires-clause-context
+resume_look_up-requires-clause-context g c = c.requires.context
 
-pub look_on-requires-clause-later : goal.look_on-requires-clause-later
-look_on-requires-clause-later g c = c.requires.later
+pub resume_look_up-requires-clause-later : goal.resume_look_up-requires-clause-later
+resume_look_up-requires-clause-later g c = c.requires.later
 
 pub returns-clause-effect : goal.returns-clause-effect
-returns-clause-effect g c = c.look_on.ensures.effect
+returns-clause-effect g c = c.resume_look_up.ensures.effect
 
 pub returns-clause-event : goal.returns-clause-event
-returns-clause-event g c = c.look_on.ensures.event
+returns-clause-event g c = c.resume_look_up.ensures.event
 
 pub returns-clause-moment : goal.returns-clause-moment
-returns-clause-moment g c = c.look_on.ensures.moment
+returns-clause-moment g c = c.resume_look_up.ensures.moment

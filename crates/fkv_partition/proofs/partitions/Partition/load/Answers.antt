@@ -26,27 +26,27 @@ pub returns-in-None-clause-cleared : goal.returns-in-None-clause-cleared
 returns-in-None-clause-cleared g c = λ told. rw (sym c.relocation.ensures.value ∙ c.in-None.is) tt
 
 pub returns-in-Some-clause-effect : goal.returns-in-Some-clause-effect
-returns-in-Some-clause-effect g c = Loads.relocation c.in-Some._relocation (sym c.relocation.ensures.value ∙ c.in-Some.is) c.load_on.ensures.effect
+returns-in-Some-clause-effect g c = Loads.relocation c.in-Some._relocation (sym c.relocation.ensures.value ∙ c.in-Some.is) c.resume_load.ensures.effect
 
 pub returns-in-Some-clause-event : goal.returns-in-Some-clause-event
 returns-in-Some-clause-event g c = λ yes_keeps.
     let here = sym c.relocation.ensures.value ∙ c.in-Some.is in
-    relocation-load g.F.Key.Ord.cmp g.F.Functions.meaning c.args.self.now c.load_on.new.self c.args.slot c.args.context c.args.now c.known.ensures.compacting c.in-Some._relocation here yes_keeps c.load_on.result c.load_on.ensures.event
-    (λ p e. loads_on-proceeds g.R.Receipt.stands _ g.F.Key.Ord.cmp g.F.Mergeable.parts.joined g.F.Functions.code c.args.self.now c.load_on.new.self c.args.slot c.args.context c.args.now c.args.came p c.in-Some._relocation here (rw e at c.load_on.ensures.effect))
+    relocation-load g.F.Key.Ord.cmp g.F.Functions.meaning c.args.self.now c.resume_load.new.self c.args.slot c.args.context c.args.now c.known.ensures.compacting c.in-Some._relocation here yes_keeps c.resume_load.result c.resume_load.ensures.event
+    (λ p e. loads_on-proceeds g.R.Receipt.stands _ g.F.Key.Ord.cmp g.F.Mergeable.parts.joined g.F.Functions.code c.args.self.now c.resume_load.new.self c.args.slot c.args.context c.args.now c.args.came p c.in-Some._relocation here (rw e at c.resume_load.ensures.effect))
 
 pub returns-in-Some-clause-fails : goal.returns-in-Some-clause-fails
 returns-in-Some-clause-fails g c =
-    if-err c.load_on.result (λ why e. ended-event c.args.self.now c.load_on.new.self c.args.slot c.args.context c.args.now
-    (loads_on-ends g.R.Receipt.stands _ c.args.self.now c.load_on.new.self c.args.slot c.args.context c.args.now c.args.came why (rw e at c.load_on.ensures.effect)) c.known.ensures.compacting)
+    if-err c.resume_load.result (λ why e. ended-event c.args.self.now c.resume_load.new.self c.args.slot c.args.context c.args.now
+    (loads_on-ends g.R.Receipt.stands _ c.args.self.now c.resume_load.new.self c.args.slot c.args.context c.args.now c.args.came why (rw e at c.resume_load.ensures.effect)) c.known.ensures.compacting)
 
 pub returns-in-Some-clause-others : goal.returns-in-Some-clause-others
 returns-in-Some-clause-others g c = λ yes_keeps.
-    relocation-others g.F.Key.Ord.cmp g.F.Functions.meaning c.args.self.now c.load_on.new.self c.args.slot c.args.context c.args.now yes_keeps c.load_on.result c.load_on.ensures.event
-    (λ why e. ended-pends c.args.self.now c.load_on.new.self c.args.slot c.args.context c.args.now
-    (loads_on-ends g.R.Receipt.stands _ c.args.self.now c.load_on.new.self c.args.slot c.args.context c.args.now c.args.came why (rw e at c.load_on.ensures.effect)) g.F.Key.Ord.cmp)
+    relocation-others g.F.Key.Ord.cmp g.F.Functions.meaning c.args.self.now c.resume_load.new.self c.args.slot c.args.context c.args.now yes_keeps c.resume_load.result c.resume_load.ensures.event
+    (λ why e. ended-pends c.args.self.now c.resume_load.new.self c.args.slot c.args.context c.args.now
+    (loads_on-ends g.R.Receipt.stands _ c.args.self.now c.resume_load.new.self c.args.slot c.args.context c.args.now c.args.came why (rw e at c.resume_load.ensures.effect)) g.F.Key.Ord.cmp)
 
 pub returns-in-None-clause-relocating : goal.returns-in-None-clause-relocating
 returns-in-None-clause-relocating g c = none-held _ (sym c.relocation.ensures.value ∙ c.in-None.is)
 
 pub returns-in-Some-clause-relocating : goal.returns-in-Some-clause-relocating
-returns-in-Some-clause-relocating g c = λ some. c.load_on.ensures.event
+returns-in-Some-clause-relocating g c = λ some. c.resume_load.ensures.event

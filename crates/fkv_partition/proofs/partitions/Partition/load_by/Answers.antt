@@ -36,36 +36,36 @@ returns-in-None-clause-unread g c = λ none. c.load_by_on_key.ensures.unread (λ
 
 pub returns-in-Some-clause-effect : goal.returns-in-Some-clause-effect
 returns-in-Some-clause-effect g c =
-    reads-relocation g.R.Receipt.stands _ g.F.Key.Ord.cmp g.F.Mergeable.parts.joined g.F.Functions.meaning g.F.Functions.code c.args.self.now c.load_on_by.new.self c.args.slot c.args.context c.args.now c.in-Some._relocation (sym c.relocation.ensures.value ∙ c.in-Some.is) c.load_on_by.ensures.effect
+    reads-relocation g.R.Receipt.stands _ g.F.Key.Ord.cmp g.F.Mergeable.parts.joined g.F.Functions.meaning g.F.Functions.code c.args.self.now c.resume_load_by.new.self c.args.slot c.args.context c.args.now c.in-Some._relocation (sym c.relocation.ensures.value ∙ c.in-Some.is) c.resume_load_by.ensures.effect
 
 pub returns-in-Some-clause-event : goal.returns-in-Some-clause-event
 returns-in-Some-clause-event g c = λ yes_keeps.
     let here = sym c.relocation.ensures.value ∙ c.in-Some.is in
-    relocation-load g.F.Key.Ord.cmp g.F.Functions.meaning c.args.self.now c.load_on_by.new.self c.args.slot c.args.context c.args.now c.known.ensures.compacting c.in-Some._relocation here yes_keeps c.load_on_by.result c.load_on_by.ensures.event
-    (λ p e. reads-any _ c.load_on_by.ensures.effect
-    (λ came does. loads_on-proceeds g.R.Receipt.stands _ g.F.Key.Ord.cmp g.F.Mergeable.parts.joined g.F.Functions.code c.args.self.now c.load_on_by.new.self c.args.slot c.args.context c.args.now came p c.in-Some._relocation here (rw e at does))
+    relocation-load g.F.Key.Ord.cmp g.F.Functions.meaning c.args.self.now c.resume_load_by.new.self c.args.slot c.args.context c.args.now c.known.ensures.compacting c.in-Some._relocation here yes_keeps c.resume_load_by.result c.resume_load_by.ensures.event
+    (λ p e. reads-any _ c.resume_load_by.ensures.effect
+    (λ came does. loads_on-proceeds g.R.Receipt.stands _ g.F.Key.Ord.cmp g.F.Mergeable.parts.joined g.F.Functions.code c.args.self.now c.resume_load_by.new.self c.args.slot c.args.context c.args.now came p c.in-Some._relocation here (rw e at does))
     (λ told same is. let bad = sym is ∙ e in absurd (cc)))
 
 pub returns-in-Some-clause-fails : goal.returns-in-Some-clause-fails
 returns-in-Some-clause-fails g c =
-    if-err c.load_on_by.result (λ why e. reads-any _ c.load_on_by.ensures.effect
-    (λ came does. ended-event c.args.self.now c.load_on_by.new.self c.args.slot c.args.context c.args.now
-    (loads_on-ends g.R.Receipt.stands _ c.args.self.now c.load_on_by.new.self c.args.slot c.args.context c.args.now came why (rw e at does)) c.known.ensures.compacting)
+    if-err c.resume_load_by.result (λ why e. reads-any _ c.resume_load_by.ensures.effect
+    (λ came does. ended-event c.args.self.now c.resume_load_by.new.self c.args.slot c.args.context c.args.now
+    (loads_on-ends g.R.Receipt.stands _ c.args.self.now c.resume_load_by.new.self c.args.slot c.args.context c.args.now came why (rw e at does)) c.known.ensures.compacting)
     (λ told same is. inl same))
 
 pub returns-in-Some-clause-others : goal.returns-in-Some-clause-others
 returns-in-Some-clause-others g c = λ yes_keeps.
-    relocation-others g.F.Key.Ord.cmp g.F.Functions.meaning c.args.self.now c.load_on_by.new.self c.args.slot c.args.context c.args.now yes_keeps c.load_on_by.result c.load_on_by.ensures.event
-    (λ why e. reads-any _ c.load_on_by.ensures.effect
-    (λ came does. ended-pends c.args.self.now c.load_on_by.new.self c.args.slot c.args.context c.args.now
-    (loads_on-ends g.R.Receipt.stands _ c.args.self.now c.load_on_by.new.self c.args.slot c.args.context c.args.now came why (rw e at does)) g.F.Key.Ord.cmp)
+    relocation-others g.F.Key.Ord.cmp g.F.Functions.meaning c.args.self.now c.resume_load_by.new.self c.args.slot c.args.context c.args.now yes_keeps c.resume_load_by.result c.resume_load_by.ensures.event
+    (λ why e. reads-any _ c.resume_load_by.ensures.effect
+    (λ came does. ended-pends c.args.self.now c.resume_load_by.new.self c.args.slot c.args.context c.args.now
+    (loads_on-ends g.R.Receipt.stands _ c.args.self.now c.resume_load_by.new.self c.args.slot c.args.context c.args.now came why (rw e at does)) g.F.Key.Ord.cmp)
     (λ told same is. rw same (λ s d. refl)))
 
 pub returns-in-Some-clause-unread : goal.returns-in-Some-clause-unread
-returns-in-Some-clause-unread g c = λ none. c.load_on_by.ensures.unread (λ page waits. none page (relocation waits))
+returns-in-Some-clause-unread g c = λ none. c.resume_load_by.ensures.unread (λ page waits. none page (relocation waits))
 
 pub returns-in-None-clause-relocating : goal.returns-in-None-clause-relocating
 returns-in-None-clause-relocating g c = none-held _ (sym c.relocation.ensures.value ∙ c.in-None.is)
 
 pub returns-in-Some-clause-relocating : goal.returns-in-Some-clause-relocating
-returns-in-Some-clause-relocating g c = λ some. c.load_on_by.ensures.event
+returns-in-Some-clause-relocating g c = λ some. c.resume_load_by.ensures.event
