@@ -7,11 +7,11 @@ use Rattle.fkv_device.specs.Standing.{Standing}
 use Rattle.fkv_index.specs.declared.words.Word.{Word}
 use Rattle.fkv_lookups.specs.RecordsViews.{RecordsView, released}
 use Rattle.fkv_operations.specs.declared.operations.KeyedOp.{KeyedOp}
-use Rattle.fkv_partition.specs.Context.{Context}
-use Rattle.fkv_partition.specs.Phase.{Phase}
-use Rattle.fkv_partition.specs.Phase.TheVariants.{Fresh, Confirm, Prepared, Load}
-use Rattle.fkv_partition.specs.Progress.{Progress}
-use Rattle.fkv_partition.specs.Progress.TheVariants.{Done, Next, NeedsBuild, NeedsLoad, Waits}
+use Rattle.fkv_partition.specs.declared.contexts.Context.{Context}
+use Rattle.fkv_partition.specs.declared.contexts.Phase.{Phase}
+use Rattle.fkv_partition.specs.declared.contexts.Phase.TheVariants.{Fresh, Confirm, Prepared, Load}
+use Rattle.fkv_partition.specs.declared.contexts.Progress.{Progress}
+use Rattle.fkv_partition.specs.declared.contexts.Progress.TheVariants.{Done, Next, NeedsBuild, NeedsLoad, Waits}
 use Rattle.fkv_partition.specs.CoreEnding.{GivesUp}
 use Rattle.fkv_partition.specs.CoreViews.{CoreView, slots_of}
 use Rattle.fkv_partition.specs.Pending.{OthersPend, AllPend, pending, pending_of, pending_by}

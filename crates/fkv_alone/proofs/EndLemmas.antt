@@ -10,10 +10,10 @@ use Rattle.fkv_device.specs.Standing.{Standing}
 use Rattle.fkv_index.specs.declared.words.Word.{Word}
 use Rattle.fkv_lookups.specs.RecordsViews.{RecordsView}
 use Rattle.fkv_operations.specs.declared.operations.KeyedOp.{KeyedOp}
-use Rattle.fkv_partition.specs.Context.{Context}
-use Rattle.fkv_partition.specs.Phase.TheVariants.{Fresh}
-use Rattle.fkv_partition.specs.Progress.{Progress}
-use Rattle.fkv_partition.specs.Progress.TheVariants.{Done, Next, NeedsBuild, NeedsLoad, Waits}
+use Rattle.fkv_partition.specs.declared.contexts.Context.{Context}
+use Rattle.fkv_partition.specs.declared.contexts.Phase.TheVariants.{Fresh}
+use Rattle.fkv_partition.specs.declared.contexts.Progress.{Progress}
+use Rattle.fkv_partition.specs.declared.contexts.Progress.TheVariants.{Done, Next, NeedsBuild, NeedsLoad, Waits}
 use Rattle.fkv_partition.specs.Beginning.{IsFirstFree, IssuesOnKey}
 use Rattle.fkv_partition.specs.CoreContexts.{joined}
 use Rattle.fkv_partition.specs.CoreEffect.{asked, asked_by}

@@ -3,7 +3,7 @@ use Rattle.std.proofs.Common.{◌≡◌, ◌≢◌, Bool, true, false, cond, ◌
 use Rattle.fkv_regions.specs.RegionsView.{RegionsView}
 use Rattle.fkv_operations.specs.declared.operations.KeyedOp.{KeyedOp}
 use Rattle.fkv_lookups.specs.RecordsViews.{RecordsView}
-use Rattle.fkv_partition.specs.Context.{Context}
+use Rattle.fkv_partition.specs.declared.contexts.Context.{Context}
 use Rattle.fkv_partition.specs.CoreContexts.{context_in}
 use Rattle.fkv_partition.specs.CoreViews.{CoreView, context_at, with_context}
 use Rattle.fkv_partition.specs.CoreEffect.{asked_by, LeavesOthers}

@@ -11,7 +11,7 @@ use Rattle.fkv_device.specs.Failing.{ReadFailsBy}
 use Rattle.fkv_operations.specs.After.{key_of, is_merge}
 use Rattle.fkv_operations.specs.declared.operations.KeyedOp.{KeyedOp}
 use Rattle.fkv_operations.specs.declared.operations.KeyedOp.TheVariants.{Read, Upsert, Rmw, Delete, Merge}
-use Rattle.fkv_partition.specs.Phase.TheVariants.{Load}
+use Rattle.fkv_partition.specs.declared.contexts.Phase.TheVariants.{Load}
 use Rattle.fkv_partition.specs.CoreGoing.{Goes}
 use Rattle.fkv_partition.specs.CoreInstalling.{Installs}
 use Rattle.fkv_partition.specs.CoreLoading.{Loads, LoadsBy, ReadsBy}

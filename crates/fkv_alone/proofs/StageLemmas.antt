@@ -21,12 +21,12 @@ use Rattle.fkv_operations.specs.declared.operations.Answer.{Answer}
 use Rattle.fkv_operations.specs.declared.operations.Answer.TheVariants as answered
 use Rattle.fkv_lookups.specs.RecordsViews.{RecordsView, confirmed, released, with_record}
 use Rattle.fkv_index.specs.declared.words.Word.{Word}
-use Rattle.fkv_partition.specs.Context.{Context}
-use Rattle.fkv_partition.specs.Loading.{Loading}
-use Rattle.fkv_partition.specs.Phase.TheVariants.{Fresh, Confirm, Prepared, Load}
-use Rattle.fkv_partition.specs.Progress.{Progress}
-use Rattle.fkv_partition.specs.Progress.TheVariants.{Done, Next, NeedsBuild, NeedsLoad, Waits}
-use Rattle.fkv_partition.specs.Wait.TheVariants.{Fuzzy, Full}
+use Rattle.fkv_partition.specs.declared.contexts.Context.{Context}
+use Rattle.fkv_partition.specs.declared.contexts.Loading.{Loading}
+use Rattle.fkv_partition.specs.declared.contexts.Phase.TheVariants.{Fresh, Confirm, Prepared, Load}
+use Rattle.fkv_partition.specs.declared.contexts.Progress.{Progress}
+use Rattle.fkv_partition.specs.declared.contexts.Progress.TheVariants.{Done, Next, NeedsBuild, NeedsLoad, Waits}
+use Rattle.fkv_partition.specs.declared.contexts.Wait.TheVariants.{Fuzzy, Full}
 use Rattle.fkv_partition.specs.CoreContexts.{question_in, loading_by, at_phase}
 use Rattle.fkv_partition.specs.CoreEffect.{Asked, asked, asked_by, LeavesOthers, IsEvent}
 use Rattle.fkv_partition.specs.CoreGoing.{Goes}

@@ -12,11 +12,11 @@ use Rattle.fkv_operations.specs.Classes.{same_class}
 use Rattle.fkv_operations.specs.declared.classes.Class.{Class}
 use Rattle.fkv_operations.specs.declared.entries.IndexEntry.{IndexEntry}
 use Rattle.fkv_lookups.specs.RecordsViews.{RecordsView, class_in}
-use Rattle.fkv_partition.specs.Context.{Context}
-use Rattle.fkv_partition.specs.Loading.{Loading}
-use Rattle.fkv_partition.specs.Phase.TheVariants.{Fresh, Confirm}
-use Rattle.fkv_partition.specs.Progress.{Progress}
-use Rattle.fkv_partition.specs.Progress.TheVariants.{Next, NeedsBuild, NeedsLoad}
+use Rattle.fkv_partition.specs.declared.contexts.Context.{Context}
+use Rattle.fkv_partition.specs.declared.contexts.Loading.{Loading}
+use Rattle.fkv_partition.specs.declared.contexts.Phase.TheVariants.{Fresh, Confirm}
+use Rattle.fkv_partition.specs.declared.contexts.Progress.{Progress}
+use Rattle.fkv_partition.specs.declared.contexts.Progress.TheVariants.{Next, NeedsBuild, NeedsLoad}
 use Rattle.fkv_partition.specs.CoreContexts.{question_in, claim_at}
 use Rattle.fkv_partition.specs.CoreLoading.{AwaitsPage}
 use Rattle.fkv_partition.specs.CoreViews.{CoreView, context_at}

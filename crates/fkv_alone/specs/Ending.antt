@@ -8,9 +8,9 @@ use Rattle.fkv_device.specs.Standing.{Standing}
 use Rattle.fkv_operations.specs.After.{key_of}
 use Rattle.fkv_operations.specs.declared.operations.KeyedOp.{KeyedOp}
 use Rattle.fkv_operations.specs.declared.operations.Answer.{Answer}
-use Rattle.fkv_partition.specs.Progress.{Progress}
-use Rattle.fkv_partition.specs.Progress.TheVariants.{Done, Next, NeedsBuild, NeedsLoad, Waits}
-use Rattle.fkv_partition.specs.Wait.{Wait}
+use Rattle.fkv_partition.specs.declared.contexts.Progress.{Progress}
+use Rattle.fkv_partition.specs.declared.contexts.Progress.TheVariants.{Done, Next, NeedsBuild, NeedsLoad, Waits}
+use Rattle.fkv_partition.specs.declared.contexts.Wait.{Wait}
 use Rattle.fkv_partition.specs.CoreBeginning.{IsEntered}
 use Rattle.fkv_partition.specs.CoreEffect.{LeavesOthers}
 use Rattle.fkv_partition.specs.CoreViews.{CoreView, context_at, partition_of}

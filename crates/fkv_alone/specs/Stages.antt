@@ -14,16 +14,16 @@ use Rattle.fkv_operations.specs.After.{key_of, after, answer}
 use Rattle.fkv_operations.specs.declared.entries.IndexEntry.{IndexEntry}
 use Rattle.fkv_operations.specs.declared.operations.KeyedOp.{KeyedOp}
 use Rattle.fkv_operations.specs.declared.operations.Answer.{Answer}
-use Rattle.fkv_partition.specs.Context.{Context}
-use Rattle.fkv_partition.specs.Loading.{Loading}
-use Rattle.fkv_partition.specs.Phase.TheVariants.{Fresh, Confirm}
-use Rattle.fkv_partition.specs.Progress.{Progress}
-use Rattle.fkv_partition.specs.Progress.TheVariants.{Done, Next, NeedsBuild, NeedsLoad, Waits}
+use Rattle.fkv_partition.specs.declared.contexts.Context.{Context}
+use Rattle.fkv_partition.specs.declared.contexts.Loading.{Loading}
+use Rattle.fkv_partition.specs.declared.contexts.Phase.TheVariants.{Fresh, Confirm}
+use Rattle.fkv_partition.specs.declared.contexts.Progress.{Progress}
+use Rattle.fkv_partition.specs.declared.contexts.Progress.TheVariants.{Done, Next, NeedsBuild, NeedsLoad, Waits}
 use Rattle.fkv_lookups.specs.RecordsViews.{IsFull}
 use Rattle.fkv_lookups.specs.declared.decisions.Decision.TheVariants as decided
 use Rattle.fkv_lookups.specs.declared.payloads.Payload.{Payload}
-use Rattle.fkv_partition.specs.Wait.{Wait}
-use Rattle.fkv_partition.specs.Wait.TheVariants as wait
+use Rattle.fkv_partition.specs.declared.contexts.Wait.{Wait}
+use Rattle.fkv_partition.specs.declared.contexts.Wait.TheVariants as wait
 use Rattle.fkv_partition.specs.CoreContexts.{question_in}
 use Rattle.fkv_partition.specs.CoreEffect.{LeavesOthers}
 use Rattle.fkv_partition.specs.CoreGoing.{Decides}

@@ -5,7 +5,7 @@ use Rattle.fkv_functions.specs.declared.names.Name.{Name}
 use Rattle.fkv_functions.specs.Names.{text_of}
 use Rattle.fkv_operations.specs.declared.operations.Answer.{Answer}
 use Rattle.fkv_operations.specs.declared.operations.Answer.TheVariants.{Value, Absent, Stored, Deleted, Cleared, Declined}
-use Rattle.fkv_partition.specs.Config.{Config}
+use Rattle.fkv_partition.specs.declared.limits.Config.{Config}
 use Rattle.fkv_c.specs.declared.numbers.Number.{Number}
 use Rattle.fkv_c.specs.declared.numbers.Told.{Told}
 use Rattle.fkv_c.specs.declared.numbers.Pair.{Pair}

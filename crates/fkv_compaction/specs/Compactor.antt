@@ -8,8 +8,8 @@ use Rattle.fkv_functions.specs.declared.refusals.Refused.TheVariants.{Unknown, W
 use Rattle.fkv_device.specs.Standing.{Standing, Joined}
 use Rattle.fkv_texts.specs.declared.entries.Entry.{Entry}
 use Rattle.fkv_operations.specs.declared.operations.Op.TheVariants.{Relocate}
-use Rattle.fkv_partition.specs.Progress.{Progress}
-use Rattle.fkv_partition.specs.Progress.TheVariants.{Next}
+use Rattle.fkv_partition.specs.declared.contexts.Progress.{Progress}
+use Rattle.fkv_partition.specs.declared.contexts.Progress.TheVariants.{Next}
 use Rattle.fkv_partition.specs.Views.{PartitionView, with_relocation}
 use Rattle.fkv_partition.specs.Beginning.{IsFirstFree, IsFirstOpen, LeavesAll}
 use Rattle.fkv_partition.specs.Relocating.{IsRelocating}

@@ -8,7 +8,7 @@ ghost use Rattle.fkv_operations.specs.declared.operations.Answer.TheVariants.{Cl
 ghost use Rattle.fkv_operations.specs.Operations.{keyed};
 ghost use Rattle.fkv_partition.specs.Pending.{AllPend};
 ghost use Rattle.fkv_partition.specs.CoreViews.{live_of};
-ghost use Rattle.fkv_partition.specs.Progress.TheVariants.{Done};
+ghost use Rattle.fkv_partition.specs.declared.contexts.Progress.TheVariants.{Done};
 ghost use Rattle.fkv_partition.specs.Views.{relocation_at};
 ghost use Rattle.fkv_partition.specs.Beginning.{IsFirstOpen};
 ghost use Rattle.fkv_partition.specs.Effect.{Asked, asked, IsQuiet, IsGiveUp, IsTruncation};

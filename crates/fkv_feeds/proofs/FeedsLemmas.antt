@@ -9,7 +9,7 @@ use Rattle.fkv_streams.specs.Counting.{one_more}
 use Rattle.fkv_feed_rows.specs.Feeds.{IsFeed, TellsUnread, TellsWhy}
 use Rattle.fkv_feeds.specs.Tables.{AreFeeds, most_rows}
 use Rattle.std.specs.Prelude.{Result, Ok, Err, IfOk, IfErr, OnOk}
-use Rattle.fkv_partition.specs.Config.{Config}
+use Rattle.fkv_partition.specs.declared.limits.Config.{Config}
 use Rattle.std.specs.declared.cmp.Ordering.{Ordering}
 use Rattle.fkv_device.specs.Failing.{FailsOnlyBy, ReadFailsBy}
 use Rattle.fkv_hybrid.specs.Scans.{IsScanRefusal}

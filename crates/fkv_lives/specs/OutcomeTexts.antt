@@ -1,7 +1,7 @@
 -- The text of an outcome.
 use Rattle.std.specs.Prelude.{◌++◌, ℕ, List, Some, None, codes, decimal}
 use Rattle.fkv_operations.specs.declared.operations.Answer.TheVariants.{Value, Absent, Stored, Deleted, Cleared, Declined}
-use Rattle.fkv_partition.specs.Wait.TheVariants.{Fuzzy, Full}
+use Rattle.fkv_partition.specs.declared.contexts.Wait.TheVariants.{Fuzzy, Full}
 use Rattle.fkv_lives.specs.declared.outcomes.Outcome.{Outcome}
 use Rattle.fkv_lives.specs.declared.outcomes.Outcome.TheVariants.{Entered, Left, Refreshed, Shifted, Taken, Flushed, Issued, Next, Build, Load, Waits, Done, GivenUp, Truncated}
 

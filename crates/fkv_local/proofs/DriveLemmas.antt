@@ -11,9 +11,9 @@ use Rattle.fkv_operations.specs.AfterLaws.{same_map}
 use Rattle.fkv_operations.specs.declared.operations.KeyedOp.{KeyedOp}
 use Rattle.fkv_operations.specs.declared.operations.Answer.{Answer}
 use Rattle.fkv_texts.specs.Text.{live}
-use Rattle.fkv_partition.specs.Wait.{Wait}
-use Rattle.fkv_partition.specs.Progress.TheVariants.{Done, Waits}
-use Rattle.fkv_partition.specs.Context.{Context}
+use Rattle.fkv_partition.specs.declared.contexts.Wait.{Wait}
+use Rattle.fkv_partition.specs.declared.contexts.Progress.TheVariants.{Done, Waits}
+use Rattle.fkv_partition.specs.declared.contexts.Context.{Context}
 use Rattle.fkv_partition.specs.CoreContexts.{joined, is_session, context_in}
 use Rattle.fkv_partition.specs.CoreEnding.{GivesUp}
 use Rattle.fkv_partition.specs.CoreEffect.{asked_by, LeavesOthers, IsGiveUp}
@@ -266,6 +266,7 @@ module _ {K V I O R : Type 0} {keeps : Bool} {cmp : K → K → Ordering} {join 
             count = given.frame.count ∙ o.frame.count;
             begin = given.frame.begin ∙ o.frame.begin;
             regions = given.frame.regions ∙ o.frame.regions;
+            rises = omega arith;
             moment = refl;
           }) (passed ∙ ap (λ (y : PartitionView K V I). with_core y x.core) rest) (none-mapped asked_by (context_at x.core 0 0) given.closed);
           live = λ k q. ap (λ t. live cmp t q) given.text ∙ ap (λ r. live cmp r.text q) o.records ∙ s.live k q;

@@ -3,7 +3,7 @@ use Rattle.std.proofs.Common.{◌≡◌, Bool, true, false, cond, ℕ, zero, suc
 use Rattle.std.specs.declared.cmp.Ordering.{Ordering}
 use Rattle.fkv_functions.specs.declared.refusals.Refused.{Refused}
 use Rattle.fkv_functions.proofs.ListLemmas.{get-append_cases}
-use Rattle.fkv_partition.specs.Config.{Config}
+use Rattle.fkv_partition.specs.declared.limits.Config.{Config}
 use Rattle.fkv_partition.specs.CoreBeginning as beginning
 use Rattle.fkv_partition.specs.CoreContexts.{joined, is_session, context_in}
 use Rattle.fkv_partition.specs.CoreViews.{CoreView, slots_of, context_at, live_of, empty_core}

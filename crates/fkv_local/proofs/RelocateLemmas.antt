@@ -14,10 +14,10 @@ use Rattle.fkv_operations.specs.declared.entries.IndexEntry.{IndexEntry}
 use Rattle.fkv_operations.specs.declared.operations.Op.TheVariants.{Relocate}
 use Rattle.fkv_operations.specs.declared.operations.Answer.{Answer}
 use Rattle.fkv_operations.specs.declared.operations.Answer.TheVariants.{Cleared}
-use Rattle.fkv_partition.specs.Wait.{Wait}
-use Rattle.fkv_partition.specs.Wait.TheVariants.{Full}
-use Rattle.fkv_partition.specs.Progress.{Progress}
-use Rattle.fkv_partition.specs.Progress.TheVariants.{Done, Next, NeedsLoad, Waits}
+use Rattle.fkv_partition.specs.declared.contexts.Wait.{Wait}
+use Rattle.fkv_partition.specs.declared.contexts.Wait.TheVariants.{Full}
+use Rattle.fkv_partition.specs.declared.contexts.Progress.{Progress}
+use Rattle.fkv_partition.specs.declared.contexts.Progress.TheVariants.{Done, Next, NeedsLoad, Waits}
 use Rattle.fkv_partition.specs.CoreContexts.{joined}
 use Rattle.fkv_partition.specs.CoreViews.{slots_of}
 use Rattle.fkv_partition.specs.Beginning.{Relocates}

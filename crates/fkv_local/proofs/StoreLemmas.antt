@@ -14,7 +14,7 @@ use Rattle.fkv_operations.specs.After.{key_of}
 use Rattle.fkv_operations.specs.declared.operations.KeyedOp.{KeyedOp}
 use Rattle.fkv_operations.specs.declared.operations.KeyedOp.TheVariants.{Rmw, Merge}
 use Rattle.fkv_operations.specs.declared.operations.Answer.{Answer}
-use Rattle.fkv_partition.specs.Config.{Config}
+use Rattle.fkv_partition.specs.declared.limits.Config.{Config}
 use Rattle.fkv_partition.specs.CoreViews.{live_of, partition_of}
 use Rattle.fkv_partition.specs.Unions.{live_at, union_of}
 use Rattle.fkv_partition.specs.Views.{PartitionView}

@@ -8,8 +8,8 @@ use Rattle.fkv_texts.specs.declared.entries.Entry.{Entry}
 use Rattle.fkv_texts.specs.declared.entries.ChainPosition.TheVariants.{Below}
 use Rattle.fkv_pages.specs.Loads.{IsHeldBy}
 use Rattle.fkv_lookups.specs.Lookups.{IsGathered}
-use Rattle.fkv_partition.specs.Progress.{Progress}
-use Rattle.fkv_partition.specs.Progress.TheVariants.{Done, Next, NeedsBuild, NeedsLoad, Waits}
+use Rattle.fkv_partition.specs.declared.contexts.Progress.{Progress}
+use Rattle.fkv_partition.specs.declared.contexts.Progress.TheVariants.{Done, Next, NeedsBuild, NeedsLoad, Waits}
 use Rattle.fkv_partition.specs.Going.{awaited}
 use Rattle.fkv_partition.specs.Truncating.{IsDue}
 use Rattle.fkv_partition.specs.Views.{PartitionView, relocation_at}

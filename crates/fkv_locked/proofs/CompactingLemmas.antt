@@ -19,7 +19,7 @@ use Rattle.fkv_partition.specs.Effect.{Asked, asked, asked_of, IsTruncation}
 use Rattle.fkv_partition.specs.Events.{Goes, Loads}
 use Rattle.fkv_partition.specs.Going.{GoesOn}
 use Rattle.fkv_partition.specs.Pending.{pending, AllPend}
-use Rattle.fkv_partition.specs.Progress.{Progress}
+use Rattle.fkv_partition.specs.declared.contexts.Progress.{Progress}
 use Rattle.fkv_partition.specs.Reading.{LoadsOn}
 use Rattle.fkv_partition.specs.Relocating.{IsRelocating}
 use Rattle.fkv_partition.specs.Views.{PartitionView, relocation_at, with_relocation}

@@ -6,9 +6,9 @@ use Rattle.fkv_functions.proofs.ListLemmas.{get-set_same}
 use Rattle.fkv_texts.specs.Text.{newest, value_of}
 use Rattle.fkv_index.specs.Words.{address_of}
 use Rattle.fkv_operations.specs.After.{key_of}
-use Rattle.fkv_partition.specs.Context.{Context}
-use Rattle.fkv_partition.specs.Loading.{Loading}
-use Rattle.fkv_partition.specs.Phase.{Phase}
+use Rattle.fkv_partition.specs.declared.contexts.Context.{Context}
+use Rattle.fkv_partition.specs.declared.contexts.Loading.{Loading}
+use Rattle.fkv_partition.specs.declared.contexts.Phase.{Phase}
 use Rattle.fkv_partition.specs.CoreContexts.{joined, is_session, context_in, at_phase}
 use Rattle.fkv_partition.specs.CoreLoading.{AwaitsPage}
 use Rattle.fkv_partition.specs.CoreViews.{CoreView, slots_of, context_at, with_context}

@@ -16,9 +16,9 @@ use Rattle.fkv_operations.specs.declared.operations.KeyedOp.{KeyedOp}
 use Rattle.fkv_operations.specs.declared.operations.KeyedOp.TheVariants as on_key
 use Rattle.fkv_operations.specs.declared.operations.Op.TheVariants.{Read, Relocate}
 use Rattle.fkv_operations.specs.declared.operations.Answer.{Answer}
-use Rattle.fkv_partition.specs.Progress.{Progress}
-use Rattle.fkv_partition.specs.Progress.TheVariants.{Done, Next, NeedsBuild, NeedsLoad, Waits}
-use Rattle.fkv_partition.specs.Phase.TheVariants.{Load}
+use Rattle.fkv_partition.specs.declared.contexts.Progress.{Progress}
+use Rattle.fkv_partition.specs.declared.contexts.Progress.TheVariants.{Done, Next, NeedsBuild, NeedsLoad, Waits}
+use Rattle.fkv_partition.specs.declared.contexts.Phase.TheVariants.{Load}
 use Rattle.fkv_partition.specs.CoreContexts.{at_phase}
 use Rattle.fkv_partition.specs.CoreLoading as core_loading
 use Rattle.fkv_partition.specs.Pending.{Pending, pending, OthersPend}

@@ -8,8 +8,8 @@ use Rattle.fkv_texts.specs.Text.{live}
 use Rattle.fkv_operations.specs.Operations.{keyed, op_of, after_keyed, answer_keyed}
 use Rattle.fkv_operations.specs.declared.operations.Op.{Op}
 use Rattle.fkv_operations.specs.declared.operations.Answer.{Answer}
-use Rattle.fkv_partition.specs.Wait.{Wait}
-use Rattle.fkv_partition.specs.Progress.TheVariants.{Done, Next, NeedsBuild, NeedsLoad, Waits}
+use Rattle.fkv_partition.specs.declared.contexts.Wait.{Wait}
+use Rattle.fkv_partition.specs.declared.contexts.Progress.TheVariants.{Done, Next, NeedsBuild, NeedsLoad, Waits}
 use Rattle.fkv_partition.specs.Pending.{AllPend, OthersPend, pending}
 use Rattle.fkv_partition.specs.CoreViews.{live_of}
 use Rattle.fkv_partition.specs.Effect.{Asked, asked, to_find, IsQuiet, IsIssue, IsGiveUp}

@@ -3,9 +3,9 @@ use Rattle.std.specs.Prelude.{◌≡◌, ◌+◌, ◌⊎◌, ℕ, Some, ⊤}
 use Rattle.fkv_operations.specs.declared.operations.Answer.TheVariants.{Cleared}
 use Rattle.fkv_partition.specs.Beginning.{IsFirstOpen}
 use Rattle.fkv_partition.specs.Effect.{IsGiveUp}
-use Rattle.fkv_partition.specs.Progress.{Progress}
-use Rattle.fkv_partition.specs.Progress.TheVariants.{Done, Next, NeedsBuild, NeedsLoad, Waits}
-use Rattle.fkv_partition.specs.Wait.TheVariants.{Full}
+use Rattle.fkv_partition.specs.declared.contexts.Progress.{Progress}
+use Rattle.fkv_partition.specs.declared.contexts.Progress.TheVariants.{Done, Next, NeedsBuild, NeedsLoad, Waits}
+use Rattle.fkv_partition.specs.declared.contexts.Wait.TheVariants.{Full}
 use Rattle.fkv_locked.specs.Locks.{LockedView, with_partition}
 
 -- what an event of a relocation may tell: its target is cleared, at this moment; or it goes on, needs a page, or waits for

@@ -9,8 +9,8 @@ use Rattle.fkv_functions.specs.Plain.{Same}
 use Rattle.fkv_operations.specs.After.{shown_of}
 use Rattle.fkv_operations.specs.Operations.{op_of}
 use Rattle.fkv_operations.specs.declared.operations.KeyedOp.TheVariants.{Read}
-use Rattle.fkv_partition.specs.Progress.{Progress}
-use Rattle.fkv_partition.specs.Progress.TheVariants as progress
+use Rattle.fkv_partition.specs.declared.contexts.Progress.{Progress}
+use Rattle.fkv_partition.specs.declared.contexts.Progress.TheVariants as progress
 use Rattle.fkv_partition.specs.Pending.{Pending, pending, OthersPend}
 use Rattle.fkv_partition.specs.CoreViews.{live_of}
 use Rattle.fkv_partition.specs.Effect.{Asked, asked, IsEvent, Finds}

@@ -6,7 +6,7 @@ ghost use Rattle.fkv_pages.specs.Spelled.{IsEntryIn};
 ghost use Rattle.fkv_operations.specs.declared.operations.Answer.TheVariants.{Cleared};
 ghost use Rattle.fkv_partition.specs.Beginning.{IsFirstOpen};
 ghost use Rattle.fkv_partition.specs.Events.{Enters, Refreshes};
-ghost use Rattle.fkv_partition.specs.Progress.TheVariants.{Done};
+ghost use Rattle.fkv_partition.specs.declared.contexts.Progress.TheVariants.{Done};
 ghost use Rattle.fkv_partition.specs.Truncating.{Truncates, told_of};
 ghost use Rattle.fkv_partition.specs.Views.{relocation_at};
 ghost use Rattle.fkv_compaction.specs.Compactor.{CompactsNext, CompactsLoad, Parts};

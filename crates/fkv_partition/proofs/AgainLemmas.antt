@@ -40,7 +40,7 @@ use Rattle.fkv_partition.specs.Stages.{StageStands}
 use Rattle.fkv_partition.specs.Sound.{IsCompacting}
 use Rattle.fkv_partition.specs.Relocating.{IsRelocating}
 use Rattle.fkv_partition.proofs.MoveLemmas.{past-place, open-here, stands-here}
-use Rattle.fkv_partition.proofs.KeepLemmas.{keep-event}
+use Rattle.fkv_partition.proofs.KeepLemmas.{keep-event, stage-moment}
 
 -- ---- a context in which nothing is open is freed
 freed-here : {A : Type 0} (xs : List (Option A)) (i : ℕ) → joined (slice_get xs i) ≡ None → joined (slice_get (slice_set xs i None) i) ≡ None
@@ -60,12 +60,6 @@ freed-same xs i q none = elim (cases_eq q i) [
 ]
 
 -- ---- a moment passes
-moment-stage : {K V I : Type 0} (keeps : Bool) (cmp : K → K → Ordering) (join : V → V → V) (code : K → ℕ) (v : CoreView K V I) (now place : ℕ) (stage : Stage K V) → StageStands keeps cmp join code v place stage → StageStands keeps cmp join code (record v { moment = now }) place stage
-moment-stage keeps cmp join code v now place Fresh h = tt
-moment-stage keeps cmp join code v now place (Reading begin) h = h
-moment-stage keeps cmp join code v now place (Tracing entry l) h = h
-moment-stage keeps cmp join code v now place (Ready entry kept) h = h
-
 pub keep-moment : {K V I : Type 0} {keeps : Bool} {cmp : K → K → Ordering} {join : V → V → V} {code : K → ℕ} (v : PartitionView K V I) → IsCompacting keeps cmp join code v → (now : ℕ) → IsCompacting keeps cmp join code (with_core v (record v.core { moment = now }))
 keep-moment {keeps = keeps} {cmp = cmp} {join = join} {code = code} v s now = record {
   begun = s.begun;
@@ -73,7 +67,7 @@ keep-moment {keeps = keeps} {cmp = cmp} {join = join} {code = code} v s now = re
   place = s.place;
   cleared = s.cleared;
   places = s.places;
-  stands = λ p x h. (let was = s.stands p x h in record { place = was.place; frozen = was.frozen; issued = was.issued; stage = moment-stage keeps cmp join code v.core now x.target x.stage was.stage });
+  stands = λ p x h. (let was = s.stands p x h in record { place = was.place; frozen = was.frozen; issued = was.issued; stage = stage-moment keeps cmp join code v.core now x.target x.stage was.stage });
   alone = s.alone;
   housed = s.housed;
 }

@@ -128,18 +128,18 @@ none-is : {A : Type 0} (o : Option A) → is_none o ≡ true → o ≡ None
 none-is None h = refl
 none-is (Some x) h = absurd (cc)
 
-get-drop : {A : Type 0} (n i : ℕ) (xs : List A) → slice_get (drop n xs) i ≡ slice_get xs (n + i)
+pub get-drop : {A : Type 0} (n i : ℕ) (xs : List A) → slice_get (drop n xs) i ≡ slice_get xs (n + i)
 get-drop zero i xs = rw zero-add refl
 get-drop (suc n) i [] = refl
 get-drop (suc n) i (x ∷ xs) = let one : suc n + i ≡ suc (n + i) = omega arith in rw one (get-drop n i xs)
 
-get-take : {A : Type 0} (n i : ℕ) (xs : List A) (x : A) → slice_get (take n xs) i ≡ Some x → slice_get xs i ≡ Some x
+pub get-take : {A : Type 0} (n i : ℕ) (xs : List A) (x : A) → slice_get (take n xs) i ≡ Some x → slice_get xs i ≡ Some x
 get-take zero i xs x h = absurd (cc)
 get-take (suc n) i [] x h = absurd (cc)
 get-take (suc n) zero (y ∷ ys) x h = h
 get-take (suc n) (suc i) (y ∷ ys) x h = get-take n i ys x h
 
-take-low : {A : Type 0} (n i : ℕ) (xs : List A) (x : A) → slice_get (take n xs) i ≡ Some x → i < n
+pub take-low : {A : Type 0} (n i : ℕ) (xs : List A) (x : A) → slice_get (take n xs) i ≡ Some x → i < n
 take-low zero i xs x h = absurd (cc)
 take-low (suc n) i [] x h = absurd (cc)
 take-low (suc n) zero (y ∷ ys) x h = omega arith
@@ -191,7 +191,7 @@ position-none {A} p xs h i x k = by_test (nat_lt (position_or_len p xs) (length 
     by_test true t e = absurd (cc)
     by_test false t e = none-before p xs (grind (arith, nat_tests)) i x k
 
-get-take_back : {A : Type 0} (n i : ℕ) (xs : List A) (x : A) → i < n → slice_get xs i ≡ Some x → slice_get (take n xs) i ≡ Some x
+pub get-take_back : {A : Type 0} (n i : ℕ) (xs : List A) (x : A) → i < n → slice_get xs i ≡ Some x → slice_get (take n xs) i ≡ Some x
 get-take_back zero i xs x l h = absurd (omega arith)
 get-take_back (suc n) i [] x l h = absurd (cc)
 get-take_back (suc n) zero (y ∷ ys) x l h = h

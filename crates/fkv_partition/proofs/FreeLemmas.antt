@@ -4,7 +4,7 @@ use Rattle.std.proofs.lemmas.Bool.{false≢true}
 use Rattle.std.specs.List.{position_or_len}
 use Rattle.fkv_partition.specs.CoreContexts.{joined, is_session}
 use Rattle.fkv_partition.specs.CoreViews.{slots_of}
-use Rattle.fkv_partition.proofs.AskedLemmas.{open_at, context-inside, position-found, position-none}
+use Rattle.fkv_partition.proofs.AskedLemmas.{open_at, context-inside, position-found, position-none, get-drop, get-take, take-low, get-take_back}
 use Rattle.fkv_partition.specs.declared.relocations.Relocation.{Relocation}
 use Rattle.fkv_partition.specs.Views.{PartitionView, relocation_at}
 use Rattle.fkv_partition.specs.Beginning.{IsFirstOpen}
@@ -15,29 +15,6 @@ some-of None h = absurd (cc)
 some-of (Some x) h = (x, refl)
 
 -- ---- the lowest of a session's contexts in which a relocation is open
-get-drop : {A : Type 0} (n i : ℕ) (xs : List A) → slice_get (drop n xs) i ≡ slice_get xs (n + i)
-get-drop zero i xs = rw zero-add refl
-get-drop (suc n) i [] = refl
-get-drop (suc n) i (x ∷ xs) = let one : suc n + i ≡ suc (n + i) = omega arith in rw one (get-drop n i xs)
-
-get-take : {A : Type 0} (n i : ℕ) (xs : List A) (x : A) → slice_get (take n xs) i ≡ Some x → slice_get xs i ≡ Some x
-get-take zero i xs x h = absurd (cc)
-get-take (suc n) i [] x h = absurd (cc)
-get-take (suc n) zero (y ∷ ys) x h = h
-get-take (suc n) (suc i) (y ∷ ys) x h = get-take n i ys x h
-
-take-low : {A : Type 0} (n i : ℕ) (xs : List A) (x : A) → slice_get (take n xs) i ≡ Some x → i < n
-take-low zero i xs x h = absurd (cc)
-take-low (suc n) i [] x h = absurd (cc)
-take-low (suc n) zero (y ∷ ys) x h = omega arith
-take-low (suc n) (suc i) (y ∷ ys) x h = let low = take-low n i ys x h in omega arith
-
-get-take_back : {A : Type 0} (n i : ℕ) (xs : List A) (x : A) → i < n → slice_get xs i ≡ Some x → slice_get (take n xs) i ≡ Some x
-get-take_back zero i xs x l h = absurd (omega arith)
-get-take_back (suc n) i [] x l h = absurd (cc)
-get-take_back (suc n) zero (y ∷ ys) x l h = h
-get-take_back (suc n) (suc i) (y ∷ ys) x l h = get-take_back n i ys x (omega arith) h
-
 -- whether one is open
 pub has-told : {K V I : Type 0} (v : PartitionView K V I) (slot : ℕ) → is_session (slots_of v.core) slot ≡ true
     → (o : Option ℕ) → o ≡ position is_some (slice_range v.relocations (slot * 8) (slot * 8 + 8))

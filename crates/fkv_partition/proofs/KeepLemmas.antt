@@ -184,7 +184,7 @@ module _ {K V I : Type 0} (keeps : Bool) (cmp : K → K → Ordering) (join : V 
       keep-event v new i t st b steady.number steady.count (let begun = i.begun in let begin = steady.begin in omega arith) (λ p x h none. seats.0 p none) (λ slot c x low h inside. seats.1 slot inside)
 
   -- ---- a relocation begins, goes on or ends
-  stage-moment : (v : CoreView K V I) (now place : ℕ) (stage : Stage K V) → StageStands keeps cmp join code v place stage → StageStands keeps cmp join code (record v { moment = now }) place stage
+  pub stage-moment : (v : CoreView K V I) (now place : ℕ) (stage : Stage K V) → StageStands keeps cmp join code v place stage → StageStands keeps cmp join code (record v { moment = now }) place stage
   stage-moment v now place Fresh h = tt
   stage-moment v now place (Reading begin) h = h
   stage-moment v now place (Tracing entry l) h = h

@@ -34,9 +34,3 @@ pub mod Truncating
 pub mod Events
 pub mod Effect
 pub mod AtOnce
-pub use Rattle.fkv_partition.specs.declared.contexts.Context
-pub use Rattle.fkv_partition.specs.declared.contexts.Loading
-pub use Rattle.fkv_partition.specs.declared.contexts.Phase
-pub use Rattle.fkv_partition.specs.declared.contexts.Progress
-pub use Rattle.fkv_partition.specs.declared.contexts.Wait
-pub use Rattle.fkv_partition.specs.declared.limits.Config

@@ -11,7 +11,7 @@ use Rattle.clap.specs.declared.parser.matches.ValueSource.{ValueSource}
 use Rattle.clap.specs.declared.parser.matches.ValueSource.TheVariants.{CommandLine}
 use Rattle.clap.specs.declared.error.kind.ErrorKind.{ErrorKind}
 use Rattle.clap.specs.declared.error.kind.ErrorKind.TheVariants.{DisplayHelp, DisplayVersion, OutOfMemory}
-use Rattle.fkv_partition.specs.Config.{Config}
+use Rattle.fkv_partition.specs.declared.limits.Config.{Config}
 use Rattle.fkv_feed_rows.specs.Amounts.{is_numeral}
 use Rattle.fkv_requests.specs.Memory.{size_of, partition_bits_in, share_of, bucket_bits_in, page_bits_in, frames_in}
 use Rattle.fkv_requests.specs.declared.requests.Shown.{Shown}

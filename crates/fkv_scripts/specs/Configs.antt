@@ -1,5 +1,5 @@
 -- The store that a first line names.
-use Rattle.fkv_partition.specs.Config.{Config}
+use Rattle.fkv_partition.specs.declared.limits.Config.{Config}
 use Rattle.fkv_scripts.specs.declared.lines.Opening.{Opening}
 
 -- the configuration that a first line names; its id is 1, and its turns are 1,000,000

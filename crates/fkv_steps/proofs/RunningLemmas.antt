@@ -27,7 +27,7 @@ use Rattle.std.specs.BTreeMap.{is_at}
 use Rattle.std.specs.Map.{lookup, keys_of}
 use Rattle.std.specs.List.Sorted.{IsStrictlySortedBy}
 use Rattle.fkv_functions.specs.Names.{name_cmp}
-use Rattle.fkv_partition.specs.Config.{Config}
+use Rattle.fkv_partition.specs.declared.limits.Config.{Config}
 use Rattle.fkv_worlds.specs.States.{WorldView, empty_world}
 use Rattle.fkv_worlds.specs.Headline.{IsHeadline}
 use Rattle.fkv_partition.specs.Unions.{union_of}

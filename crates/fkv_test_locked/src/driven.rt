@@ -108,7 +108,10 @@ impl<H: Recorder<SumFns>> Driven<H> {
     }
 
     /// The receipt of the page that an operation needs after its next event, if it needs one.
-    pub fn looked(&mut self, mine: &OpenOperationOf<SumFns>) -> Result<Option<MemoryReceipt>, Refused> {
+    pub fn looked(
+        &mut self,
+        mine: &OpenOperationOf<SumFns>,
+    ) -> Result<Option<MemoryReceipt>, Refused> {
         self.owns.make_room(0)?;
         match self.locked.go(mine, &SumFns)? {
             Turn::NeedsLoad(receipt, _address) => Ok(Some(receipt)),

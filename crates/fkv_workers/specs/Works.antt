@@ -12,7 +12,7 @@ use Rattle.fkv_feeds.specs.declared.modes.RowMode.TheVariants.{Update}
 use Rattle.fkv_operations.specs.After.{is_merge}
 use Rattle.fkv_histories.specs.declared.entries.Entry.{Entry}
 use Rattle.fkv_partition.specs.Limits.{IsWithinLimits}
-use Rattle.fkv_partition.specs.Config.{Config}
+use Rattle.fkv_partition.specs.declared.limits.Config.{Config}
 use Rattle.fkv_partition.specs.CoreViews.{partition_of}
 use Rattle.fkv_store.specs.Stores.{IsTold, IsClosing}
 use Rattle.fkv_store.specs.Passes.{PassView, IsUpdateBy, Answers}

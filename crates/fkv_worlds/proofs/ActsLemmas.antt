@@ -9,7 +9,7 @@ use Rattle.fkv_device.specs.Standing.{Standing, Joined}
 use Rattle.fkv_device.specs.declared.messages.FlushJob.{FlushJob}
 use Rattle.fkv_texts.specs.declared.entries.Entry.{Entry}
 use Rattle.fkv_operations.specs.declared.operations.Op.{Op}
-use Rattle.fkv_partition.specs.Progress.{Progress}
+use Rattle.fkv_partition.specs.declared.contexts.Progress.{Progress}
 use Rattle.fkv_partition.specs.Views.{PartitionView, at_moment}
 use Rattle.fkv_partition.specs.Effect.{IsQuiet, IsIssue, IsEvent, IsGiveUp, IsLoad, IsTruncation}
 use Rattle.fkv_partition.specs.Events.{Enters, Flushes, Goes, Installs, Loads, GivesUp, Refreshes, Shifts, Evicts, Issues}

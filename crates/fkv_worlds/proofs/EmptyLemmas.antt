@@ -10,7 +10,7 @@ use Rattle.std.specs.declared.cmp.Ordering.{Ordering}
 use Rattle.fkv_functions.specs.Meanings.{Meanings}
 use Rattle.fkv_functions.specs.declared.asks.Ask.{Ask}
 use Rattle.fkv_device.specs.declared.messages.FlushJob.{FlushJob}
-use Rattle.fkv_partition.specs.Config.{Config}
+use Rattle.fkv_partition.specs.declared.limits.Config.{Config}
 use Rattle.fkv_partition.specs.Limits.{IsWithinLimits}
 use Rattle.fkv_partition.specs.CoreViews.{partition_of}
 use Rattle.fkv_partition.specs.Views.{PartitionView, empty_partition}

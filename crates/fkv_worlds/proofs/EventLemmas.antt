@@ -10,7 +10,7 @@ use Rattle.fkv_functions.specs.declared.refusals.Refused.TheVariants.{NoMemory}
 use Rattle.fkv_device.specs.Standing.{Standing, Joined}
 use Rattle.fkv_texts.specs.declared.entries.Entry.{Entry}
 use Rattle.fkv_operations.specs.declared.operations.Op.{Op}
-use Rattle.fkv_partition.specs.Progress.{Progress}
+use Rattle.fkv_partition.specs.declared.contexts.Progress.{Progress}
 use Rattle.fkv_partition.specs.Views.{PartitionView}
 use Rattle.fkv_partition.specs.Pending.{AllPend, OthersPend}
 use Rattle.fkv_partition.specs.Effect.{Asked, asked, IsQuiet, IsIssue, IsEvent, IsGiveUp, Finds, IsLoad, IsTruncation}

@@ -9,8 +9,8 @@ use Rattle.fkv_texts.specs.declared.entries.Entry.{Entry}
 use Rattle.fkv_device.specs.Standing.{Standing, Joined}
 use Rattle.fkv_device.specs.declared.messages.FlushJob.{FlushJob}
 use Rattle.fkv_operations.specs.declared.operations.Op.{Op}
-use Rattle.fkv_partition.specs.Progress.{Progress}
-use Rattle.fkv_partition.specs.Progress.TheVariants.{Done, Next, NeedsBuild, NeedsLoad, Waits}
+use Rattle.fkv_partition.specs.declared.contexts.Progress.{Progress}
+use Rattle.fkv_partition.specs.declared.contexts.Progress.TheVariants.{Done, Next, NeedsBuild, NeedsLoad, Waits}
 use Rattle.fkv_partition.specs.Views.{PartitionView, at_moment}
 use Rattle.fkv_partition.specs.Effect.{asked, IsQuiet, IsIssue, IsEvent, IsGiveUp, IsLoad, IsTruncation}
 use Rattle.fkv_partition.specs.Events.{Enters, Goes, Installs, Loads, Flushes, GivesUp, Refreshes, Shifts, Evicts, Issues}

@@ -2,7 +2,7 @@
 ghost use Rattle.std.specs.Prelude.{◌≡◌, ◌≢◌, ◌⊎◌, ℕ, List, Err, true, IfOk, IfErr, IfSome, OnOk};
 ghost use Rattle.fkv_records.specs.Records.{size_of};
 ghost use Rattle.fkv_partition.specs.Limits.{IsWithinLimits};
-ghost use Rattle.fkv_partition.specs.Config.{Config};
+ghost use Rattle.fkv_partition.specs.declared.limits.Config.{Config};
 ghost use Rattle.fkv_worlds.specs.States.{empty_world};
 ghost use Rattle.fkv_scripts.specs.declared.lines.Line.{Line};
 ghost use Rattle.fkv_functions.specs.Names.{name_cmp};

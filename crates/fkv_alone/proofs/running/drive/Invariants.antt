@@ -7,7 +7,7 @@ use Rattle.fkv_alone.specs.Stages.{HasCome, IsReady}
 use Rattle.fkv_alone.specs.Ending.{IsOn}
 use Rattle.fkv_partition.specs.Pending.{OthersPend}
 use Rattle.fkv_alone.specs.Bound.{IsNear}
-use Rattle.fkv_partition.specs.Progress.TheVariants.{Next}
+use Rattle.fkv_partition.specs.declared.contexts.Progress.TheVariants.{Next}
 use Rattle.fkv_alone.proofs.running.drive.Given as goal
 
 abbrev pub invariant-loop-turn : goal.invariant-loop-turn

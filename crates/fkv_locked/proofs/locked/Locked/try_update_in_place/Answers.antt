@@ -2,7 +2,7 @@ use Rattle.std.proofs.Common.{◌≡◌, ◌+◌, ◌-◌, Ok, refl, ◌∙◌, 
 use Rattle.fkv_functions.proofs.KeyOrder.{key_order}
 use Rattle.fkv_operations.specs.declared.operations.KeyedOp.TheVariants.{Rmw}
 use Rattle.fkv_operations.specs.declared.operations.Answer.TheVariants.{Value}
-use Rattle.fkv_partition.specs.Progress.TheVariants.{Done}
+use Rattle.fkv_partition.specs.declared.contexts.Progress.TheVariants.{Done}
 use Rattle.fkv_locked.proofs.AtOnceLemmas.{at_once_keeps}
 use Rattle.fkv_locked.proofs.locked.Locked.try_update_in_place.Goals as goal
 
