@@ -39,6 +39,8 @@ use Rattle.fkv_lookups.specs.DecisionLaws.{load-op, claim-met, none-met, prepare
 use Rattle.fkv_lookups.specs.declared.decisions.LookupResult.TheVariants.{NoEntry}
 use Rattle.fkv_lookups.specs.declared.decisions.Decision.TheVariants.{Claim}
 use Rattle.fkv_partition.specs.declared.contexts.Context.{Context}
+use Rattle.fkv_partition.specs.declared.contexts.Open.{Open}
+use Rattle.fkv_partition.specs.declared.contexts.Open.TheVariants.{OnKey}
 use Rattle.fkv_partition.specs.declared.contexts.Loading.{Loading}
 use Rattle.fkv_partition.specs.declared.contexts.Phase.{Phase}
 use Rattle.fkv_partition.specs.declared.contexts.Phase.TheVariants.{Fresh, Confirm, Prepared, Load}
@@ -56,7 +58,7 @@ use Rattle.fkv_alone.specs.Stages.{IsReady}
 use Rattle.fkv_alone.specs.Ending.{IsOn}
 use Rattle.fkv_alone.specs.Bound.{is_evicted, evicted, evicted_to, rest_of, NoneClaims, IsMade, IsNear, IsNearer}
 use Rattle.fkv_alone.proofs.OpenLemmas.{set-here}
-use Rattle.fkv_partition.proofs.AskedLemmas.{open_at}
+use Rattle.fkv_partition.proofs.AskedLemmas.{key_at}
 use Rattle.fkv_alone.proofs.StageLemmas.{some-same, question-rmw}
 use Rattle.fkv_alone.proofs.IndexLemmas.{tentative-tag, tentative-is, tentative-place, confirmed-final, confirmed-tag, alone-made}
 use Rattle.fkv_alone.proofs.CountLemmas.{count-fewer, count-less, last-passes}
@@ -128,7 +130,7 @@ class-small code r k h = omega arith
 
 module _ {K V I : Type 0} (keeps : Bool) (cmp : K → K → Ordering) (join : V → V → V) (code : K → ℕ) (v : CoreView K V I) (slot c n : ℕ) (s : IsSound keeps cmp join code v) where
   stands-at : (x : Context K V I) (phase : Phase V) → context_at v slot c ≡ Some x → x.phase ≡ phase → StandsFor keeps cmp join code v.records x.op phase
-  stands-at x phase h e = subst (λ (p : Phase V). StandsFor keeps cmp join code v.records x.op p) e (s.stands (slot * 8 + c) x (open_at (slots_of v) v.contexts slot c x h).here)
+  stands-at x phase h e = subst (λ (p : Phase V). StandsFor keeps cmp join code v.records x.op p) e (s.stands (slot * 8 + c) x (key_at (slots_of v) v.contexts slot c x h).here)
 
   loading-stands : (op : KeyedOp K V I) (l : Loading V) → StandsFor keeps cmp join code v.records op (Load l) → IsLoading keeps cmp join code v.records (key_of op) l
   loading-stands (Read k i) l h = h
@@ -449,14 +451,14 @@ near-some code v slot c told n (IsNear.fetches x l r a await word t le) = omega 
 near-some code v slot c told n (IsNear.builds x e ask h q word t le) = le
 
 -- a fresh operation claims nothing
-fresh-slot : {K V I : Type 0} (cs : List (Option (Context K V I))) (x : Context K V I) (i p : ℕ) → x.phase ≡ Fresh → ((q : ℕ) → claim_at cs q ≡ None) → claim_at (slice_set cs i (Some x)) p ≡ None
-fresh-slot {K} {V} {I} cs x i p fresh none = at (slice_get (slice_set cs i (Some x)) p) refl
+fresh-slot : {K V I : Type 0} (cs : List (Option (Open K V I))) (x : Context K V I) (i p : ℕ) → x.phase ≡ Fresh → ((q : ℕ) → claim_at cs q ≡ None) → claim_at (slice_set cs i (Some (OnKey x))) p ≡ None
+fresh-slot {K} {V} {I} cs x i p fresh none = at (slice_get (slice_set cs i (Some (OnKey x))) p) refl
   where
-    at : (o : Option (Option (Context K V I))) → slice_get (slice_set cs i (Some x)) p ≡ o → claim_of (joined o) ≡ None
+    at : (o : Option (Option (Open K V I))) → slice_get (slice_set cs i (Some (OnKey x))) p ≡ o → claim_of (joined o) ≡ None
     at None e = refl
-    at (Some y) e = elim (get-set_cases cs i p (Some x) y e) [
+    at (Some y) e = elim (get-set_cases cs i p (Some (OnKey x)) y e) [
       | inl set ↦ ap claim_of (sym set.1) ∙ ap claim_by fresh
-      | inr was ↦ ap (λ (o : Option (Option (Context K V I))). claim_of (joined o)) (sym was) ∙ none p
+      | inr was ↦ ap (λ (o : Option (Option (Open K V I))). claim_of (joined o)) (sym was) ∙ none p
     ]
 
 -- an operation that was issued, where no other holds a tentative entry

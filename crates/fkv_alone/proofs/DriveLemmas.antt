@@ -20,7 +20,7 @@ use Rattle.fkv_partition.specs.Views.{PartitionView}
 use Rattle.fkv_alone.specs.Stages.{IsOpen, HasCome}
 use Rattle.fkv_alone.specs.Ending.{IsOver, IsOn, IsHalted}
 use Rattle.fkv_alone.proofs.OpenLemmas.{leaves-then, leaves-own, leaves-self, set-here, set-frame}
-use Rattle.fkv_partition.proofs.AskedLemmas.{open_at, context-other}
+use Rattle.fkv_partition.proofs.AskedLemmas.{context-apart}
 
 module _ {K V I O R : Type 0} (keeps : Bool) (stands : R → Standing) (cmp : K → K → Ordering) (join : V → V → V) (f : Meanings K V I O) (code : K → ℕ) (op : KeyedOp K V I) (old : CoreView K V I) (slot c started : ℕ) where
   -- an operation that is to go on is open
@@ -72,11 +72,11 @@ module _ {K V I : Type 0} where
   given-others cmp v w slot c now r (GivesUp.unknown none is e) s d other = ap (λ (u : CoreView K V I). pending cmp u s d) is
   given-others cmp v w slot c now r (GivesUp.gives_up x h free is e) s d other =
       ap (λ (u : CoreView K V I). pending cmp u s d) is
-      ∙ ap (pending_of cmp v.records) (context-other (slots_of v) v.contexts slot c s d None (open_at (slots_of v) v.contexts slot c x h).low other)
+      ∙ ap (pending_of cmp v.records) (context-apart v slot c (v.moment) x h None s d other)
   given-others cmp v w slot c now r (GivesUp.cancels x p h phase is e) s d other =
       ap (λ (u : CoreView K V I). pending cmp u s d) is
       ∙ pending-words cmp v.records (released v.records p).words _
-      ∙ ap (pending_of cmp v.records) (context-other (slots_of v) v.contexts slot c s d None (open_at (slots_of v) v.contexts slot c x h).low other)
+      ∙ ap (pending_of cmp v.records) (context-apart v slot c (v.moment) x h None s d other)
 
   -- what the others are to find stays, over one event after the other
   pub pend-then : (cmp : K → K → Ordering) (a b d : CoreView K V I) (slot c : ℕ) → OthersPend cmp a b slot c → OthersPend cmp b d slot c → OthersPend cmp a d slot c

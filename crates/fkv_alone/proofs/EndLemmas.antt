@@ -1,5 +1,5 @@
 -- How an operation ends that was issued and driven.
-use Rattle.std.proofs.Common.{◌≡◌, ◌<◌, ◌≤◌, ◌+◌, ◌-◌, ◌*◌, inl, ℕ, Bool, List, Some, None, option_map, slice_get, slice_set, length, get_or, Ok, Err, refl, sym, ◌∙◌, ap, subst, arith}
+use Rattle.std.proofs.Common.{◌≡◌, ◌<◌, ◌≤◌, ◌+◌, ◌-◌, ◌*◌, inl, ℕ, Bool, List, Option, Some, None, option_map, slice_get, slice_set, length, get_or, Ok, Err, refl, sym, ◌∙◌, ap, subst, arith}
 use Rattle.std.proofs.lemmas.Option.{slice_get-get_or}
 use Rattle.std.specs.declared.cmp.Ordering.{Ordering}
 use Rattle.fkv_functions.proofs.ListLemmas.{get-set_same}
@@ -11,17 +11,20 @@ use Rattle.fkv_index.specs.declared.words.Word.{Word}
 use Rattle.fkv_lookups.specs.RecordsViews.{RecordsView}
 use Rattle.fkv_operations.specs.declared.operations.KeyedOp.{KeyedOp}
 use Rattle.fkv_partition.specs.declared.contexts.Context.{Context}
+use Rattle.fkv_partition.specs.declared.contexts.Open.{Open}
+use Rattle.fkv_partition.specs.declared.contexts.Open.TheVariants.{OnKey}
 use Rattle.fkv_partition.specs.declared.contexts.Phase.TheVariants.{Fresh}
 use Rattle.fkv_partition.specs.declared.contexts.Progress.{Progress}
 use Rattle.fkv_partition.specs.declared.contexts.Progress.TheVariants.{Done, Next, NeedsBuild, NeedsLoad, Waits}
 use Rattle.fkv_partition.specs.Beginning.{IsFirstFree, IssuesOnKey}
-use Rattle.fkv_partition.specs.CoreContexts.{joined}
+use Rattle.fkv_partition.specs.CoreContexts.{joined, on_key, relocating}
 use Rattle.fkv_partition.specs.CoreEffect.{asked, asked_by}
 use Rattle.fkv_partition.specs.CoreViews.{CoreView, slots_of, context_at, with_context}
+use Rattle.fkv_partition.specs.Events.{IsPassedOn}
 use Rattle.fkv_partition.specs.Views.{PartitionView, with_core}
 use Rattle.fkv_alone.specs.Stages.{IsReady, IsDone, IsWaiting, HasCome}
 use Rattle.fkv_alone.specs.Ending.{IsOver, IsStop, IsOn, Opens, Drives, Ends}
-use Rattle.fkv_partition.proofs.AskedLemmas.{context-inside, context-other}
+use Rattle.fkv_partition.proofs.AskedLemmas.{context-inside, context-other, shown-set}
 use Rattle.fkv_alone.proofs.DriveLemmas.{halted-over}
 
 -- an operation was issued in this context
@@ -61,11 +64,20 @@ pub record IsBegun {K V I : Type 0} (old new : PartitionView K V I) (slot c now 
   pub fresh : ready.operation.phase ≡ Fresh
 
 module _ {K V I : Type 0} (code : K → ℕ) (old new : PartitionView K V I) (slot c now : ℕ) (op : KeyedOp K V I) (h : HasIssued code old new slot c now op) where
-  pub issue-rest : new ≡ with_core old new.core
-  issue-rest = h.is ∙ ap (λ (u : PartitionView K V I). with_core old u.core) (sym h.is)
+  pub issue-rest : IsPassedOn old new
+  issue-rest = record {
+    is = h.is ∙ ap (λ (u : PartitionView K V I). with_core old u.core) (sym h.is);
+    relocations = λ p.
+        ap (λ (u : PartitionView K V I). relocating (joined (slice_get u.core.contexts p))) h.is
+        ∙ shown-set {A = Open K V I} relocating refl old.core.contexts (slot * 8 + c) p (Some (OnKey (record { number = now; op = op; phase = Fresh }))) (ap (λ (o : Option (Open K V I)). relocating o) h.opens.free.1) refl;
+  }
 
-  pub issue-none : joined (slice_get new.relocations (slot * 8 + c)) ≡ None
-  issue-none = ap (λ (u : PartitionView K V I). joined (slice_get u.relocations (slot * 8 + c))) h.is ∙ h.opens.free.1.relocation
+  -- no relocation stands in its context
+  pub issue-none : relocating (joined (slice_get new.core.contexts (slot * 8 + c))) ≡ None
+  issue-none =
+      ap (λ (u : PartitionView K V I). relocating (joined (slice_get u.core.contexts (slot * 8 + c)))) h.is
+      ∙ shown-set {A = Open K V I} relocating refl old.core.contexts (slot * 8 + c) (slot * 8 + c) (Some (OnKey (record { number = now; op = op; phase = Fresh }))) (ap (λ (o : Option (Open K V I)). relocating o) h.opens.free.1) refl
+      ∙ ap (λ (o : Option (Open K V I)). relocating o) h.opens.free.1
 
   pub issue-begun : length old.core.contexts ≡ 128 → slot < 16 → IsBegun old new slot c now op
   issue-begun places small =
@@ -79,14 +91,14 @@ module _ {K V I : Type 0} (code : K → ℕ) (old new : PartitionView K V I) (sl
           operation = x;
           open_is = record {
             here = ap (λ (u : CoreView K V I). context_at u slot c) core
-                ∙ context-inside (slots_of old.core) (slice_set old.core.contexts (slot * 8 + c) (Some x)) slot c h.opens.entered low
-                ∙ ap joined (get-set_same old.core.contexts (slot * 8 + c) (get_or old.core.contexts (slot * 8 + c) None) (Some x) (slice_get-get_or old.core.contexts (slot * 8 + c) None within));
+                ∙ ap on_key (context-inside (slots_of old.core) (slice_set old.core.contexts (slot * 8 + c) (Some (OnKey x))) slot c h.opens.entered low
+                ∙ ap joined (get-set_same old.core.contexts (slot * 8 + c) (get_or old.core.contexts (slot * 8 + c) None) (Some (OnKey x)) (slice_get-get_or old.core.contexts (slot * 8 + c) None within)));
             number = refl;
             op_is = refl;
             records = records ∙ ap (λ (ws : List (List Word)). record old.core.records { words = ws }) (sym (ap (λ (r : RecordsView K V). r.words) records));
             begun = (let m : new.core.moment ≡ now = ap (λ (u : CoreView K V I). u.moment) core in omega arith);
             frame = record {
-              others = λ s d other. ap (λ (u : CoreView K V I). asked u s d) core ∙ ap (option_map asked_by) (context-other (slots_of old.core) old.core.contexts slot c s d (Some x) low other);
+              others = λ s d other. ap (λ (u : CoreView K V I). asked u s d) core ∙ ap (λ (o : Option (Open K V I)). option_map asked_by (on_key o)) (context-other (slots_of old.core) old.core.contexts slot c s d (Some (OnKey x)) low other);
               number = ap (λ (u : CoreView K V I). u.number) core;
               count = ap (λ (u : CoreView K V I). u.count) core;
               begin = ap (λ (u : CoreView K V I). u.records.begin) core;

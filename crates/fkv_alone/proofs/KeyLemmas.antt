@@ -18,7 +18,7 @@ use Rattle.fkv_operations.specs.declared.operations.Op.TheVariants.{Read, Reloca
 use Rattle.fkv_partition.specs.declared.contexts.Context.{Context}
 use Rattle.fkv_partition.specs.declared.contexts.Progress.{Progress}
 use Rattle.fkv_partition.specs.declared.contexts.Progress.TheVariants.{Done, Next, NeedsBuild, NeedsLoad, Waits}
-use Rattle.fkv_partition.specs.CoreContexts.{joined, is_session}
+use Rattle.fkv_partition.specs.CoreContexts.{joined, is_session, relocating}
 use Rattle.fkv_partition.specs.CoreEffect as key_effect
 use Rattle.fkv_partition.specs.CoreGoing as going
 use Rattle.fkv_partition.specs.CoreInstalling as installing
@@ -26,7 +26,7 @@ use Rattle.fkv_partition.specs.CoreLoading as loading
 use Rattle.fkv_partition.specs.CoreViews.{slots_of, context_at, live_of}
 use Rattle.fkv_partition.specs.Beginning.{IssuesOnKey}
 use Rattle.fkv_partition.specs.Effect.{Asked, asked, asked_of, to_find, IsEvent, IsLoad, Finds}
-use Rattle.fkv_partition.specs.Events.{Issues, Goes, Installs, Loads, LoadsBy, WaitsFor}
+use Rattle.fkv_partition.specs.Events.{IsPassedOn, Issues, Goes, Installs, Loads, LoadsBy, WaitsFor}
 use Rattle.fkv_partition.specs.Views.{PartitionView, relocation_at, with_core}
 use Rattle.fkv_partition.proofs.AskedLemmas.{keyed-op}
 use Rattle.fkv_alone.proofs.StageLemmas.{Asks, Finishes, Tells}
@@ -46,26 +46,26 @@ read-op (on_key.Rmw q j) k i h = absurd (cc)
 read-op (on_key.Delete q) k i h = absurd (cc)
 read-op (on_key.Merge q j) k i h = absurd (cc)
 
-abbrev nothing : (A : Type 0) → Option A
-nothing A = None
-
 module _ {K V I : Type 0} where
   -- the relocations stay over two events, and what is cleared
-  pub rest-then : (a b d : PartitionView K V I) → b ≡ with_core a b.core → d ≡ with_core b d.core → d ≡ with_core a d.core
-  rest-then a b d f g = g ∙ ap (λ (u : PartitionView K V I). with_core u d.core) f
+  pub rest-then : (a b d : PartitionView K V I) → IsPassedOn a b → IsPassedOn b d → IsPassedOn a d
+  rest-then a b d f g = record { is = g.is ∙ ap (λ (u : PartitionView K V I). with_core u d.core) f.is; relocations = λ p. g.relocations p ∙ f.relocations p }
 
-  pub rest-same : (a b : PartitionView K V I) → b ≡ a → b ≡ with_core a b.core
-  rest-same a b e = e ∙ ap (λ (u : PartitionView K V I). with_core a u.core) (sym e)
+  pub rest-same : (a b : PartitionView K V I) → b ≡ a → IsPassedOn a b
+  rest-same a b e = record {
+    is = e ∙ ap (λ (u : PartitionView K V I). with_core a u.core) (sym e);
+    relocations = λ p. ap (λ (u : PartitionView K V I). relocating (joined (slice_get u.core.contexts p))) e;
+  }
 
-  -- what stands at the place of a context stays too
-  pub none-then : (a b : PartitionView K V I) (p : ℕ) → b ≡ with_core a b.core → joined (slice_get a.relocations p) ≡ None → joined (slice_get b.relocations p) ≡ None
-  none-then a b p rest none = ap (λ (u : PartitionView K V I). joined (slice_get u.relocations p)) rest ∙ none
+  -- a context in which no relocation stands has none then
+  pub none-then : (a b : PartitionView K V I) (p : ℕ) → IsPassedOn a b → relocating (joined (slice_get a.core.contexts p)) ≡ None → relocating (joined (slice_get b.core.contexts p)) ≡ None
+  none-then a b p rest none = rest.relocations p ∙ none
 
-  none-at : (v : PartitionView K V I) (slot c : ℕ) → joined (slice_get v.relocations (slot * 8 + c)) ≡ None → relocation_at v slot c ≡ None
-  none-at v slot c none = ap (λ o. cond (is_session (slots_of v.core) slot && nat_lt c 8) o None) none ∙ either (is_session (slots_of v.core) slot && nat_lt c 8)
+  none-at : (v : PartitionView K V I) (slot c : ℕ) → relocating (joined (slice_get v.core.contexts (slot * 8 + c))) ≡ None → relocation_at v slot c ≡ None
+  none-at v slot c none = either (is_session (slots_of v.core) slot && nat_lt c 8)
     where
-      either : {A : Type 0} (b : Bool) → cond b (nothing A) None ≡ None
-      either true = refl
+      either : (b : Bool) → relocating (cond b (joined (slice_get v.core.contexts (slot * 8 + c))) None) ≡ None
+      either true = none
       either false = refl
 
   -- an operation on a key is issued
@@ -85,16 +85,16 @@ module _ {K V I : Type 0} where
         let mine : asked v slot c ≡ Some (record { number = x.number; op = op_of x.op }) = ap (λ t. asked_of (option_map key_effect.asked_by t) (relocation_at v slot c)) here in
         ap (λ (z : Asked K V I). z.op) (sym (same_Some (record { number = x.number; op = op_of x.op }) q (sym mine ∙ was)))
 
-    module _ (empty : joined (slice_get v.relocations (slot * 8 + c)) ≡ None) where
-      pub goes-on-key : {O R : Type 0} (stands : R → Standing) (cmp : K → K → Ordering) (join : V → V → V) (f : Meanings K V I O) (code : K → ℕ) (r : Result (Progress K V I O R) Refused) → Goes stands cmp join f code v w slot c now r → going.Goes stands cmp join f code v.core w.core slot c now r × (w ≡ with_core v w.core)
+    module _ (empty : relocating (joined (slice_get v.core.contexts (slot * 8 + c))) ≡ None) where
+      pub goes-on-key : {O R : Type 0} (stands : R → Standing) (cmp : K → K → Ordering) (join : V → V → V) (f : Meanings K V I O) (code : K → ℕ) (r : Result (Progress K V I O R) Refused) → Goes stands cmp join f code v w slot c now r → going.Goes stands cmp join f code v.core w.core slot c now r × IsPassedOn v w
       goes-on-key stands cmp join f code r (Goes.on_key none does rest) = (does, rest)
       goes-on-key stands cmp join f code r (Goes.relocation x h does) = absurd (refuted x (relocation_at v slot c) h (none-at v slot c empty))
 
-      pub installs-on-key : {O R : Type 0} (cmp : K → K → Ordering) (f : Meanings K V I O) (code : K → ℕ) (ask : Ask K V I) (r : Result (Progress K V I O R) Refused) → Installs cmp f code v w slot c ask now r → installing.Installs cmp f code v.core w.core slot c ask now r × (w ≡ with_core v w.core)
+      pub installs-on-key : {O R : Type 0} (cmp : K → K → Ordering) (f : Meanings K V I O) (code : K → ℕ) (ask : Ask K V I) (r : Result (Progress K V I O R) Refused) → Installs cmp f code v w slot c ask now r → installing.Installs cmp f code v.core w.core slot c ask now r × IsPassedOn v w
       installs-on-key cmp f code ask r (Installs.on_key none does rest) = (does, rest)
       installs-on-key cmp f code ask r (Installs.relocation x h same e) = absurd (refuted x (relocation_at v slot c) h (none-at v slot c empty))
 
-      pub loads-on-key : {O R : Type 0} (stands : R → Standing) (entry : ℕ → List ℕ → ℕ → Entry K V → Type 0) (cmp : K → K → Ordering) (join : V → V → V) (f : Meanings K V I O) (code : K → ℕ) (came : Result (Joined R) Refused) (r : Result (Progress K V I O R) Refused) → Loads stands entry cmp join f code v w slot c came now r → loading.Loads stands entry cmp join f v.core w.core slot c came now r × (w ≡ with_core v w.core)
+      pub loads-on-key : {O R : Type 0} (stands : R → Standing) (entry : ℕ → List ℕ → ℕ → Entry K V → Type 0) (cmp : K → K → Ordering) (join : V → V → V) (f : Meanings K V I O) (code : K → ℕ) (came : Result (Joined R) Refused) (r : Result (Progress K V I O R) Refused) → Loads stands entry cmp join f code v w slot c came now r → loading.Loads stands entry cmp join f v.core w.core slot c came now r × IsPassedOn v w
       loads-on-key stands entry cmp join f code came r (Loads.on_key none does rest) = (does, rest)
       loads-on-key stands entry cmp join f code came r (Loads.relocation x h does) = absurd (refuted x (relocation_at v slot c) h (none-at v slot c empty))
 
@@ -105,7 +105,7 @@ module _ {K V I : Type 0} where
       waits-on-key page (WaitsFor.on_key none waits) = waits
       waits-on-key page (WaitsFor.relocation waits) = absurd (refuted waits.relocation (relocation_at v slot c) waits.awaits.here none-here)
 
-      pub reads-on-key : {O R : Type 0} (stands : R → Standing) (entry : ℕ → List ℕ → ℕ → Entry K V → Type 0) (cmp : K → K → Ordering) (join : V → V → V) (f : Meanings K V I O) (code : K → ℕ) (before after_ : ℕ) (r : Result (Progress K V I O R) Refused) → LoadsBy stands entry cmp join f code v w slot c now before after_ r → loading.LoadsBy stands entry cmp join f v.core w.core slot c now before after_ r × (w ≡ with_core v w.core)
+      pub reads-on-key : {O R : Type 0} (stands : R → Standing) (entry : ℕ → List ℕ → ℕ → Entry K V → Type 0) (cmp : K → K → Ordering) (join : V → V → V) (f : Meanings K V I O) (code : K → ℕ) (before after_ : ℕ) (r : Result (Progress K V I O R) Refused) → LoadsBy stands entry cmp join f code v w slot c now before after_ r → loading.LoadsBy stands entry cmp join f v.core w.core slot c now before after_ r × IsPassedOn v w
       reads-on-key {O} {R} stands entry cmp join f code before after_ r (loading.ReadsBy.idle unasked all same) = (
         loading.ReadsBy.idle (λ page waits. unasked page (WaitsFor.on_key none-here waits)) (λ came. (loads-on-key stands entry cmp join f code came r (all came)).0) same,
         (loads-on-key stands entry cmp join f code (Err NoMemory) r (all (Err NoMemory))).1,

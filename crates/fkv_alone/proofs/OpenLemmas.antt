@@ -1,10 +1,11 @@
 -- An open operation over each change of its context.
 use Rattle.std.proofs.Common.{◌≡◌, ◌≢◌, Bool, true, false, cond, ◌&&◌, ℕ, ◌+◌, ◌*◌, ◌<◌, ◌⊎◌, inl, inr, List, Option, Some, None, option_map, slice_get, slice_set, nat_lt, refl, ◌∙◌, ap, arith}
+use Rattle.std.proofs.lemmas.Bool.Decides.{nat_tests}
 use Rattle.fkv_regions.specs.RegionsView.{RegionsView}
 use Rattle.fkv_operations.specs.declared.operations.KeyedOp.{KeyedOp}
 use Rattle.fkv_lookups.specs.RecordsViews.{RecordsView}
 use Rattle.fkv_partition.specs.declared.contexts.Context.{Context}
-use Rattle.fkv_partition.specs.CoreContexts.{context_in}
+use Rattle.fkv_partition.specs.CoreContexts.{context_in, on_key}
 use Rattle.fkv_partition.specs.CoreViews.{CoreView, context_at, with_context}
 use Rattle.fkv_partition.specs.CoreEffect.{asked_by, LeavesOthers}
 use Rattle.fkv_partition.proofs.AskedLemmas.{context-same, asked-other}
@@ -18,13 +19,15 @@ with_both v slot c y now r = record (with_context v slot c y now) { records = r 
 module _ {K V I : Type 0} (v : CoreView K V I) (slot c now : ℕ) (x : Context K V I) (h : context_at v slot c ≡ Some x) (y : Option (Context K V I)) (r : RecordsView K V) (regions : r.regions ≡ v.records.regions) where
   -- the changed context
   pub set-here : context_at (with_both v slot c y now r) slot c ≡ y
-  set-here = ap (λ (g : RegionsView). context_in g.epochs.slots (with_context v slot c y now).contexts slot c) regions ∙ context-same v slot c now x h y
+  set-here =
+      ap (λ (g : RegionsView). on_key (context_in g.epochs.slots (with_context v slot c y now).contexts slot c)) regions
+      ∙ context-same v slot c now x h y
 
   -- and every other one
   pub set-frame : r.begin ≡ v.records.begin → LeavesOthers v (with_both v slot c y now r) slot c now
   set-frame begin = record {
     others = λ s d other.
-        ap (λ (g : RegionsView). option_map asked_by (context_in g.epochs.slots (with_context v slot c y now).contexts s d)) regions
+        ap (λ (g : RegionsView). option_map asked_by (on_key (context_in g.epochs.slots (with_context v slot c y now).contexts s d))) regions
         ∙ asked-other v slot c now x h y s d other;
     number = refl;
     count = refl;

@@ -21,7 +21,7 @@ use Rattle.fkv_partition.specs.Beginning.{IssuesOnKey}
 use Rattle.fkv_partition.specs.Views.{PartitionView}
 use Rattle.fkv_alone.specs.Spoilt.{Spelling, IsSpoilt}
 use Rattle.fkv_alone.specs.Stages.{IsFetching}
-use Rattle.fkv_partition.proofs.AskedLemmas.{open_at}
+use Rattle.fkv_partition.proofs.AskedLemmas.{key_at}
 
 -- no event but a load finds damage
 pub goes-undamaged : {K V I O R : Type 0} {stands : R → Standing} {cmp : K → K → Ordering} {join : V → V → V} {f : Meanings K V I O} {code : K → ℕ} {v w : CoreView K V I} {slot c now page : ℕ} → Goes {O = O} {R = R} stands cmp join f code v w slot c now (Err (Damaged page)) → ⊥
@@ -93,7 +93,7 @@ pub merges-fetch-not : {K V I : Type 0} {keeps kept : Bool} {cmp : K → K → O
     → IsFetching keeps cmp op old v slot c started s a → is_merge op ≡ true → ⊥
 merges-fetch-not {K} {V} {I} {keeps} {kept} {cmp} {join} {code} {op} {old} {v} {slot} {c} {started} {a} {s} sound h merge =
     let x = h.operation in
-    let at = open_at (slots_of v) v.contexts slot c x h.open_is.here in
+    let at = key_at (slots_of v) v.contexts slot c x h.open_is.here in
     by op (subst (λ p. StandsFor kept cmp join code v.records op p) h.awaits.loading
     (subst (λ t. StandsFor kept cmp join code v.records t x.phase) h.open_is.op_is (sound.stands (slot * 8 + c) x at.here))) merge
   where

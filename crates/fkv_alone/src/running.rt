@@ -3,8 +3,8 @@ ghost use Rattle.std.specs.Prelude.{◌≡◌, ◌≢◌, ◌+◌, ◌-◌, ◌*
 ghost use Rattle.fkv_partition.specs.Beginning.{IsFirstFree};
 ghost use Rattle.fkv_partition.specs.CoreViews.{CoreView};
 ghost use Rattle.fkv_partition.specs.Pending.{OthersPend, pending};
-ghost use Rattle.fkv_partition.specs.CoreContexts.{joined};
-ghost use Rattle.fkv_partition.specs.Views.{with_core};
+ghost use Rattle.fkv_partition.specs.CoreContexts.{joined, relocating};
+ghost use Rattle.fkv_partition.specs.Events.{IsPassedOn};
 ghost use Rattle.fkv_pages.specs.Spelled.{IsEntryIn};
 ghost use Rattle.fkv_operations.specs.After.{is_merge};
 ghost use Rattle.fkv_operations.specs.declared.operations.KeyedOp.{KeyedOp};
@@ -56,7 +56,7 @@ fn drive<F: Mergeable, R: Receipt, P: PageReader<Receipt = R>>(
     left: u64,
 ) -> Result<ProgressOf<F, R>, Refused>
     requires past { partition.old.core.moment ≤ clock.old }
-    requires none { joined (slice_get partition.old.relocations (slot * 8 + context)) ≡ None }
+    requires none { relocating (joined (slice_get partition.old.core.contexts (slot * 8 + context))) ≡ None }
     ensures drives { (op : KeyedOp F.Key F.Value F.Input) (old : CoreView F.Key F.Value F.Input) (started : ℕ)
         → IsReady op old partition.old.core slot context started
         → Drives R.keeps R.stands F.Key.cmp F.parts.joined F.meaning F.code
@@ -80,7 +80,7 @@ fn drive<F: Mergeable, R: Receipt, P: PageReader<Receipt = R>>(
     ensures unread { (op : KeyedOp F.Key F.Value F.Input) (old : CoreView F.Key F.Value F.Input) (started : ℕ)
         → IsReady op old partition.old.core slot context started
         → is_merge op ≡ true → reader.new ≡ reader.old }
-    ensures rest { partition.new ≡ with_core partition.old partition.new.core }
+    ensures rest { IsPassedOn partition.old partition.new }
     ensures past { partition.new.core.moment ≤ clock.new }
     ensures onward { clock.old ≤ clock.new }
 {
@@ -128,7 +128,7 @@ fn attempt<F: Mergeable, R: Receipt, P: PageReader<Receipt = R>>(
         → IsSpoilt (IsEntryIn F.Key.codec F.Value.codec)
         F.Key.cmp page }
     ensures unread { is_merge op ≡ true → reader.new ≡ reader.old }
-    ensures rest { partition.new ≡ with_core partition.old partition.new.core }
+    ensures rest { IsPassedOn partition.old partition.new }
     ensures past { partition.new.core.moment ≤ clock.new }
     ensures onward { clock.old ≤ clock.new }
 {
@@ -205,7 +205,7 @@ pub fn run_alone<F: Mergeable, R: Receipt, P: PageReader<Receipt = R>>(
     // a merge reads no page
     ensures unread { is_merge op ≡ true → reader.new ≡ reader.old }
     // relocations stay, and what is cleared
-    ensures rest { partition.new ≡ with_core partition.old partition.new.core }
+    ensures rest { IsPassedOn partition.old partition.new }
     ensures past { partition.new.core.moment ≤ clock.new }
 {
     let started = clock.last();

@@ -5,8 +5,8 @@ ghost use Rattle.fkv_operations.specs.After.{is_merge};
 ghost use Rattle.fkv_operations.specs.declared.operations.KeyedOp.{KeyedOp};
 ghost use Rattle.fkv_partition.specs.CoreViews.{CoreView};
 ghost use Rattle.fkv_partition.specs.Pending.{OthersPend};
-ghost use Rattle.fkv_partition.specs.CoreContexts.{joined};
-ghost use Rattle.fkv_partition.specs.Views.{with_core};
+ghost use Rattle.fkv_partition.specs.CoreContexts.{joined, relocating};
+ghost use Rattle.fkv_partition.specs.Events.{IsPassedOn};
 ghost use Rattle.fkv_alone.specs.Stages.{HasCome};
 ghost use Rattle.fkv_alone.specs.Ending.{Advances, IsOn};
 ghost use Rattle.fkv_alone.specs.Bound.{IsNear, IsNearer};
@@ -28,7 +28,7 @@ pub(crate) fn step<F: Mergeable, R: Receipt, P: PageReader<Receipt = R>>(
     now: u64,
 ) -> Result<ProgressOf<F, R>, Refused>
     requires later { partition.old.core.moment < now }
-    requires none { joined (slice_get partition.old.relocations (slot * 8 + context)) ≡ None }
+    requires none { relocating (joined (slice_get partition.old.core.contexts (slot * 8 + context))) ≡ None }
     requires on { IsOn told }
     ensures advances { (op : KeyedOp F.Key F.Value F.Input) (old : CoreView F.Key F.Value F.Input) (started : ℕ)
         → HasCome R.keeps R.stands F.Key.cmp F.parts.joined F.meaning F.code op old
@@ -50,7 +50,7 @@ pub(crate) fn step<F: Mergeable, R: Receipt, P: PageReader<Receipt = R>>(
         → HasCome R.keeps R.stands F.Key.cmp F.parts.joined F.meaning F.code op old
         partition.old.core slot context started told
         → is_merge op ≡ true → reader.new ≡ reader.old }
-    ensures rest { partition.new ≡ with_core partition.old partition.new.core }
+    ensures rest { IsPassedOn partition.old partition.new }
     ensures past { partition.new.core.moment ≤ now }
 {
     partition.known();

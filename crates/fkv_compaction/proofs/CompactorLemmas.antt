@@ -1,5 +1,5 @@
 -- What a compactor's calls leave, by what each of the calls that it makes leaves.
-use Rattle.std.proofs.Common.{◌≡◌, ◌≢◌, ◌+◌, ◌<◌, ◌&&◌, ◌⊎◌, inl, inr, ℕ, Bool, true, false, nat_lt, Option, Some, None, Result, Ok, Err, IsTrue, OnOk, OnErr, is_some, refl, sym, ◌∙◌, ap, arith}
+use Rattle.std.proofs.Common.{◌≡◌, ◌≢◌, ◌+◌, ◌*◌, ◌<◌, ◌&&◌, ◌⊎◌, inl, inr, ℕ, Bool, true, false, cond, nat_lt, slice_get, Option, Some, None, Result, Ok, Err, IsTrue, OnOk, OnErr, is_some, refl, sym, ◌∙◌, ap, arith}
 use Rattle.std.proofs.lemmas.Bool.{cases_lt}
 use Rattle.std.proofs.lemmas.Bool.Decides.{nat_tests}
 use Rattle.std.specs.declared.cmp.Ordering.{Ordering}
@@ -9,16 +9,18 @@ use Rattle.fkv_texts.specs.Text.{live}
 use Rattle.fkv_operations.specs.Operations.{keyed}
 use Rattle.fkv_operations.specs.declared.operations.KeyedOp.{KeyedOp}
 use Rattle.fkv_operations.specs.declared.operations.Op.TheVariants.{Relocate}
-use Rattle.fkv_partition.specs.CoreContexts.{is_session}
+use Rattle.fkv_partition.specs.CoreContexts.{is_session, joined, on_key, relocating}
+use Rattle.fkv_partition.specs.declared.contexts.Open.{Open}
+use Rattle.fkv_partition.specs.declared.contexts.Open.TheVariants.{OnKey, Relocating}
 use Rattle.fkv_partition.specs.CoreEffect as key_effect
 use Rattle.fkv_partition.specs.CoreViews.{CoreView, slots_of, live_of}
-use Rattle.fkv_partition.specs.Pending.{pending, AllPend}
 use Rattle.fkv_partition.specs.declared.relocations.Relocation.{Relocation}
 use Rattle.fkv_partition.specs.Beginning.{Drops, IsFirstOpen}
 use Rattle.fkv_partition.specs.Effect.{Asked, asked, asked_of, IsQuiet}
 use Rattle.fkv_partition.specs.Events.{GivesUp}
+use Rattle.fkv_partition.specs.Relocating.{IsRelocating}
 use Rattle.fkv_partition.specs.Views.{PartitionView, relocation_at, with_relocation}
-use Rattle.fkv_compaction.specs.Compactor.{IsParted}
+use Rattle.fkv_compaction.specs.Compactor.{IsParted, IsWithoutThem}
 use Rattle.fkv_partition.proofs.EffectLemmas.{set-here}
 use Rattle.fkv_partition.proofs.MoveLemmas.{event-set}
 
@@ -47,19 +49,51 @@ none-up_to v slot c below none d low = elim (cases_lt d c) [
 ]
 
 -- ---- the relocation of a context is given up
-module _ {K V I : Type 0} (cmp : K → K → Ordering) (v : PartitionView K V I) (slot c now : ℕ) (inside : c < 8) where
+keyless-of : {K V I : Type 0} (o : Option (Open K V I)) → is_some (relocating o) ≡ true → on_key o ≡ None
+keyless-of None h = absurd (cc)
+keyless-of (Some (OnKey x)) h = absurd (cc)
+keyless-of (Some (Relocating x)) h = refl
+
+keyless-here : {K V I : Type 0} (v : PartitionView K V I) (slot c : ℕ) → is_some (relocation_at v slot c) ≡ true → on_key (joined (slice_get v.core.contexts (slot * 8 + c))) ≡ None
+keyless-here v slot c some = by_test (is_session (slots_of v.core) slot && nat_lt c 8) some
+  where
+    by_test : (b : Bool) → is_some (relocating (cond b (joined (slice_get v.core.contexts (slot * 8 + c))) None)) ≡ true → on_key (joined (slice_get v.core.contexts (slot * 8 + c))) ≡ None
+    by_test true h = keyless-of (joined (slice_get v.core.contexts (slot * 8 + c))) h
+    by_test false h = absurd (cc)
+
+low-here : {K V I : Type 0} (v : PartitionView K V I) (slot c : ℕ) → is_some (relocation_at v slot c) ≡ true → c < 8
+low-here v slot c some = by_test (is_session (slots_of v.core) slot) (nat_lt c 8) refl some
+  where
+    by_test : (a b : Bool) → nat_lt c 8 ≡ b → is_some (relocating (cond (a && b) (joined (slice_get v.core.contexts (slot * 8 + c))) None)) ≡ true → c < 8
+    by_test true true t h = grind (arith, nat_tests)
+    by_test true false t h = absurd (cc)
+    by_test false b t h = absurd (cc)
+
+module _ {K V I : Type 0} (cmp : K → K → Ordering) (v : PartitionView K V I) (slot c now : ℕ) (some : is_some (relocation_at v slot c) ≡ true) where
+  pub gone : IsRelocating true cmp v (with_relocation v slot c None now) slot c now
+  gone = event-set true cmp v slot c now (low-here v slot c some) (keyless-here v slot c some) None
+
   -- those of others stay
   set-other : (s d : ℕ) → (s ≢ slot) ⊎ (d ≢ c) → relocation_at (with_relocation v slot c None now) s d ≡ relocation_at v s d
-  set-other s d other = (event-set true cmp v slot c now inside None).others s d other
+  set-other s d other = gone.others s d other
 
   -- and what other sessions ask
   pub asked-other : (s d : ℕ) → s ≢ slot → asked (with_relocation v slot c None now) s d ≡ asked v s d
-  asked-other s d other = ap (asked_of (key_effect.asked v.core s d)) (set-other s d (inl other))
+  asked-other s d other = ap (λ a. asked_of a (relocation_at (with_relocation v slot c None now) s d)) (gone.same s d) ∙ ap (asked_of (key_effect.asked v.core s d)) (set-other s d (inl other))
+
+  -- and what operations on keys ask
+  pub without-more : {old : CoreView K V I} → IsWithoutThem cmp old v.core → IsWithoutThem cmp old (with_relocation v slot c None now).core
+  without-more w = record {
+    asked = λ s d. gone.same s d ∙ w.asked s d;
+    pend = λ s d. gone.pend refl s d ∙ w.pend s d;
+    records = w.records;
+    number = w.number;
+    count = w.count;
+  }
 
   -- none is open up to there then
-  pub none-past : ((d : ℕ) → d < c → relocation_at v slot d ≡ None)
-      → is_some (relocation_at v slot c) ≡ true → (d : ℕ) → d < c + 1 → relocation_at (with_relocation v slot c None now) slot d ≡ None
-  none-past below some d low = by_held (relocation_at v slot c) refl
+  pub none-past : ((d : ℕ) → d < c → relocation_at v slot d ≡ None) → (d : ℕ) → d < c + 1 → relocation_at (with_relocation v slot c None now) slot d ≡ None
+  none-past below d low = by_held (relocation_at v slot c) refl
     where
       by_held : (o : Option (Relocation K V)) → relocation_at v slot c ≡ o → relocation_at (with_relocation v slot c None now) slot d ≡ None
       by_held None h = absurd (let bad : false ≡ true = ap is_some (sym h) ∙ some in cc)
@@ -83,30 +117,19 @@ none-all v slot below d = by_low (nat_lt d 8) refl
     by_low true t = below d (grind (arith, nat_tests))
     by_low false t = rw (t, and-false (is_session (slots_of v.core) slot)) refl
 
--- ---- the core stays but for its moment
-module _ {K V I : Type 0} (old between : PartitionView K V I) (moment : ℕ) (core : between.core ≡ record old.core { moment = moment }) where
-  -- and so do operations on keys
+-- ---- relocations are given up
+module _ {K V I : Type 0} (cmp : K → K → Ordering) (old between : PartitionView K V I) (core : IsWithoutThem cmp old.core between.core) where
+  -- operations on keys stay
   pub operation-stays : (s d : ℕ) (x : Asked K V I) (o : KeyedOp K V I) → asked old s d ≡ Some x → keyed x.op ≡ Some o → asked between s d ≡ Some x
   operation-stays s d x o h k = by_parts (key_effect.asked old.core s d) (relocation_at old s d) refl h
     where
-      same-core : key_effect.asked between.core s d ≡ key_effect.asked old.core s d
-      same-core = ap (λ (p : CoreView K V I). key_effect.asked p s d) core
-
       by_parts : (a : Option (key_effect.Asked K V I)) (r : Option (Relocation K V)) → key_effect.asked old.core s d ≡ a → asked_of a r ≡ Some x → asked between s d ≡ Some x
-      by_parts (Some y) r p e = ap (λ (a : Option (key_effect.Asked K V I)). asked_of a (relocation_at between s d)) (same-core ∙ p) ∙ e
+      by_parts (Some y) r p e = ap (λ (a : Option (key_effect.Asked K V I)). asked_of a (relocation_at between s d)) (core.asked s d ∙ p) ∙ e
       by_parts None None p e = absurd (cc)
       by_parts None (Some r) p e =
           let same : record { number = r.number; op = Relocate } ≡ x = cc in
           let bad : None ≡ Some o = ap (λ (y : Asked K V I). keyed y.op) same ∙ k in
           absurd (cc)
-
-  -- what look-ups are to find
-  pub between-pends : (cmp : K → K → Ordering) → AllPend cmp old.core between.core
-  between-pends cmp s d = ap (λ (p : CoreView K V I). pending cmp p s d) core
-
-  -- and the live map
-  pub between-live : (cmp : K → K → Ordering) → Same (live_of cmp between.core) (live_of cmp old.core)
-  between-live cmp k = ap (λ (p : CoreView K V I). live_of cmp p k) core
 
 -- ---- a session is left, or not
 pub left-asked : {K V I : Type 0} (keeps : Bool) (between new : PartitionView K V I) (now : ℕ) (result : Result (Unit {0}) Refused)
@@ -126,13 +149,13 @@ left-live keeps cmp between new now (Ok x) event err yes_keeps k = ap (λ t. liv
 left-live {K} {V} {I} keeps cmp between new now (Err e) event err yes_keeps k = ap (λ (v : PartitionView K V I). live_of cmp v.core k) err
 
 -- who has left, by what leaving a session is to its partition
-pub left-parted : {K V I : Type 0} (keeps : Bool) (old between new : PartitionView K V I) (m now end : ℕ) (r : Result (Unit {0}) Refused) → between.core ≡ record old.core { moment = m } → end ≡ now
+pub left-parted : {K V I : Type 0} (keeps : Bool) (cmp : K → K → Ordering) (old between new : PartitionView K V I) (now end : ℕ) (r : Result (Unit {0}) Refused) → IsWithoutThem cmp old.core between.core → end ≡ now
     → OnOk r (IsQuiet keeps between new now) → OnOk r (IsParted keeps old new end)
-left-parted keeps old between new m now end (Err e) core at ev = tt
-left-parted {K} {V} {I} keeps old between new m now end (Ok t) core at ev = record {
-  text = λ yes_keeps. ev.text yes_keeps ∙ ap (λ (v : CoreView K V I). v.records.text) core;
-  number = ev.number ∙ ap (λ (v : CoreView K V I). v.number) core;
-  count = ev.count ∙ ap (λ (v : CoreView K V I). v.count) core;
-  begin = ev.begin ∙ ap (λ (v : CoreView K V I). v.records.begin) core;
+left-parted keeps cmp old between new now end (Err e) core at ev = tt
+left-parted keeps cmp old between new now end (Ok t) core at ev = record {
+  text = λ yes_keeps. ev.text yes_keeps ∙ ap (λ r. r.text) core.records;
+  number = ev.number ∙ core.number;
+  count = ev.count ∙ core.count;
+  begin = ev.begin ∙ ap (λ r. r.begin) core.records;
   moment = ev.moment ∙ sym at;
 }

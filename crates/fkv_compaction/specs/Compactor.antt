@@ -10,6 +10,9 @@ use Rattle.fkv_texts.specs.declared.entries.Entry.{Entry}
 use Rattle.fkv_operations.specs.declared.operations.Op.TheVariants.{Relocate}
 use Rattle.fkv_partition.specs.declared.contexts.Progress.{Progress}
 use Rattle.fkv_partition.specs.declared.contexts.Progress.TheVariants.{Next}
+use Rattle.fkv_partition.specs.CoreEffect as key_effect
+use Rattle.fkv_partition.specs.CoreViews.{CoreView}
+use Rattle.fkv_partition.specs.Pending.{AllPend}
 use Rattle.fkv_partition.specs.Views.{PartitionView, with_relocation}
 use Rattle.fkv_partition.specs.Beginning.{IsFirstFree, IsFirstOpen, LeavesAll}
 use Rattle.fkv_partition.specs.Relocating.{IsRelocating}
@@ -58,6 +61,15 @@ pub data CompactsLoad {K V I O R : Type 0} (stands : R → Standing) (spells : �
       → IsFirstOpen old slot (Some c)
       → Loads stands spells cmp join f code old new slot c came now result
       → CompactsLoad stands spells cmp join f code old new slot came now result
+
+-- relocations are given up: operations on keys ask what they asked, look-ups are to find what they were to find, and the records
+-- stay
+pub record IsWithoutThem {K V I : Type 0} (cmp : K → K → Ordering) (old new : CoreView K V I) : Type 0 where
+  pub asked : (s d : ℕ) → key_effect.asked new s d ≡ key_effect.asked old s d
+  pub pend : AllPend cmp old new
+  pub records : new.records ≡ old.records
+  pub number : new.number ≡ old.number
+  pub count : new.count ≡ old.count
 
 -- who has left: of the partition its number and count stay, its text on a device that keeps, and where that begins
 pub record IsParted {K V I : Type 0} (keeps : Bool) (old new : PartitionView K V I) (now : ℕ) : Type 0 where

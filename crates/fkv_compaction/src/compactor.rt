@@ -14,7 +14,7 @@ ghost use Rattle.fkv_partition.specs.Beginning.{IsFirstOpen};
 ghost use Rattle.fkv_partition.specs.Effect.{Asked, asked, IsQuiet, IsGiveUp, IsTruncation};
 ghost use Rattle.fkv_partition.specs.Events.{Enters};
 ghost use Rattle.fkv_partition.specs.Truncating.{Truncates, told_of};
-ghost use Rattle.fkv_compaction.specs.Compactor.{IsTurn, IsParted, CompactsNext, CompactsLoad, GivesUpAll, Parts};
+ghost use Rattle.fkv_compaction.specs.Compactor.{IsTurn, IsParted, CompactsNext, CompactsLoad, GivesUpAll, Parts, IsWithoutThem};
 
 use fkv_device::{Loaded, Receipt};
 use fkv_functions::{Mergeable, Refused};
@@ -228,8 +228,7 @@ impl Compactor {
         requires past { partition.old.core.moment ≤ clock.old }
         requires spare { clock.old + 9 < 2 ^ 64 }
         ensures effect { GivesUpAll self.now partition.old partition.new clock.old clock.new }
-        ensures core { partition.new.core
-            ≡ record partition.old.core { moment = partition.new.core.moment } }
+        ensures core { IsWithoutThem F.Key.cmp partition.old.core partition.new.core }
         ensures cleared { partition.new.cleared ≡ partition.old.cleared }
         ensures none { (c : ℕ) → relocation_at partition.new self.now c ≡ None }
         ensures others { (s d : ℕ) → s ≢ self.now → asked partition.new s d ≡ asked partition.old s d }

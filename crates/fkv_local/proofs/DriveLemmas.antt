@@ -14,12 +14,16 @@ use Rattle.fkv_texts.specs.Text.{live}
 use Rattle.fkv_partition.specs.declared.contexts.Wait.{Wait}
 use Rattle.fkv_partition.specs.declared.contexts.Progress.TheVariants.{Done, Waits}
 use Rattle.fkv_partition.specs.declared.contexts.Context.{Context}
-use Rattle.fkv_partition.specs.CoreContexts.{joined, is_session, context_in}
+use Rattle.fkv_partition.specs.CoreContexts.{joined, is_session, context_in, on_key, relocating}
 use Rattle.fkv_partition.specs.CoreEnding.{GivesUp}
 use Rattle.fkv_partition.specs.CoreEffect.{asked_by, LeavesOthers, IsGiveUp}
-use Rattle.fkv_partition.specs.CoreViews.{CoreView, slots_of, context_at, live_of, partition_of}
+use Rattle.fkv_partition.specs.CoreViews.{CoreView, slots_of, held_at, context_at, live_of, partition_of}
 use Rattle.fkv_partition.specs.Beginning.{IsFirstFree, IsFree, IssuesOnKey}
-use Rattle.fkv_partition.specs.Views.{PartitionView, with_core}
+use Rattle.fkv_partition.specs.declared.contexts.Open.{Open}
+use Rattle.fkv_partition.specs.declared.contexts.Open.TheVariants.{OnKey, Relocating}
+use Rattle.fkv_partition.specs.Events.{IsPassedOn}
+use Rattle.fkv_partition.specs.Views.{PartitionView}
+use Rattle.fkv_alone.proofs.KeyLemmas.{rest-then}
 use Rattle.fkv_alone.specs.Ending.{Ends, IsOver, IsStop}
 use Rattle.fkv_alone.specs.Spoilt.{Spelling, IsSpoilt}
 use Rattle.fkv_alone.specs.Stages.{IsWaiting}
@@ -39,12 +43,18 @@ pub inside : {A : Type 0} (slots : List (Option ℕ)) (contexts : List (Option A
 inside slots contexts c h low = let t : nat_lt c 8 ≡ true = grind (arith, nat_tests) in rw (h, t) refl
 
 module _ {K V I : Type 0} where
+  -- what is neither an operation on a key nor a relocation is nothing
+  pub none-held : (o : Option (Open K V I)) → on_key o ≡ None → relocating o ≡ None → o ≡ None
+  none-held None k r = refl
+  none-held (Some (OnKey x)) k r = absurd (cc)
+  none-held (Some (Relocating x)) k r = absurd (cc)
+
   -- what one context did is over, and the others ask what they asked
-  pub idle-left : (v w : PartitionView K V I) (c now : ℕ) → IsIdle v 0 → LeavesOthers v.core w.core 0 c now → w ≡ with_core v w.core → context_at w.core 0 c ≡ None → IsIdle w 0
+  pub idle-left : (v w : PartitionView K V I) (c now : ℕ) → IsIdle v 0 → LeavesOthers v.core w.core 0 c now → IsPassedOn v w → context_at w.core 0 c ≡ None → IsIdle w 0
   idle-left v w c now i frame rest closed = record {
     entered = entered;
     free = λ d. free d (nat_lt d c) (nat_lt c d) refl refl;
-    relocations = λ d. ap (λ t. context_in t w.relocations 0 d) slots ∙ ap (λ (u : PartitionView K V I). context_in (slots_of v.core) u.relocations 0 d) rest ∙ i.relocations d;
+    relocations = λ d. ap (λ t. relocating (context_in t w.core.contexts 0 d)) slots ∙ kept (is_session (slots_of v.core) 0 && nat_lt d 8) d ∙ i.relocations d;
   }
     where
       slots : slots_of w.core ≡ slots_of v.core
@@ -52,6 +62,10 @@ module _ {K V I : Type 0} where
 
       entered : is_session (slots_of w.core) 0 ≡ true
       entered = ap (λ t. is_session t 0) slots ∙ i.entered
+
+      kept : (b : Bool) (d : ℕ) → relocating (cond b (joined (slice_get w.core.contexts (0 * 8 + d))) None) ≡ relocating (cond b (joined (slice_get v.core.contexts (0 * 8 + d))) None)
+      kept true d = rest.relocations (0 * 8 + d)
+      kept false d = refl
 
       other : (d : ℕ) → d ≢ c → context_at w.core 0 d ≡ None
       other d n = none-mapped asked_by (context_at w.core 0 d) (frame.others 0 d (inr n) ∙ ap (option_map asked_by) (i.free d))
@@ -65,18 +79,17 @@ module _ {K V I : Type 0} where
   pub idle-tidied : (keeps : Bool) (cmp : K → K → Ordering) (v w : PartitionView K V I) → IsIdle v 0 → IsTidied keeps cmp v w → IsIdle w 0
   idle-tidied keeps cmp v w i t = record {
     entered = t.sessions 0 ∙ i.entered;
-    free = λ c. ap (λ b. cond (b && nat_lt c 8) (joined (slice_get w.core.contexts (0 * 8 + c))) None) (t.sessions 0)
-        ∙ ap (λ cs. cond (is_session (slots_of v.core) 0 && nat_lt c 8) (joined (slice_get cs (0 * 8 + c))) None) t.operations ∙ i.free c;
-    relocations = λ c. ap (λ b. cond (b && nat_lt c 8) (joined (slice_get w.relocations (0 * 8 + c))) None) (t.sessions 0)
-        ∙ ap (λ cs. cond (is_session (slots_of v.core) 0 && nat_lt c 8) (joined (slice_get cs (0 * 8 + c))) None) t.relocations ∙ i.relocations c;
+    free = λ c. ap on_key (held c) ∙ i.free c;
+    relocations = λ c. ap relocating (held c) ∙ i.relocations c;
   }
+    where
+      held : (c : ℕ) → held_at w.core 0 c ≡ held_at v.core 0 c
+      held c = ap (λ b. cond (b && nat_lt c 8) (joined (slice_get w.core.contexts (0 * 8 + c))) None) (t.sessions 0)
+          ∙ ap (λ cs. cond (is_session (slots_of v.core) 0 && nat_lt c 8) (joined (slice_get cs (0 * 8 + c))) None) t.contexts
 
   -- so its lowest context is free, and an operation is issued there
   pub zero-free : (v : PartitionView K V I) → IsIdle v 0 → IsFree v 0 0
-  zero-free v i = record {
-    operation = sym (inside (slots_of v.core) v.core.contexts 0 i.entered (omega arith)) ∙ i.free 0;
-    relocation = sym (inside (slots_of v.core) v.relocations 0 i.entered (omega arith)) ∙ i.relocations 0;
-  }
+  zero-free v i = sym (inside (slots_of v.core) v.core.contexts 0 i.entered (omega arith)) ∙ none-held (held_at v.core 0 0) (i.free 0) (i.relocations 0)
 
   pub first-is-zero : (v : PartitionView K V I) (c : ℕ) → IsIdle v 0 → IsFirstFree v 0 (Some c) → c ≡ 0
   first-is-zero v c i f = by (nat_lt 0 c) refl
@@ -113,7 +126,7 @@ module _ {K V I : Type 0} {keeps : Bool} {cmp : K → K → Ordering} where
   runs-any h = record { number = h.number; count = h.count; idle = h.idle; effect = λ k. h.effect refl }
 
 -- ---- an operation that is refused leaves the live map
-over-stays : {K V I : Type 0} {keeps : Bool} {cmp : K → K → Ordering} (u v w : PartitionView K V I) (c : ℕ) → StaysIdle keeps cmp u v → IsOver v.core w.core 0 c → w ≡ with_core v w.core → StaysIdle keeps cmp u w
+over-stays : {K V I : Type 0} {keeps : Bool} {cmp : K → K → Ordering} (u v w : PartitionView K V I) (c : ℕ) → StaysIdle keeps cmp u v → IsOver v.core w.core 0 c → IsPassedOn v w → StaysIdle keeps cmp u w
 over-stays {K} {V} {I} {keeps} {cmp} u v w c s over rest = record {
   number = over.frame.number ∙ s.number;
   count = over.frame.count ∙ s.count;
@@ -186,7 +199,7 @@ left-runs s = record { number = s.number; count = s.count; idle = s.idle; effect
 
 module _ {K V I O R : Type 0} {keeps : Bool} {cmp : K → K → Ordering} {join : V → V → V} {f : Meanings K V I O} {code : K → ℕ} {op : KeyedOp K V I} where
   -- ---- how an operation ends of which nothing was open before
-  module _ {u v w : PartitionView K V I} {start end before after_ : ℕ} (s : StaysIdle keeps cmp u v) (own : partition_of v.core.count (code (key_of op)) ≡ v.core.number) (rest : w ≡ with_core v w.core) (begun : 0 < start) (within : end < 2 ^ 64) where
+  module _ {u v w : PartitionView K V I} {start end before after_ : ℕ} (s : StaysIdle keeps cmp u v) (own : partition_of v.core.count (code (key_of op)) ≡ v.core.number) (rest : IsPassedOn v w) (begun : 0 < start) (within : end < 2 ^ 64) where
     pub done-runs : {a : Answer O} {at : ℕ} → Ends {R = R} keeps cmp join f code op v w 0 (2 ^ 64 - 1) start end before after_ (Ok (Done a at)) → Runs keeps cmp f u w op (Ok a)
     done-runs (Ends.barred b n e t r) = absurd (cc)
     done-runs (Ends.late b d n e t r) = absurd (cc)
@@ -252,7 +265,7 @@ module _ {K V I O R : Type 0} {keeps : Bool} {cmp : K → K → Ordering} {join 
     pub waits-later : {why : Wait} → Ends {O = O} {R = R} keeps cmp join f code op v w 0 (2 ^ 64 - 1) start end before after_ (Ok (Waits why)) → start + 1 ≤ w.core.moment
     waits-later ends = (waited ends).open_is.begun
 
-    pub wait-given_up : {why : Wait} {x : PartitionView K V I} {m : ℕ} {r : Result (Unit {0}) Refused} → Ends {O = O} {R = R} keeps cmp join f code op v w 0 (2 ^ 64 - 1) start end before after_ (Ok (Waits why)) → GivesUp w.core x.core 0 0 m r → OnOk r (IsGiveUp w.core x.core 0 0 m) → x ≡ with_core w x.core → StaysIdle keeps cmp u x
+    pub wait-given_up : {why : Wait} {x : PartitionView K V I} {m : ℕ} {r : Result (Unit {0}) Refused} → Ends {O = O} {R = R} keeps cmp join f code op v w 0 (2 ^ 64 - 1) start end before after_ (Ok (Waits why)) → GivesUp w.core x.core 0 0 m r → OnOk r (IsGiveUp w.core x.core 0 0 m) → IsPassedOn w x → StaysIdle keeps cmp u x
     wait-given_up {why} {x} {m} {r} ends gives event passed =
         let h = waited ends in
         let given = is-given_up w.core x.core m r h.operation h.open_is.here gives event in
@@ -268,6 +281,6 @@ module _ {K V I O R : Type 0} {keeps : Bool} {cmp : K → K → Ordering} {join 
             regions = given.frame.regions ∙ o.frame.regions;
             rises = omega arith;
             moment = refl;
-          }) (passed ∙ ap (λ (y : PartitionView K V I). with_core y x.core) rest) (none-mapped asked_by (context_at x.core 0 0) given.closed);
+          }) (rest-then v w x rest passed) (none-mapped asked_by (context_at x.core 0 0) given.closed);
           live = λ k q. ap (λ t. live cmp t q) given.text ∙ ap (λ r. live cmp r.text q) o.records ∙ s.live k q;
         }

@@ -5,8 +5,8 @@ use Rattle.fkv_functions.specs.declared.refusals.Refused.{Refused}
 use Rattle.fkv_functions.proofs.ListLemmas.{get-append_cases}
 use Rattle.fkv_partition.specs.declared.limits.Config.{Config}
 use Rattle.fkv_partition.specs.CoreBeginning as beginning
-use Rattle.fkv_partition.specs.CoreContexts.{joined, is_session, context_in}
-use Rattle.fkv_partition.specs.CoreViews.{CoreView, slots_of, context_at, live_of, empty_core}
+use Rattle.fkv_partition.specs.CoreContexts.{joined, is_session, context_in, on_key, relocating}
+use Rattle.fkv_partition.specs.CoreViews.{CoreView, slots_of, context_at, relocation_in, live_of, empty_core}
 use Rattle.fkv_partition.specs.Events.{Enters}
 use Rattle.fkv_partition.specs.Views.{PartitionView, empty_partition}
 use Rattle.fkv_local.specs.Resting.{IsSeatedIn, AreNew}
@@ -40,9 +40,9 @@ module _ {K V I : Type 0} (cmp : K → K → Ordering) (merges : Bool) (config :
   pub enters-always : (w : PartitionView K V I) (e : Refused) → Enters (empty_partition merges config size number) w now (Err e) → ⊥
   enters-always w e h = core-enters w.core e h.does
 
-  seated-in : (w : PartitionView K V I) (slot : ℕ) → now ≡ number + 1 → w.core.moment ≤ now → w.relocations ≡ replicate 128 None → beginning.Enters (empty_core merges config size number) w.core now (Ok slot) → IsSeatedIn cmp config number w
-  seated-in w slot e past none (beginning.Enters.full f n r) = absurd (cc)
-  seated-in w slot e past none (beginning.Enters.enters s f n r) =
+  seated-in : (w : PartitionView K V I) (slot : ℕ) → now ≡ number + 1 → w.core.moment ≤ now → beginning.Enters (empty_core merges config size number) w.core now (Ok slot) → IsSeatedIn cmp config number w
+  seated-in w slot e past (beginning.Enters.full f n r) = absurd (cc)
+  seated-in w slot e past (beginning.Enters.enters s f n r) =
       let zero_slot : 0 ≡ s = cc in
       record {
         numbered = ap (λ (u : CoreView K V I). u.number) n;
@@ -50,14 +50,14 @@ module _ {K V I : Type 0} (cmp : K → K → Ordering) (merges : Bool) (config :
         past = omega arith;
         idle = record {
           entered = ap (λ (u : CoreView K V I). is_session (slots_of u) 0) n ∙ ap (λ t. is_session (slice_set (replicate 16 None) t (Some 1)) 0) (sym zero_slot);
-          free = λ c. ap (λ (u : CoreView K V I). context_at u 0 c) n ∙ unopened (slice_set (replicate 16 None) s (Some 1)) 0 c;
-          relocations = λ d. ap (λ rs. context_in (slots_of w.core) rs 0 d) none ∙ unopened (slots_of w.core) 0 d;
+          free = λ c. ap (λ (u : CoreView K V I). context_at u 0 c) n ∙ ap on_key (unopened (slice_set (replicate 16 None) s (Some 1)) 0 c);
+          relocations = λ d. ap (λ (u : CoreView K V I). relocation_in u 0 d) n ∙ ap relocating (unopened (slice_set (replicate 16 None) s (Some 1)) 0 d);
         };
         empty = λ k. ap (λ (u : CoreView K V I). live_of cmp u k) n;
       }
 
   pub seated-new : (w : PartitionView K V I) (slot : ℕ) → now ≡ number + 1 → w.core.moment ≤ now → Enters (empty_partition merges config size number) w now (Ok slot) → IsSeatedIn cmp config number w
-  seated-new w slot e past h = seated-in w slot e past (ap (λ (u : PartitionView K V I). u.relocations) h.rest) h.does
+  seated-new w slot e past h = seated-in w slot e past h.does
 
   pub new-none : AreNew {K = K} {V = V} {I = I} cmp config [] 0
   new-none = record { sized = refl; each = λ p v h. absurd (cc) }

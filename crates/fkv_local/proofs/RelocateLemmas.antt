@@ -18,7 +18,8 @@ use Rattle.fkv_partition.specs.declared.contexts.Wait.{Wait}
 use Rattle.fkv_partition.specs.declared.contexts.Wait.TheVariants.{Full}
 use Rattle.fkv_partition.specs.declared.contexts.Progress.{Progress}
 use Rattle.fkv_partition.specs.declared.contexts.Progress.TheVariants.{Done, Next, NeedsLoad, Waits}
-use Rattle.fkv_partition.specs.CoreContexts.{joined}
+use Rattle.fkv_partition.specs.CoreContexts.{joined, relocating}
+use Rattle.fkv_partition.specs.declared.contexts.Open.TheVariants.{Relocating}
 use Rattle.fkv_partition.specs.CoreViews.{slots_of}
 use Rattle.fkv_partition.specs.Beginning.{Relocates}
 use Rattle.fkv_partition.specs.Checking.{Ends, Asks, ChecksLiveness, renewed}
@@ -182,7 +183,7 @@ free-slot xs i low free = by_get (slice_get xs i) refl
     by_get (Some (Some x)) e = absurd (let bad : Some x ≡ None = sym (ap joined e) ∙ free in cc)
 
 module _ {K V I : Type 0} {code : K → ℕ} {v w : PartitionView K V I} {now : ℕ} (idle : IsIdle v 0) where
-  pub issued : {c : ℕ} → length v.relocations ≡ 128 → Issues code v w 0 Relocate now (Ok c) → IsWanted w c None
+  pub issued : {c : ℕ} → length v.core.contexts ≡ 128 → Issues code v w 0 Relocate now (Ok c) → IsWanted w c None
   issued places (Issues.on_key o key h) = absurd (cc)
   issued {c} places (Issues.relocation op (Relocates.unknown none is told)) = absurd (cc)
   issued {c} places (Issues.relocation op (Relocates.not_due entered low is told)) = absurd (cc)
@@ -190,10 +191,10 @@ module _ {K V I : Type 0} {code : K → ℕ} {v w : PartitionView K V I} {now : 
   issued {c} places (Issues.relocation op (Relocates.relocates d entered low free is told)) =
       let same : d ≡ c = cc in
       let y : Relocation K V = record { number = now; target = v.cleared; stage = Fresh } in
-      let inside_it = inside (slots_of v.core) (slice_set v.relocations (0 * 8 + d) (Some y)) d entered free.0 in
-      let none = free-slot v.relocations (0 * 8 + d) (let small = free.0 in omega (arith, places)) free.1.relocation in
+      let inside_it = inside (slots_of v.core) (slice_set v.core.contexts (0 * 8 + d) (Some (Relocating y))) d entered free.0 in
+      let none = free-slot v.core.contexts (0 * 8 + d) (let small = free.0 in omega (arith, places)) free.1 in
       subst (λ n. IsWanted w n None) same (subst (λ u. IsWanted u d None) (sym is)
-      (IsWanted.of_none y (inside_it ∙ ap joined (get-set_same v.relocations (0 * 8 + d) None (Some y) none)) refl))
+      (IsWanted.of_none y (ap relocating (inside_it ∙ ap joined (get-set_same v.core.contexts (0 * 8 + d) None (Some (Relocating y)) none))) refl))
 
   pub not-issued : {why : Refused} → Issues code v w 0 Relocate now (Err why) → why ≡ NotDue
   not-issued (Issues.on_key o key h) = absurd (cc)

@@ -14,15 +14,14 @@ use Rattle.fkv_partition.specs.Views.{PartitionView}
 abbrev pub SeesNow : {K V I : Type 0} → CoreView K V I → ℕ → Type 0
 SeesNow v slot = seen_at v slot ≡ view_of v.records.regions.offsets
 
--- the pages of a partition move: each session, each open operation and each relocation stays as it is, and so does Begin, and, on a
--- device that keeps, the live map
+-- the pages of a partition move: each session and what is open in its contexts stay as they are, and so does Begin, and, on a device
+-- that keeps, the live map
 pub record IsTidied {K V I : Type 0} (keeps : Bool) (cmp : K → K → Ordering) (old new : PartitionView K V I)
     : Type 0 where
   pub number : new.core.number ≡ old.core.number
   pub count : new.core.count ≡ old.core.count
   pub sessions : (s : ℕ) → is_session (slots_of new.core) s ≡ is_session (slots_of old.core) s
-  pub operations : new.core.contexts ≡ old.core.contexts
-  pub relocations : new.relocations ≡ old.relocations
+  pub contexts : new.core.contexts ≡ old.core.contexts
   pub begin : new.core.records.begin ≡ old.core.records.begin
   pub live : IsTrue keeps → Same (live_of cmp new.core) (live_of cmp old.core)
 

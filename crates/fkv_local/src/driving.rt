@@ -5,7 +5,7 @@ ghost use Rattle.fkv_operations.specs.After.{key_of, is_merge};
 ghost use Rattle.fkv_operations.specs.declared.operations.KeyedOp.TheVariants.{Read, Rmw};
 ghost use Rattle.fkv_operations.specs.declared.operations.Answer.TheVariants.{Value};
 ghost use Rattle.fkv_partition.specs.CoreViews.{partition_of};
-ghost use Rattle.fkv_partition.specs.Views.{with_core};
+ghost use Rattle.fkv_partition.specs.Events.{IsPassedOn};
 ghost use Rattle.fkv_alone.specs.Ending.{Ends};
 ghost use Rattle.fkv_alone.specs.Spoilt.{IsSpoilt};
 ghost use Rattle.fkv_local.specs.Resting.{IsIdle, StaysIdle};
@@ -44,7 +44,7 @@ fn once<F: Mergeable, D: Disk, P: PageReader<Receipt = D::Receipt>>(
         → IsSpoilt (IsEntryIn F.Key.codec F.Value.codec)
         F.Key.cmp page }
     ensures unread { is_merge op ≡ true → reader.new ≡ reader.old }
-    ensures rest { part.new.partition ≡ with_core part.old.partition part.new.partition.core }
+    ensures rest { IsPassedOn part.old.partition part.new.partition }
     ensures passed { IsPassed part.new.partition.core.moment clock.old clock.new }
     ensures small { clock.new < 2 ^ 64 }
     ensures same_writer { part.new.writer ≡ part.old.writer }

@@ -17,12 +17,16 @@ use Rattle.fkv_partition.specs.Beginning.{IssuesOnKey}
 use Rattle.fkv_partition.specs.CoreBeginning as beginning
 use Rattle.fkv_partition.specs.CoreGoing as going
 use Rattle.fkv_partition.specs.CoreSound.{IsSound}
-use Rattle.fkv_partition.specs.CoreViews.{CoreView, live_of}
+use Rattle.fkv_partition.specs.CoreContexts.{relocating}
+use Rattle.fkv_partition.specs.CoreViews.{CoreView, live_of, slots_of}
+use Rattle.fkv_partition.specs.declared.contexts.Open.TheVariants.{OnKey}
+use Rattle.fkv_partition.specs.declared.contexts.Phase.TheVariants.{Fresh}
 use Rattle.fkv_partition.specs.Effect.{Asked}
 use Rattle.fkv_partition.specs.Events as events
 use Rattle.fkv_partition.specs.Pending.{AllPend, OthersPend}
 use Rattle.fkv_partition.specs.Views.{PartitionView, relocation_at}
-use Rattle.fkv_partition.proofs.AtOnceLemmas.{sound-issued, free-context, free-relocation}
+use Rattle.fkv_partition.proofs.AskedLemmas.{shown-stays}
+use Rattle.fkv_partition.proofs.AtOnceLemmas.{sound-issued, free-held, free-relocation}
 use Rattle.fkv_partition.proofs.EffectLemmas.{asked-low}
 use Rattle.fkv_histories.specs.declared.entries.Entry.{Entry}
 use Rattle.fkv_histories.specs.Histories.{is_update_entry, updates}
@@ -45,8 +49,9 @@ module _ {K V I : Type 0} (code : K → ℕ) (old between : PartitionView K V I)
       let same : c ≡ b = cc in
       rw (is, same)
       (record {
-        issues = record { entered = inside; low = free.0; free = free-context old slot b inside free.0 free.1; own = own; merging = m; is = refl };
-        none = free-relocation old slot b inside free.0 free.1;
+        issues = record { entered = inside; low = free.0; free = free-held old slot b inside free.0 free.1; own = own; merging = m; is = refl };
+        none = shown-stays relocating refl (slots_of old.core) old.core.contexts slot b slot b (Some (OnKey (record { number = issued; op = on_key.Rmw key input; phase = Fresh }))) (ap relocating free.1) refl
+            ∙ free-relocation old slot b inside free.0 free.1;
       })
 
   begun : events.Issues code old between slot (Rmw key input) issued (Ok c) → Begun

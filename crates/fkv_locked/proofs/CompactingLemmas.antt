@@ -1,5 +1,5 @@
 -- What is kept under a lock stays so with each event of a compactor, and what such an event may tell.
-use Rattle.std.proofs.Common.{◌≡◌, ◌⊎◌, inl, inr, ℕ, ◌+◌, ◌<◌, ◌≤◌, Bool, true, false, IsTrue, List, Option, Some, None, Result, Ok, Err, IfOk, IfErr, is_some, refl, sym, ap, ◌∙◌, arith}
+use Rattle.std.proofs.Common.{◌≡◌, ◌⊎◌, inl, inr, ℕ, ◌+◌, ◌<◌, ◌≤◌, Bool, true, false, IsTrue, List, Option, Some, None, Result, Ok, Err, IfOk, IfErr, is_some, refl, sym, ap, ◌∙◌, subst, arith}
 use Rattle.std.specs.declared.cmp.Ordering.{Ordering}
 use Rattle.fkv_functions.specs.Meanings.{Meanings}
 use Rattle.fkv_functions.specs.Plain.{Same}
@@ -18,7 +18,7 @@ use Rattle.fkv_partition.specs.CoreViews.{CoreView, live_of}
 use Rattle.fkv_partition.specs.Effect.{Asked, asked, asked_of, IsTruncation}
 use Rattle.fkv_partition.specs.Events.{Goes, Loads}
 use Rattle.fkv_partition.specs.Going.{GoesOn}
-use Rattle.fkv_partition.specs.Pending.{pending, AllPend}
+use Rattle.fkv_partition.specs.Pending.{AllPend}
 use Rattle.fkv_partition.specs.declared.contexts.Progress.{Progress}
 use Rattle.fkv_partition.specs.Reading.{LoadsOn}
 use Rattle.fkv_partition.specs.Relocating.{IsRelocating}
@@ -26,6 +26,7 @@ use Rattle.fkv_partition.specs.Views.{PartitionView, relocation_at, with_relocat
 use Rattle.fkv_partition.specs.declared.relocations.Relocation.{Relocation}
 use Rattle.fkv_partition.proofs.AskedLemmas.{keyed-op}
 use Rattle.fkv_compaction.specs.Compactor.{IsTurn, CompactsNext, CompactsLoad, GivesUpAll, Parts}
+use Rattle.fkv_compaction.proofs.CompactorLemmas.{gone}
 use Rattle.fkv_histories.specs.declared.entries.Entry.{Entry}
 use Rattle.fkv_locked.specs.Compacting.{IsRelocationProgress}
 use Rattle.fkv_locked.specs.Kept.{seen, IsKept}
@@ -102,25 +103,7 @@ module _ {K V I O R : Type 0} (stands : R → Standing) (cmp : K → K → Order
     load_tells (CompactsLoad.unknown none n r) = rw r tt
     load_tells (CompactsLoad.loads c first does) = (loads_comes stands cmp join f code old new slot c now result spells came first does).0
 
--- ---- a refused load, and who parts, leave all of the core but its moment
-module _ {K V I : Type 0} (old new : PartitionView K V I) where
-  pub record IsLater : Type 0 where
-    pub moment : ℕ
-    pub later : old.core.moment ≤ moment
-    pub core : new.core ≡ record old.core { moment = moment }
-
-  fails-later : (slot c now : ℕ) → old.core.moment < now → (new ≡ old) ⊎ (new ≡ with_relocation old slot c None now) → IsLater
-  fails-later slot c now later e = elim e [
-    | inl n ↦ record { moment = old.core.moment; later = omega arith; core = ap (λ (v : PartitionView K V I). v.core) n }
-    | inr n ↦ record { moment = now; later = omega arith; core = ap (λ (v : PartitionView K V I). v.core) n }
-  ]
-
-  load-later : {O R : Type 0} (stands : R → Standing) (spells : ℕ → List ℕ → ℕ → texts.Entry K V → Type 0) (cmp : K → K → Ordering) (join : V → V → V) (f : Meanings K V I O) (code : K → ℕ) (slot : ℕ)
-      (came : Result (Joined R) Refused) (now : ℕ) (why : Refused) → old.core.moment < now → CompactsLoad {O = O} stands spells cmp join f code old new slot came now (Err why) → IsLater
-  load-later stands spells cmp join f code slot came now why later (CompactsLoad.unknown none n r) = fails-later slot 0 now later (inl n)
-  load-later stands spells cmp join f code slot came now why later (CompactsLoad.loads c first does) =
-      fails-later slot c now later (loads_comes stands cmp join f code old new slot c now (Err why) spells came first does).1
-
+-- ---- who parts
 -- no moment is past
 given-later : {K V I : Type 0} (slot : ℕ) {old new : PartitionView K V I} {start end : ℕ} → GivesUpAll slot old new start end → old.core.moment ≤ start
     → (old.core.moment ≤ new.core.moment) × (new.core.moment ≤ end)
@@ -173,16 +156,10 @@ module _ {K V I O : Type 0} (cmp : K → K → Ordering) (f : Meanings K V I O) 
   pub turn_keeps : (keeps : Bool) (slot now : ℕ) → IsTrue keeps → old.core.moment < now → IsTurn keeps cmp old new slot now → IsKept cmp f (seen cmp new) es lows looks book
   turn_keeps keeps slot now held later turn = relocating_keeps keeps slot turn.context now held later turn.event
 
-  -- all of the core stays but its moment
-  later_keeps : IsLater old new → IsKept cmp f (seen cmp new) es lows looks book
-  later_keeps l =
-      let at = ap (λ (v : CoreView K V I). v.moment) l.core in
-      let later = l.later in
-      kept_operations cmp f (seen cmp old) (seen cmp new) (omega arith) es lows looks book
-      (operation_stays old new (λ s d. ap (λ (v : CoreView K V I). key_effect.asked v s d) l.core))
-      (λ s d p h. sym (ap (λ (v : CoreView K V I). pending cmp v s d) l.core) ∙ h)
-      (λ q. ap (λ (v : CoreView K V I). live_of cmp v q) l.core)
-      k
+  -- one is given up, or nothing changes
+  fails_keeps : (slot c now : ℕ) → old.core.moment < now → is_some (relocation_at old slot c) ≡ true → (new ≡ old) ⊎ (new ≡ with_relocation old slot c None now) → IsKept cmp f (seen cmp new) es lows looks book
+  fails_keeps slot c now later some (inl n) = subst (λ (v : PartitionView K V I). IsKept cmp f (seen cmp v) es lows looks book) (sym n) k
+  fails_keeps slot c now later some (inr n) = relocating_keeps true slot c now refl later (subst (λ (v : PartitionView K V I). IsRelocating true cmp old v slot c now) (sym n) (gone cmp old slot c now some))
 
   -- a load, refused or not
   pub load_keeps : {R : Type 0} (stands : R → Standing) (spells : ℕ → List ℕ → ℕ → texts.Entry K V → Type 0) (join : V → V → V) (code : K → ℕ) (keeps : Bool) (slot now : ℕ) (came : Result (Joined R) Refused)
@@ -191,7 +168,9 @@ module _ {K V I O : Type 0} (cmp : K → K → Ordering) (f : Meanings K V I O) 
       → IfOk result (λ moved. IsTurn keeps cmp old new slot now)
       → IsKept cmp f (seen cmp new) es lows looks book
   load_keeps stands spells join code keeps slot now came (Ok moved) held later does turn = turn_keeps keeps slot now held later turn
-  load_keeps stands spells join code keeps slot now came (Err why) held later does turn = later_keeps (load-later old new stands spells cmp join f code slot came now why later does)
+  load_keeps stands spells join code keeps slot now came (Err why) held later (CompactsLoad.unknown none n r) turn = subst (λ (v : PartitionView K V I). IsKept cmp f (seen cmp v) es lows looks book) (sym n) k
+  load_keeps stands spells join code keeps slot now came (Err why) held later (CompactsLoad.loads c first does) turn =
+      fails_keeps slot c now later first.0 (loads_comes stands cmp join f code old new slot c now (Err why) spells came first does).1
 
   -- the log's start is cut: no look-up is to find what it was to find
   pub truncation_keeps : (keeps : Bool) (page now : ℕ) → IsTrue keeps → old.core.moment < now → IsTruncation keeps cmp old new page now → IsKept cmp f (seen cmp new) es lows looks book

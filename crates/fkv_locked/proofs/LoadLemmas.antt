@@ -26,7 +26,6 @@ use Rattle.fkv_partition.specs.CoreViews.{CoreView, live_of}
 use Rattle.fkv_locked.proofs.ContextLemmas.{was-pending, same-pend}
 use Rattle.fkv_partition.specs.Events.{Loads}
 use Rattle.fkv_partition.specs.Effect.{Asked, asked, IsEvent, IsLoaded, IsLoad, Finds, to_find}
-use Rattle.fkv_partition.specs.Sound.{IsCompacting}
 use Rattle.fkv_partition.specs.Views.{PartitionView}
 use Rattle.fkv_partition.proofs.EffectLemmas.{relocation-asked}
 use Rattle.fkv_partition.proofs.AskedLemmas.{keyed-op}
@@ -86,9 +85,8 @@ module _ {K V I O R : Type 0} (stands : R → Standing) (entry : ℕ → List �
 not-relocate : {K V I : Type 0} (op : KeyedOp K V I) → op_of op ≡ Relocate → ⊥
 not-relocate op h = let bad : Some op ≡ None = sym (keyed-op op) ∙ ap keyed h in absurd (cc)
 
-module _ {K V I O R : Type 0} (stands : R → Standing) (entry : ℕ → List ℕ → ℕ → Entry K V → Type 0) (cmp : K → K → Ordering) (join : V → V → V) (f : Meanings K V I O) (code : K → ℕ) (keeps : Bool)
+module _ {K V I O R : Type 0} (stands : R → Standing) (entry : ℕ → List ℕ → ℕ → Entry K V → Type 0) (cmp : K → K → Ordering) (join : V → V → V) (f : Meanings K V I O) (code : K → ℕ)
     (old new : PartitionView K V I) (mine : OpenOperation K V I) (came : Result (Joined R) Refused) (now : ℕ)
-    (compacting : IsCompacting keeps cmp join code old)
     (asks : asked old mine.seat.slot mine.context ≡ Some (question_of mine))
     (early : (p : Pending V) → pending cmp old.core mine.seat.slot mine.context ≡ Some p → p.moment ≤ old.core.moment)
     (later : old.core.moment < now) where
@@ -96,7 +94,7 @@ module _ {K V I O R : Type 0} (stands : R → Standing) (entry : ℕ → List �
       → core_loading.Loads stands entry cmp join f old.core new.core mine.seat.slot mine.context came now r
   core-loads r (Loads.on_key none does passed) = does
   core-loads r (Loads.relocation x h does) =
-      let both : Some (question_of mine) ≡ Some (record { number = x.number; op = Relocate }) = sym asks ∙ relocation-asked old mine.seat.slot mine.context compacting x h in
+      let both : Some (question_of mine) ≡ Some (record { number = x.number; op = Relocate }) = sym asks ∙ relocation-asked old mine.seat.slot mine.context x h in
       let same : question_of mine ≡ record { number = x.number; op = Relocate } = cc in
       let op : op_of mine.op ≡ Relocate = ap (λ (y : Asked K V I). y.op) same in
       absurd (not-relocate mine.op op)

@@ -23,15 +23,17 @@ use Rattle.fkv_partition.specs.declared.contexts.Context.{Context}
 use Rattle.fkv_partition.specs.declared.contexts.Loading.{Loading}
 use Rattle.fkv_partition.specs.declared.contexts.Phase.{Phase}
 use Rattle.fkv_partition.specs.declared.contexts.Phase.TheVariants as phase
-use Rattle.fkv_partition.specs.CoreContexts.{joined, is_session, claim_of, claim_at}
+use Rattle.fkv_partition.specs.CoreContexts.{joined, on_key, relocating, claim_at}
 use Rattle.fkv_partition.specs.CoreEffect.{asked_by}
 use Rattle.fkv_partition.specs.Grown.{IsPreserved}
 use Rattle.fkv_partition.specs.Pending.{pending_by, pending_of, AllPend}
 use Rattle.fkv_partition.specs.CoreSound.{IsLoading, StandsFor, IsSound}
 use Rattle.fkv_partition.specs.CoreViews.{CoreView, slots_of, context_at, with_appended}
 use Rattle.fkv_partition.specs.Writes.{IsWrite}
-use Rattle.fkv_partition.proofs.AskedLemmas.{context-other}
+use Rattle.fkv_partition.proofs.AskedLemmas.{context-other, keyless-claims, shown-stays}
 use Rattle.fkv_partition.proofs.EventLemmas.{stands-at}
+use Rattle.fkv_partition.specs.declared.contexts.Open.{Open}
+use Rattle.fkv_partition.specs.declared.contexts.Open.TheVariants.{Relocating}
 use Rattle.fkv_partition.specs.declared.relocations.Relocation.{Relocation}
 use Rattle.fkv_partition.specs.declared.relocations.Stage.{Stage}
 use Rattle.fkv_partition.specs.declared.relocations.Stage.TheVariants.{Fresh, Reading, Tracing, Ready}
@@ -39,37 +41,23 @@ use Rattle.fkv_partition.specs.Views.{PartitionView, relocation_at, with_core, a
 use Rattle.fkv_partition.specs.Stages.{StageStands}
 use Rattle.fkv_partition.specs.Sound.{IsCompacting}
 use Rattle.fkv_partition.specs.Relocating.{IsRelocating}
-use Rattle.fkv_partition.proofs.MoveLemmas.{past-place, open-here, stands-here}
-use Rattle.fkv_partition.proofs.KeepLemmas.{keep-event, stage-moment}
-
--- ---- a context in which nothing is open is freed
-freed-here : {A : Type 0} (xs : List (Option A)) (i : ℕ) → joined (slice_get xs i) ≡ None → joined (slice_get (slice_set xs i None) i) ≡ None
-freed-here {A} xs i none = by_get (slice_get (slice_set xs i None) i) refl
-  where
-    by_get : (o : Option (Option A)) → slice_get (slice_set xs i None) i ≡ o → joined (slice_get (slice_set xs i None) i) ≡ None
-    by_get None h = ap joined h
-    by_get (Some z) h = elim (get-set_cases xs i i None z h) [
-      | inl new ↦ ap joined h ∙ sym new.1
-      | inr old ↦ ap joined (h ∙ sym old) ∙ none
-    ]
-
-freed-same : {A : Type 0} (xs : List (Option A)) (i q : ℕ) → joined (slice_get xs i) ≡ None → joined (slice_get (slice_set xs i None) q) ≡ joined (slice_get xs q)
-freed-same xs i q none = elim (cases_eq q i) [
-  | inl same ↦ ap (λ n. joined (slice_get (slice_set xs i None) n)) same ∙ freed-here xs i none ∙ sym (ap (λ n. joined (slice_get xs n)) same ∙ none)
-  | inr other ↦ ap joined (get-set_other xs i q None other)
-]
+use Rattle.fkv_partition.proofs.MoveLemmas.{past-place, open-here, keyless-here, stands-here}
+use Rattle.fkv_partition.proofs.KeepLemmas.{keep-event}
 
 -- ---- a moment passes
+moment-stage : {K V I : Type 0} (keeps : Bool) (cmp : K → K → Ordering) (join : V → V → V) (code : K → ℕ) (v : CoreView K V I) (now place : ℕ) (stage : Stage K V) → StageStands keeps cmp join code v place stage → StageStands keeps cmp join code (record v { moment = now }) place stage
+moment-stage keeps cmp join code v now place Fresh h = tt
+moment-stage keeps cmp join code v now place (Reading begin) h = h
+moment-stage keeps cmp join code v now place (Tracing entry l) h = h
+moment-stage keeps cmp join code v now place (Ready entry kept) h = h
+
 pub keep-moment : {K V I : Type 0} {keeps : Bool} {cmp : K → K → Ordering} {join : V → V → V} {code : K → ℕ} (v : PartitionView K V I) → IsCompacting keeps cmp join code v → (now : ℕ) → IsCompacting keeps cmp join code (with_core v (record v.core { moment = now }))
 keep-moment {keeps = keeps} {cmp = cmp} {join = join} {code = code} v s now = record {
   begun = s.begun;
   low = s.low;
   place = s.place;
   cleared = s.cleared;
-  places = s.places;
-  stands = λ p x h. (let was = s.stands p x h in record { place = was.place; frozen = was.frozen; issued = was.issued; stage = stage-moment keeps cmp join code v.core now x.target x.stage was.stage });
-  alone = s.alone;
-  housed = s.housed;
+  stands = λ p x h. (let was = s.stands p x h in record { place = was.place; frozen = was.frozen; issued = was.issued; stage = moment-stage keeps cmp join code v.core now x.target x.stage was.stage });
 }
 
 -- ---- what look-ups that wait for a page are to find
@@ -88,15 +76,11 @@ module _ {K V : Type 0} (keeps : Bool) (cmp : K → K → Ordering) (join : V �
   pending-same (Merge k i) (phase.Load l) h = absurd h
 
 module _ {K V I : Type 0} {keeps : Bool} (cmp : K → K → Ordering) (join : V → V → V) (code : K → ℕ) (v : PartitionView K V I) (s : IsCompacting keeps cmp join code v) (slot c now : ℕ) (x : Relocation K V) (h : relocation_at v slot c ≡ Some x) where
-  -- no operation is open in the context of a relocation
-  alone-here : joined (slice_get v.core.contexts (slot * 8 + c)) ≡ None
-  alone-here = s.alone (slot * 8 + c) x (open-here v slot c x h).here
-
   pub unclaimed : claim_at v.core.contexts (slot * 8 + c) ≡ None
-  unclaimed = ap claim_of alone-here
+  unclaimed = keyless-claims (joined (slice_get v.core.contexts (slot * 8 + c))) (keyless-here v slot c x h)
 
   contexts-same : (a d : ℕ) (e : IndexEntry) (key : K) (value : Option V) → context_at (with_appended v.core slot c e key value now) a d ≡ context_at v.core a d
-  contexts-same a d e key value = ap (λ o. cond (is_session (slots_of v.core) a && nat_lt d 8) o None) (freed-same v.core.contexts (slot * 8 + c) (a * 8 + d) alone-here)
+  contexts-same a d e key value = shown-stays {A = Open K V I} on_key refl (slots_of v.core) v.core.contexts slot c a d None (keyless-here v slot c x h) refl
 
   all-pend : IsSound keeps cmp join code v.core → (e : IndexEntry) (key : K) (value : Option V) → AllPend cmp v.core (with_appended v.core slot c e key value now)
   all-pend p e key value a d = ap (pending_of cmp (with_record v.core.records e key value)) (contexts-same a d e key value) ∙ by_context (context_at v.core a d) refl
@@ -128,7 +112,10 @@ module _ {K V I : Type 0} {keeps : Bool} (cmp : K → K → Ordering) (join : V 
         → IsPreserved keeps cmp join code v.core (with_appended v.core slot c kept e.key e.value now)
         → IsCompacting keeps cmp join code (with_core v (with_appended v.core slot c kept e.key e.value now))
     keep-again t st b = keep-event keeps cmp join code v (with_appended v.core slot c kept e.key e.value now) s t st b refl refl s.begun
-        (λ q y g none. freed-same v.core.contexts (slot * 8 + c) q alone-here ∙ none) (λ a d y low g inside. inside)
+        (λ q y g. elim (get-set_cases v.core.contexts (slot * 8 + c) q None (Some (Relocating y)) g) [
+          | inl new ↦ absurd (let no = new.1 in cc)
+          | inr old ↦ old
+        ])
 
     -- the record of the place is superseded then
     pub superseded-again : IsKeyOrder cmp → IsTrue keeps → (d : Entry K V) → entry_at (with_record v.core.records kept e.key e.value).entries x.target ≡ Some d → IsSuperseded cmp (with_record v.core.records kept e.key e.value).entries d
@@ -147,7 +134,7 @@ module _ {K V I : Type 0} {keeps : Bool} (cmp : K → K → Ordering) (join : V 
       same = λ a d. ap (option_map asked_by) (contexts-same a d kept e.key e.value);
       pend = λ yes_keeps. all-pend p kept e.key e.value;
       live = λ yes_keeps. lives-renewed cmp v.core.records.text order (record { address = v.core.records.tail; previous = address_of kept.word; key = e.key; value = e.value; delta = false }) (held order yes_keeps);
-      others = λ a d other. context-other (slots_of v.core) v.relocations slot c a d None (open-here v slot c x h).low other;
+      others = λ a d other. ap relocating (context-other (slots_of v.core) v.core.contexts slot c a d None (open-here v slot c x h).low other);
       rises = (past-place v x.target p.traced (stands-here v slot c x h s).place).0;
       number = refl;
       count = refl;

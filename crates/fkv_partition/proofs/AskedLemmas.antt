@@ -14,10 +14,13 @@ use Rattle.fkv_operations.specs.declared.operations.Answer.{Answer}
 use Rattle.fkv_operations.specs.declared.operations.KeyedOp.{KeyedOp}
 use Rattle.fkv_operations.specs.declared.operations.KeyedOp.TheVariants.{Read, Upsert, Rmw, Delete, Merge}
 use Rattle.fkv_partition.specs.declared.contexts.Context.{Context}
-use Rattle.fkv_partition.specs.CoreContexts.{joined, is_session, context_in}
-use Rattle.fkv_partition.specs.CoreViews.{CoreView, slots_of, context_at, with_context, free_slot, open_context}
+use Rattle.fkv_partition.specs.declared.contexts.Open.{Open}
+use Rattle.fkv_partition.specs.declared.contexts.Open.TheVariants.{OnKey, Relocating}
+use Rattle.fkv_partition.specs.declared.relocations.Relocation.{Relocation}
+use Rattle.fkv_partition.specs.CoreContexts.{joined, is_session, context_in, on_key, relocating, claim_of}
+use Rattle.fkv_partition.specs.CoreViews.{CoreView, slots_of, held_at, context_at, with_context, free_slot, open_context}
 use Rattle.fkv_partition.specs.CoreEffect.{asked, asked_by}
-use Rattle.fkv_functions.proofs.ListLemmas.{get-set_same, get-set_other}
+use Rattle.fkv_functions.proofs.ListLemmas.{get-set_cases, get-set_same, get-set_other}
 
 -- ---- operations on keys among all operations
 pub keyed-op : {K V I : Type 0} (o : KeyedOp K V I) → keyed (op_of o) ≡ Some o
@@ -43,7 +46,7 @@ pub op-same : {K V I : Type 0} (a b : KeyedOp K V I) → op_of a ≡ op_of b →
 op-same a b h = let both : Some a ≡ Some b = sym (keyed-op a) ∙ ap keyed h ∙ keyed-op b in cc
 
 -- ---- contexts
-joined-some : {A : Type 0} (o : Option (Option A)) (x : A) → joined o ≡ Some x → o ≡ Some (Some x)
+pub joined-some : {A : Type 0} (o : Option (Option A)) (x : A) → joined o ≡ Some x → o ≡ Some (Some x)
 joined-some None x h = absurd (cc)
 joined-some (Some y) x h = ap Some h
 
@@ -64,6 +67,12 @@ open_at slots contexts slot c x h = by_cases (is_session slots slot) (nat_lt c 8
 pub context-inside : {A : Type 0} (slots : List (Option ℕ)) (contexts : List (Option A)) (slot c : ℕ) → is_session slots slot ≡ true → c < 8 → context_in slots contexts slot c ≡ joined (slice_get contexts (slot * 8 + c))
 context-inside slots contexts slot c h low = let t : nat_lt c 8 ≡ true = grind (arith, nat_tests) in rw (h, t) refl
 
+pub context-outside : {A : Type 0} (slots : List (Option ℕ)) (contexts : List (Option A)) (slot c : ℕ) → is_session slots slot ≡ false → None ≡ context_in slots contexts slot c
+context-outside slots contexts slot c h = rw h refl
+
+pub context-entered : {A : Type 0} (slots : List (Option ℕ)) (contexts : List (Option A)) (slot c : ℕ) → is_session slots slot ≡ true → cond (nat_lt c 8) (joined (slice_get contexts (slot * 8 + c))) None ≡ context_in slots contexts slot c
+context-entered slots contexts slot c h = rw h refl
+
 and-false : (a : Bool) → (a && false) ≡ false
 and-false true = refl
 and-false false = refl
@@ -78,22 +87,86 @@ context-other slots contexts slot c s d y low other = by_cases (nat_lt d 8) refl
     by_cases true t = ap (λ o. cond (is_session slots s && nat_lt d 8) (joined o) None) (get-set_other contexts (slot * 8 + c) (s * 8 + d) y (apart (grind (arith, nat_tests))))
     by_cases false t = rw (t, and-false (is_session slots s)) refl
 
+-- ---- an operation on a key, or a relocation
+pub key-is : {K V I : Type 0} (o : Option (Open K V I)) (x : Context K V I) → on_key o ≡ Some x → o ≡ Some (OnKey x)
+key-is None x h = absurd (cc)
+key-is (Some (OnKey y)) x h = let same : y ≡ x = cc in ap (λ z. Some (OnKey z)) same
+key-is (Some (Relocating y)) x h = absurd (cc)
+
+pub relocation-is : {K V I : Type 0} (o : Option (Open K V I)) (x : Relocation K V) → relocating o ≡ Some x → o ≡ Some (Relocating x)
+relocation-is None x h = absurd (cc)
+relocation-is (Some (OnKey y)) x h = absurd (cc)
+relocation-is (Some (Relocating y)) x h = let same : y ≡ x = cc in ap (λ z. Some (Relocating z)) same
+
+pub key-of : {K V I : Type 0} (y : Option (Context K V I)) → on_key (option_map OnKey y) ≡ y
+key-of None = refl
+key-of (Some x) = refl
+
+pub key-moves_nothing : {K V I : Type 0} (y : Option (Context K V I)) → relocating (option_map OnKey y) ≡ None
+key-moves_nothing None = refl
+key-moves_nothing (Some x) = refl
+
+pub relocation-of : {K V : Type 0} (I : Type 0) (y : Option (Relocation K V)) → relocating {I = I} (option_map Relocating y) ≡ y
+relocation-of I None = refl
+relocation-of I (Some x) = refl
+
+pub relocation-keyless : {K V I : Type 0} (y : Option (Relocation K V)) → on_key {I = I} (option_map Relocating y) ≡ None
+relocation-keyless None = refl
+relocation-keyless (Some x) = refl
+
+-- no operation on a key claims no entry
+pub keyless-claims : {K V I : Type 0} (o : Option (Open K V I)) → on_key o ≡ None → claim_of o ≡ None
+keyless-claims None h = refl
+keyless-claims (Some (OnKey x)) h = absurd (cc)
+keyless-claims (Some (Relocating x)) h = refl
+
+pub key_at : {K V I : Type 0} (slots : List (Option ℕ)) (contexts : List (Option (Open K V I))) (slot c : ℕ) (x : Context K V I) → on_key (context_in slots contexts slot c) ≡ Some x → IsOpenAt slots contexts slot c (OnKey x)
+key_at slots contexts slot c x h = open_at slots contexts slot c (OnKey x) (key-is (context_in slots contexts slot c) x h)
+
+pub moving_at : {K V I : Type 0} (slots : List (Option ℕ)) (contexts : List (Option (Open K V I))) (slot c : ℕ) (x : Relocation K V) → relocating (context_in slots contexts slot c) ≡ Some x → IsOpenAt slots contexts slot c (Relocating x)
+moving_at slots contexts slot c x h = open_at slots contexts slot c (Relocating x) (relocation-is (context_in slots contexts slot c) x h)
+
+-- where a place shows nothing, and is set to what shows nothing, every place shows what it did
+pub shown-set : {A B : Type 0} (f : Option A → Option B) → f None ≡ None → (xs : List (Option A)) (i q : ℕ) (o : Option A) → f (joined (slice_get xs i)) ≡ None → f o ≡ None
+    → f (joined (slice_get (slice_set xs i o) q)) ≡ f (joined (slice_get xs q))
+shown-set {A} f nothing xs i q o old new = elim (cases_eq q i) [
+  | inl same ↦ ap (λ n. f (joined (slice_get (slice_set xs i o) n))) same ∙ by_get (slice_get (slice_set xs i o) i) refl ∙ sym (ap (λ n. f (joined (slice_get xs n))) same ∙ old)
+  | inr other ↦ ap (λ z. f (joined z)) (get-set_other xs i q o other)
+]
+  where
+    by_get : (z : Option (Option A)) → slice_get (slice_set xs i o) i ≡ z → f (joined (slice_get (slice_set xs i o) i)) ≡ None
+    by_get None h = ap (λ z. f (joined z)) h ∙ nothing
+    by_get (Some y) h = ap (λ z. f (joined z)) h ∙ (elim (get-set_cases xs i i o y h) [
+      | inl is ↦ ap f (sym is.1) ∙ new
+      | inr was ↦ ap (λ z. f (joined z)) (sym was) ∙ old
+    ])
+
+pub shown-stays : {A B : Type 0} (f : Option A → Option B) → f None ≡ None → (slots : List (Option ℕ)) (xs : List (Option A)) (slot c s d : ℕ) (o : Option A) → f (joined (slice_get xs (slot * 8 + c))) ≡ None → f o ≡ None
+    → f (context_in slots (slice_set xs (slot * 8 + c) o) s d) ≡ f (context_in slots xs s d)
+shown-stays f nothing slots xs slot c s d o old new = by_test (is_session slots s && nat_lt d 8)
+  where
+    by_test : (b : Bool) → f (cond b (joined (slice_get (slice_set xs (slot * 8 + c) o) (s * 8 + d))) None) ≡ f (cond b (joined (slice_get xs (s * 8 + d))) None)
+    by_test true = shown-set f nothing xs (slot * 8 + c) (s * 8 + d) o old new
+    by_test false = refl
+
 module _ {K V I : Type 0} (v : CoreView K V I) (slot c now : ℕ) (x : Context K V I) (h : context_at v slot c ≡ Some x) where
   -- the changed context
   pub context-same : (y : Option (Context K V I)) → context_at (with_context v slot c y now) slot c ≡ y
   context-same y =
-      let o = open_at (slots_of v) v.contexts slot c x h in
-      context-inside (slots_of v) (slice_set v.contexts (slot * 8 + c) y) slot c o.inside o.low ∙ ap joined (get-set_same v.contexts (slot * 8 + c) (Some x) y o.here)
+      let o = key_at (slots_of v) v.contexts slot c x h in
+      ap on_key (context-inside (slots_of v) (slice_set v.contexts (slot * 8 + c) (option_map OnKey y)) slot c o.inside o.low ∙ ap joined (get-set_same v.contexts (slot * 8 + c) (Some (OnKey x)) (option_map OnKey y) o.here)) ∙ key-of y
 
   -- what the changed context asks
   pub asked-same : (y : Option (Context K V I)) → asked (with_context v slot c y now) slot c ≡ option_map asked_by y
-  asked-same y =
-      let o = open_at (slots_of v) v.contexts slot c x h in
-      ap (option_map asked_by) (context-inside (slots_of v) (slice_set v.contexts (slot * 8 + c) y) slot c o.inside o.low ∙ ap joined (get-set_same v.contexts (slot * 8 + c) (Some x) y o.here))
+  asked-same y = ap (option_map asked_by) (context-same y)
 
-  -- and every other one
+  -- every other one
+  pub context-apart : (y : Option (Context K V I)) (s d : ℕ) → (s ≢ slot) ⊎ (d ≢ c) → context_at (with_context v slot c y now) s d ≡ context_at v s d
+  context-apart y s d other = ap on_key (context-other (slots_of v) v.contexts slot c s d (option_map OnKey y) (key_at (slots_of v) v.contexts slot c x h).low other)
+
+  -- and what it asks
   pub asked-other : (y : Option (Context K V I)) (s d : ℕ) → (s ≢ slot) ⊎ (d ≢ c) → asked (with_context v slot c y now) s d ≡ asked v s d
-  asked-other y s d other = ap (option_map asked_by) (context-other (slots_of v) v.contexts slot c s d y (open_at (slots_of v) v.contexts slot c x h).low other)
+  asked-other y s d other = ap (option_map asked_by) (context-apart y s d other)
 
 -- ---- the lowest free place
 pub record IsFoundAt {A : Type 0} (p : A → Bool) (xs : List A) (i : ℕ) : Type 0 where
@@ -198,17 +271,17 @@ get-take_back (suc n) zero (y ∷ ys) x l h = h
 get-take_back (suc n) (suc i) (y ∷ ys) x l h = get-take_back n i ys x (omega arith) h
 
 -- nothing stands in its contexts
-pub idle : {K V I : Type 0} (v : CoreView K V I) (slot c : ℕ) (x : Context K V I) → open_context v slot ≡ None → c < 8 → slice_get v.contexts (slot * 8 + c) ≡ Some (Some x) → ⊥
+pub idle : {K V I : Type 0} (v : CoreView K V I) (slot c : ℕ) (x : Open K V I) → open_context v slot ≡ None → c < 8 → slice_get v.contexts (slot * 8 + c) ≡ Some (Some x) → ⊥
 idle v slot c x h low here =
     let room : c < (slot * 8 + 8) - slot * 8 = omega arith in
     let there = get-take_back ((slot * 8 + 8) - slot * 8) c (drop (slot * 8) v.contexts) (Some x) room (get-drop (slot * 8) c v.contexts ∙ here) in
     let no : true ≡ false = position-none is_some (slice_range v.contexts (slot * 8) (slot * 8 + 8)) h c (Some x) there in
     absurd (cc)
 
-pub idle-asked : {K V I : Type 0} (v : CoreView K V I) (slot c : ℕ) → open_context v slot ≡ None → context_at v slot c ≡ None
-idle-asked v slot c h = by_cases (context_at v slot c) refl
+pub idle-held : {K V I : Type 0} (v : CoreView K V I) (slot c : ℕ) → open_context v slot ≡ None → held_at v slot c ≡ None
+idle-held v slot c h = by_cases (held_at v slot c) refl
   where
-    by_cases : (o : Option (Context _ _ _)) → context_at v slot c ≡ o → context_at v slot c ≡ None
+    by_cases : (o : Option (Open _ _ _)) → held_at v slot c ≡ o → held_at v slot c ≡ None
     by_cases None e = e
     by_cases (Some x) e = let o = open_at (slots_of v) v.contexts slot c x e in absurd (idle v slot c x h o.low o.here)
 

@@ -1,18 +1,22 @@
 -- An update that is issued and done in one call: what it keeps, and that it is an issue and an event of its partition.
-use Rattle.std.proofs.Common.{◌≡◌, ◌<◌, ℕ, Bool, Option, Some, None, IfSome, Ok, refl, ◌∙◌, ap}
+use Rattle.std.proofs.Common.{◌≡◌, ◌<◌, ℕ, Bool, Option, Some, None, IfSome, Result, Ok, refl, ◌∙◌, ap}
 use Rattle.std.specs.declared.cmp.Ordering.{Ordering}
 use Rattle.fkv_functions.specs.Meanings.{Meanings}
+use Rattle.fkv_functions.specs.declared.refusals.Refused.{Refused}
 use Rattle.fkv_device.specs.Standing.{Standing}
 use Rattle.fkv_operations.specs.declared.operations.KeyedOp.{KeyedOp}
 use Rattle.fkv_operations.specs.declared.operations.KeyedOp.TheVariants as on_key
 use Rattle.fkv_operations.specs.declared.operations.Answer.TheVariants.{Value}
 use Rattle.fkv_partition.specs.declared.contexts.Phase.TheVariants.{Fresh}
+use Rattle.fkv_partition.specs.declared.contexts.Progress.{Progress}
 use Rattle.fkv_partition.specs.declared.contexts.Progress.TheVariants.{Done}
 use Rattle.fkv_partition.specs.CoreAtOnce as key_update
 use Rattle.fkv_partition.specs.CoreBeginning.{Issues, IsEntered}
-use Rattle.fkv_partition.specs.CoreContexts.{claim_of, joined}
+use Rattle.fkv_partition.specs.CoreContexts.{claim_of, joined, relocating}
+use Rattle.fkv_partition.specs.CoreGoing as key_going
+use Rattle.fkv_partition.specs.Grown.{RelocationsStay}
 use Rattle.fkv_partition.specs.CoreSound.{IsSound}
-use Rattle.fkv_partition.specs.CoreViews.{CoreView, slots_of, context_at}
+use Rattle.fkv_partition.specs.CoreViews.{CoreView, slots_of, held_at}
 use Rattle.fkv_partition.proofs.AskedLemmas.{context-inside, free-here}
 use Rattle.fkv_partition.proofs.SoundLemmas.{sound-context}
 use Rattle.fkv_partition.specs.AtOnce.{IsAtHand, IsDoneAtOnce}
@@ -30,32 +34,36 @@ sound-issued keeps cmp join code v between slot c now op s few h =
     rw h.is
     (sound-context s slot c now (record { number = now; op = op; phase = Fresh })
     (ap (λ o. claim_of (joined o)) (free-here (slots_of v) v.contexts slot c s.places few h.low h.entered h.free)) refl
-    (record { stands = tt; own = h.own; merging = h.merging; inside = h.entered; low = h.low }))
+    (record { inside = h.entered; low = h.low }) (record { stands = tt; own = h.own; merging = h.merging }))
 
--- nothing of an operation stands in a free context
-pub free-context : {K V I : Type 0} (v : PartitionView K V I) (slot c : ℕ) → IsEntered v.core slot → c < 8 → IsFree v slot c → context_at v.core slot c ≡ None
-free-context v slot c inside low free = context-inside (slots_of v.core) v.core.contexts slot c inside low ∙ free.operation
+-- nothing is open in a free context
+pub free-held : {K V I : Type 0} (v : PartitionView K V I) (slot c : ℕ) → IsEntered v.core slot → c < 8 → IsFree v slot c → held_at v.core slot c ≡ None
+free-held v slot c inside low free = context-inside (slots_of v.core) v.core.contexts slot c inside low ∙ free
 
 pub free-relocation : {K V I : Type 0} (v : PartitionView K V I) (slot c : ℕ) → IsEntered v.core slot → c < 8 → IsFree v slot c → relocation_at v slot c ≡ None
-free-relocation v slot c inside low free = context-inside (slots_of v.core) v.relocations slot c inside low ∙ free.relocation
+free-relocation v slot c inside low free = ap relocating (free-held v slot c inside low free)
 
 module _ {K V I O R : Type 0} (stands : R → Standing) (cmp : K → K → Ordering) (join : V → V → V) (f : Meanings K V I O) (code : K → ℕ) (v : PartitionView K V I) (new : CoreView K V I) (slot c : ℕ) (key : K) (input : I) (issued now : ℕ) where
   -- what the core does at once, its partition does
-  pub done-at-once : IsEntered v.core slot → IsFirstFree v slot (Some c) → (shown : Option O)
+  pub done-at-once : IsEntered v.core slot → IsFirstFree v slot (Some c)
+      → ((p : CoreView K V I) → Issues code v.core p slot c (on_key.Rmw key input) issued → RelocationsStay v.core p)
+      → ((p : CoreView K V I) (result : Result (Progress K V I O R) Refused) → key_going.Goes stands cmp join f code p new slot c now result → RelocationsStay p new)
+      → (shown : Option O)
       → IfSome shown (λ s. key_update.IsDoneAtOnce stands cmp join f code v.core new slot c key input issued now s)
       → IfSome shown (λ s. IsDoneAtOnce stands cmp join f code v (with_core v new) slot key input issued now s)
-  done-at-once inside first None h = tt
-  done-at-once inside first (Some shown) h =
+  done-at-once inside first issues goes None h = tt
+  done-at-once inside first issues goes (Some shown) h =
       let none = free-relocation v slot c inside first.0 first.1 in
       let b = with_core v h.between in
-      let still : relocation_at b slot c ≡ None = relocations-same v h.between h.issue.frame.regions slot c ∙ none in
+      let stays = issues h.between h.issues in
+      let still : relocation_at b slot c ≡ None = relocations-same v h.between h.issue.frame.regions stays slot c ∙ none in
       record {
         context = c;
         between = b;
         issues = events.Issues.on_key (on_key.Rmw key input) refl (issues-told code v h.between slot c (on_key.Rmw key input) issued first h.issues);
-        issue = key-issue v h.between slot c issued none code (on_key.Rmw key input) h.issue;
-        goes = events.Goes.on_key still h.goes refl;
-        event = key-event b new slot c now still cmp f (Done (Value shown) now) h.event;
+        issue = key-issue v h.between slot c issued none stays code (on_key.Rmw key input) h.issue;
+        goes = events.Goes.on_key still h.goes (record { is = refl; relocations = goes h.between _ h.goes });
+        event = key-event b new slot c now still (goes h.between _ h.goes) cmp f (Done (Value shown) now) h.event;
       }
 
   -- and it keeps what every partition keeps

@@ -17,12 +17,13 @@ use Rattle.fkv_lookups.specs.Traced.{IsTraced, IsStood}
 use Rattle.fkv_texts.specs.Chains.{IsIn}
 use Rattle.fkv_operations.specs.declared.classes.Class.{Class}
 use Rattle.fkv_partition.specs.declared.contexts.Context.{Context}
+use Rattle.fkv_partition.specs.declared.contexts.Open.TheVariants.{OnKey}
 use Rattle.fkv_partition.specs.declared.contexts.Phase.TheVariants.{Fresh, Confirm}
 use Rattle.fkv_partition.specs.CoreContexts.{joined, at_phase, claim_by, claim_of, claim_at}
 use Rattle.fkv_partition.specs.CoreClaiming.{IsClaimOf}
 use Rattle.fkv_partition.specs.CoreViews.{CoreView, slots_of, context_at, with_context}
 use Rattle.fkv_partition.specs.CoreSound.{IsSound}
-use Rattle.fkv_partition.proofs.AskedLemmas.{open_at}
+use Rattle.fkv_partition.proofs.AskedLemmas.{key_at}
 use Rattle.fkv_partition.proofs.EventLemmas.{own-at}
 use Rattle.fkv_partition.proofs.ClaimLemmas.{place-or}
 use Rattle.fkv_partition.proofs.GrownLemmas.{Grows}
@@ -90,7 +91,7 @@ module _ {K V : Type 0} (old new : RecordsView K V) (q : Place) (is : IsTrue (is
 
 -- the place that an operation claims
 pub claims-place : {K V I : Type 0} (v : CoreView K V I) (slot c : ℕ) (x : Context K V I) (q : Place) → context_at v slot c ≡ Some x → x.phase ≡ Confirm q → claim_at v.contexts (slot * 8 + c) ≡ Some q
-claims-place v slot c x q h phase = ap (λ o. claim_of (joined o)) (open_at (slots_of v) v.contexts slot c x h).here ∙ ap claim_by phase
+claims-place v slot c x q h phase = ap (λ o. claim_of (joined o)) (key_at (slots_of v) v.contexts slot c x h).here ∙ ap claim_by phase
 
 module _ {K V I : Type 0} {keeps : Bool} (cmp : K → K → Ordering) (join : V → V → V) (code : K → ℕ) (v : CoreView K V I) (s : IsSound keeps cmp join code v) (slot c now : ℕ) (x : Context K V I) (h : context_at v slot c ≡ Some x) where
   pub is-tentative : (q : Place) → x.phase ≡ Confirm q → IsTrue (is_tentative (word_at v.records.words q))
@@ -111,15 +112,15 @@ module _ {K V I : Type 0} {keeps : Bool} (cmp : K → K → Ordering) (join : V 
       → IsSound keeps cmp join code (record (with_context v slot c (Some (at_phase x (Confirm q))) now) { records = r })
   sound-claims r class q quiet own claims words was bucket word is traced stood =
       let reworded : IsReworded v.records r = claims.is ∙ ap (λ (w : RecordsView K V). record v.records { words = w.words }) (sym claims.is) in
-      let o = open_at (slots_of v) v.contexts slot c x h in
+      let o = key_at (slots_of v) v.contexts slot c x h in
       let same : class ≡ class_in code r (key_of x.op) = own ∙ ap (λ (w : RecordsView K V). class_in code w (key_of x.op)) (sym reworded) in
       let claimed : IsClaimOf r class q = record { bucket = bucket; word = word } in
       sound-claimed s r slot c now x q traced stood (grown-words keeps cmp join code q v.records r reworded words (tentative-made (word_at r.words q) is)) words
       (ap (λ (w : RecordsView K V). w.partition_bits) reworded)
       (ap (λ (w : RecordsView K V). w.regions) reworded)
       (ap (λ (w : RecordsView K V). w.entries) reworded)
-      was is o.here quiet
-      (record { stands = subst (λ d. IsClaimOf r d q) same claimed; own = own-at cmp join code v s slot c x h; merging = s.merging (slot * 8 + c) x o.here; inside = o.inside; low = o.low })
+      was is o.here quiet (record { inside = o.inside; low = o.low })
+      (record { stands = subst (λ d. IsClaimOf r d q) same claimed; own = own-at cmp join code v s slot c x h; merging = s.merging (slot * 8 + c) x o.here })
 
   -- it is confirmed or taken back, and the operation is to look again
   pub sound-settles : (r : RecordsView K V) (q : Place)
@@ -132,14 +133,14 @@ module _ {K V I : Type 0} {keeps : Bool} (cmp : K → K → Ordering) (join : V 
       → IsStood cmp join r
       → IsSound keeps cmp join code (record (with_context v slot c (Some (at_phase x Fresh)) now) { records = r })
   sound-settles r q phase reworded words freed made traced stood =
-      let o = open_at (slots_of v) v.contexts slot c x h in
-      let fits : Fits s r slot c (at_phase x Fresh) = record { stands = tt; own = own-at cmp join code v s slot c x h; merging = s.merging (slot * 8 + c) x o.here; inside = o.inside; low = o.low } in
-      sound-settled s r slot c now x q (Some (at_phase x Fresh)) traced stood (grown-words keeps cmp join code q v.records r reworded words made) words
+      let o = key_at (slots_of v) v.contexts slot c x h in
+      let fits : Fits s r (at_phase x Fresh) = record { stands = tt; own = own-at cmp join code v s slot c x h; merging = s.merging (slot * 8 + c) x o.here } in
+      sound-settled s r slot c now x q (Some (OnKey (at_phase x Fresh))) traced stood (grown-words keeps cmp join code q v.records r reworded words made) words
       (ap (λ (w : RecordsView K V). w.partition_bits) reworded)
       (ap (λ (w : RecordsView K V). w.regions) reworded)
       (ap (λ (w : RecordsView K V). w.entries) reworded)
-      freed o.here phase refl
-      (λ z e. (let same : at_phase x Fresh ≡ z = cc in subst (Fits s r slot c) same fits))
+      freed o.here phase refl (record { inside = o.inside; low = o.low })
+      (λ z e. (let same : at_phase x Fresh ≡ z = cc in subst (Fits s r) same fits))
 
   -- it is taken back, and the operation is over
   pub sound-cancels : (r : RecordsView K V) (q : Place)
@@ -152,12 +153,12 @@ module _ {K V I : Type 0} {keeps : Bool} (cmp : K → K → Ordering) (join : V 
       → IsStood cmp join r
       → IsSound keeps cmp join code (record (with_context v slot c None now) { records = r })
   sound-cancels r q phase reworded words freed made traced stood =
-      let o = open_at (slots_of v) v.contexts slot c x h in
+      let o = key_at (slots_of v) v.contexts slot c x h in
       sound-settled s r slot c now x q None traced stood (grown-words keeps cmp join code q v.records r reworded words made) words
       (ap (λ (w : RecordsView K V). w.partition_bits) reworded)
       (ap (λ (w : RecordsView K V). w.regions) reworded)
       (ap (λ (w : RecordsView K V). w.entries) reworded)
-      freed o.here phase refl
+      freed o.here phase refl (record { inside = o.inside; low = o.low })
       (λ z e. absurd (cc))
 
 -- records after a confirmation

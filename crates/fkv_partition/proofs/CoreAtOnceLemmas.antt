@@ -15,10 +15,11 @@ use Rattle.fkv_lookups.specs.declared.decisions.Decision.TheVariants.{Replace}
 use Rattle.fkv_lookups.specs.Decisions.{IsHeld, replaced, decision}
 use Rattle.fkv_lookups.specs.Meeting.{IsMetAt}
 use Rattle.fkv_partition.specs.declared.contexts.Context.{Context}
+use Rattle.fkv_partition.specs.declared.contexts.Open.TheVariants.{OnKey}
 use Rattle.fkv_partition.specs.declared.contexts.Phase.TheVariants.{Fresh}
 use Rattle.fkv_partition.specs.declared.contexts.Progress.TheVariants.{Done}
-use Rattle.fkv_partition.specs.CoreContexts.{joined, is_session}
-use Rattle.fkv_partition.specs.CoreViews.{CoreView, slots_of, seen_at, met_at, context_at, partition_of, live_of, with_context, with_replaced}
+use Rattle.fkv_partition.specs.CoreContexts.{joined, is_session, on_key}
+use Rattle.fkv_partition.specs.CoreViews.{CoreView, slots_of, seen_at, met_at, context_at, partition_of, live_of, with_context, with_replaced, held_at}
 use Rattle.fkv_partition.specs.CoreBeginning.{Issues}
 use Rattle.fkv_partition.specs.CoreGoing.{replaces}
 use Rattle.fkv_partition.specs.CoreEffect.{IsEvent}
@@ -40,7 +41,7 @@ module _ {K V I O : Type 0} (cmp : K → K → Ordering) (join : V → V → V) 
   pub at_once-last : last_of cmp v.records.text key ≡ Some last
   at_once-last = m.last ∙ ap Some (sym same)
 
-  module _ (input : I) (c issued now : ℕ) (inside : is_session (slots_of v) slot ≡ true) (own : partition_of v.count (code key) ≡ v.number) (closed : context_at v slot c ≡ None) (free : slice_get v.contexts (slot * 8 + c) ≡ Some None) (low : c < 8)
+  module _ (input : I) (c issued now : ℕ) (inside : is_session (slots_of v) slot ≡ true) (own : partition_of v.count (code key) ≡ v.number) (closed : held_at v slot c ≡ None) (free : slice_get v.contexts (slot * 8 + c) ≡ Some None) (low : c < 8)
       (met : met_at cmp join code v slot key ≡ Mutable held) (holds : IsHeld (met_at cmp join code v slot key) (live_of cmp v key))
       (value : V) (next : f.next key held input ≡ Some value)
       (lives : Same (live cmp (with_value v.records last.address (Some value)).text) (with_at cmp (live_of cmp v) key (Some value))) where
@@ -51,7 +52,7 @@ module _ {K V I O : Type 0} (cmp : K → K → Ordering) (join : V → V → V) 
     between = with_context v slot c (Some operation) issued
 
     here : context_at between slot c ≡ Some operation
-    here = context-inside (slots_of v) between.contexts slot c inside low ∙ ap joined (get-set_same v.contexts (slot * 8 + c) None (Some operation) free)
+    here = ap on_key (context-inside (slots_of v) between.contexts slot c inside low ∙ ap joined (get-set_same v.contexts (slot * 8 + c) None (Some (OnKey operation)) free))
 
     decided : decision f (Rmw key input) (met_at cmp join code between slot key) ≡ Replace (Some value) (Value (f.shown key input value))
     decided = ap (decision f (Rmw key input)) met ∙ ap (replaced f key input) next
@@ -61,7 +62,7 @@ module _ {K V I O : Type 0} (cmp : K → K → Ordering) (join : V → V → V) 
 
     is-after : with_replaced between slot c last.address (Some value) now ≡ after
     is-after = ap (λ cs. record v { contexts = cs; records = with_value v.records last.address (Some value); moment = now })
-        (set-back v.contexts (slot * 8 + c) (Some operation) None free)
+        (set-back v.contexts (slot * 8 + c) (Some (OnKey operation)) None free)
 
     pub done-at_once : {R : Type 0} (stands : R → Standing) → IsDoneAtOnce stands cmp join f code v after slot c key input issued now (f.shown key input value)
     done-at_once {R} stands = record {

@@ -41,7 +41,7 @@ use Rattle.fkv_partition.specs.CoreContexts.{is_session}
 use Rattle.fkv_partition.specs.CoreGoing.{Decides}
 use Rattle.fkv_partition.specs.CoreSound.{IsSound}
 use Rattle.fkv_partition.specs.CoreViews.{CoreView, slots_of, seen_at, entry_for, met_at, first_from, reached_from}
-use Rattle.fkv_partition.proofs.AskedLemmas.{open_at}
+use Rattle.fkv_partition.proofs.AskedLemmas.{key_at}
 
 module _ {K V I O : Type 0} (cmp : K → K → Ordering) (join : V → V → V) (f : Meanings K V I O) (code : K → ℕ) (v : CoreView K V I) (slot : ℕ) where
   -- what is changed in place was met as a mutable value
@@ -241,7 +241,7 @@ module _ {K V I O : Type 0} {keeps : Bool} (cmp : K → K → Ordering) (join : 
     (unfrozen : (k : K) (w : V) → is_entered v.records.regions.epochs slot ≡ true → (m : IsMetAt cmp join code v.records (seen_at v slot) k w region.Mutable) → v.records.regions.offsets.safe_read_only ≤ m.entry.address)
     (d : Decides cmp join f code v slot c x (Replace value told)) (last : last_of cmp v.records.text (key_of x.op) ≡ Some e) where
   entered-here : is_entered v.records.regions.epochs slot ≡ true
-  entered-here = (open_at (slots_of v) v.contexts slot c x d.here).inside
+  entered-here = (key_at (slots_of v) v.contexts slot c x d.here).inside
 
   met-here : (w : V) × IsMetAt cmp join code v.records (seen_at v slot) (key_of x.op) w region.Mutable
   met-here = replaced-at cmp join f code v slot x.op value told (λ w met. mutable (key_of x.op) w entered-here met) d.decided

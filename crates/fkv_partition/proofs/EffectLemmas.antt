@@ -1,5 +1,5 @@
 -- What events of the core, and of relocations, are to their partition.
-use Rattle.std.proofs.Common.{◌≡◌, ◌≢◌, Bool, true, false, ℕ, ◌+◌, ◌*◌, ◌<◌, ◌⊎◌, inl, inr, IsTrue, Option, Some, None, Result, Ok, Err, IfOk, IfErr, OnOk, option_map, slice_get, slice_set, nat_lt, subst, refl, sym, ◌∙◌, ap, arith}
+use Rattle.std.proofs.Common.{◌≡◌, ◌≢◌, Bool, true, false, cond, ◌&&◌, ℕ, ◌+◌, ◌*◌, ◌<◌, ◌⊎◌, inl, inr, IsTrue, Option, Some, None, Result, Ok, Err, IfOk, IfErr, OnOk, option_map, slice_get, slice_set, nat_lt, subst, refl, sym, ◌∙◌, ap, arith}
 use Rattle.std.proofs.lemmas.Bool.{cases_eq}
 use Rattle.std.proofs.lemmas.Bool.Decides.{nat_tests}
 use Rattle.std.specs.declared.cmp.Ordering.{Ordering}
@@ -16,16 +16,18 @@ use Rattle.fkv_operations.specs.declared.operations.Op.TheVariants.{Relocate}
 use Rattle.fkv_partition.specs.declared.contexts.Context.{Context}
 use Rattle.fkv_partition.specs.declared.contexts.Progress.{Progress}
 use Rattle.fkv_partition.specs.declared.contexts.Progress.TheVariants.{Done, Next, NeedsBuild, NeedsLoad, Waits}
-use Rattle.fkv_partition.specs.CoreContexts.{joined, is_session, context_in}
+use Rattle.fkv_partition.specs.CoreContexts.{joined, is_session, context_in, on_key, relocating}
 use Rattle.fkv_partition.specs.CoreEffect as key_effect
-use Rattle.fkv_partition.specs.Grown.{AllStay}
+use Rattle.fkv_partition.specs.Grown.{RelocationsStay, AllStay}
 use Rattle.fkv_partition.specs.Pending.{Pending, pending, pending_of, OthersPend}
-use Rattle.fkv_partition.specs.CoreViews.{CoreView, slots_of, context_at, live_of, partition_of}
-use Rattle.fkv_partition.proofs.AskedLemmas.{open_at, context-inside, free-here}
+use Rattle.fkv_partition.specs.CoreViews.{CoreView, slots_of, held_at, context_at, live_of}
+use Rattle.fkv_partition.proofs.AskedLemmas.{key_at, moving_at, relocation-is, relocation-of, context-inside, free-here}
+use Rattle.fkv_partition.specs.declared.contexts.Open.{Open}
+use Rattle.fkv_partition.specs.declared.contexts.Open.TheVariants.{Relocating}
 use Rattle.fkv_partition.specs.declared.relocations.Relocation.{Relocation}
 use Rattle.fkv_partition.specs.Effect.{Asked, asked_of, asked, HasEffect, LeavesOthers, IsQuiet, IsIssue, IsEvent, IsGiveUp, to_find, Finds, HasLoaded, IsLoaded, IsTruncation}
 use Rattle.fkv_partition.specs.Relocating.{IsRelocating}
-use Rattle.fkv_partition.specs.Sound.{IsCompacting}
+use Rattle.fkv_partition.specs.CoreSound.{IsSound}
 use Rattle.fkv_partition.specs.Views.{PartitionView, with_core, relocation_at, with_relocation}
 use Rattle.fkv_partition.proofs.MoveLemmas.{open-here}
 
@@ -81,44 +83,49 @@ module _ {K V I : Type 0} (v : PartitionView K V I) (slot c : ℕ) where
   asked-low x h = by_parts (context_at v.core slot c) (relocation_at v slot c) refl refl
     where
       by_parts : (a : Option (Context K V I)) (r : Option (Relocation K V)) → context_at v.core slot c ≡ a → relocation_at v slot c ≡ r → c < 8
-      by_parts (Some y) r p q = (open_at (slots_of v.core) v.core.contexts slot c y p).low
-      by_parts None (Some y) p q = (open_at (slots_of v.core) v.relocations slot c y q).low
+      by_parts (Some y) r p q = (key_at (slots_of v.core) v.core.contexts slot c y p).low
+      by_parts None (Some y) p q = (moving_at (slots_of v.core) v.core.contexts slot c y q).low
       by_parts None None p q = let none = asked-none (ap (option_map key_effect.asked_by) p) q in let bad : None ≡ Some x = sym none ∙ h in absurd (cc)
 
   -- no operation on a key is open in the context of a relocation
-  module _ {keeps : Bool} {cmp : K → K → Ordering} {join : V → V → V} {code : K → ℕ} (s : IsCompacting keeps cmp join code v) (x : Relocation K V) (h : relocation_at v slot c ≡ Some x) where
+  module _ (x : Relocation K V) (h : relocation_at v slot c ≡ Some x) where
     pub alone-asked : key_effect.asked v.core slot c ≡ None
-    alone-asked =
-        let o = open-here v slot c x h in
-        ap (option_map key_effect.asked_by) (context-inside (slots_of v.core) v.core.contexts slot c o.inside o.low ∙ s.alone (slot * 8 + c) x o.here)
+    alone-asked = ap (λ (o : Option (Open K V I)). option_map key_effect.asked_by (on_key o)) (relocation-is (held_at v.core slot c) x h)
 
     pub relocation-asked : asked v slot c ≡ Some (record { number = x.number; op = Relocate })
     relocation-asked = asked-relocation x alone-asked h
 
 -- ---- the core has changed: relocations stay
 module _ {K V I : Type 0} (v : PartitionView K V I) (new : CoreView K V I) where
-  pub relocations-same : new.records.regions ≡ v.core.records.regions → (s d : ℕ) → relocation_at (with_core v new) s d ≡ relocation_at v s d
-  relocations-same same s d = ap (λ (r : RegionsView). context_in r.epochs.slots v.relocations s d) same
-
-  housed-none : {keeps : Bool} {cmp : K → K → Ordering} {join : V → V → V} {code : K → ℕ} → IsCompacting keeps cmp join code v → (s d : ℕ) → d < 8 → is_session (slots_of v.core) s ≡ false → joined (slice_get v.relocations (s * 8 + d)) ≡ None
-  housed-none i s d low out = by_get (slice_get v.relocations (s * 8 + d)) refl
+  pub relocations-same : new.records.regions ≡ v.core.records.regions → RelocationsStay v.core new → (s d : ℕ) → relocation_at (with_core v new) s d ≡ relocation_at v s d
+  relocations-same same stay s d =
+      ap (λ (r : RegionsView). relocating (context_in r.epochs.slots new.contexts s d)) same
+      ∙ by_test (is_session (slots_of v.core) s && nat_lt d 8)
     where
-      by_get : (o : Option (Option (Relocation K V))) → slice_get v.relocations (s * 8 + d) ≡ o → joined (slice_get v.relocations (s * 8 + d)) ≡ None
+      by_test : (b : Bool) → relocating (cond b (joined (slice_get new.contexts (s * 8 + d))) None) ≡ relocating (cond b (joined (slice_get v.core.contexts (s * 8 + d))) None)
+      by_test true = stay (s * 8 + d)
+      by_test false = refl
+
+  housed-none : {keeps : Bool} {cmp : K → K → Ordering} {join : V → V → V} {code : K → ℕ} → IsSound keeps cmp join code v.core → (s d : ℕ) → d < 8 → is_session (slots_of v.core) s ≡ false → joined (slice_get v.core.contexts (s * 8 + d)) ≡ None
+  housed-none i s d low out = by_get (slice_get v.core.contexts (s * 8 + d)) refl
+    where
+      by_get : (o : Option (Option (Open K V I))) → slice_get v.core.contexts (s * 8 + d) ≡ o → joined (slice_get v.core.contexts (s * 8 + d)) ≡ None
       by_get None e = ap joined e
       by_get (Some None) e = ap joined e
       by_get (Some (Some x)) e = let yes = i.housed s d x low e in let bad : true ≡ false = sym yes ∙ out in absurd (cc)
 
   -- who is entered stays, unless he has no relocation
-  pub relocations-stay : {keeps : Bool} {cmp : K → K → Ordering} {join : V → V → V} {code : K → ℕ} → IsCompacting keeps cmp join code v
+  pub relocations-stay : {keeps : Bool} {cmp : K → K → Ordering} {join : V → V → V} {code : K → ℕ} → IsSound keeps cmp join code v.core → RelocationsStay v.core new
       → ((s : ℕ) → is_session (slots_of v.core) s ≡ true → (is_session (slots_of new) s ≡ true) ⊎ ((d : ℕ) → relocation_at v s d ≡ None))
       → (s d : ℕ) → relocation_at (with_core v new) s d ≡ relocation_at v s d
-  relocations-stay i stay s d = by_cases (is_session (slots_of v.core) s) (is_session (slots_of new) s) (nat_lt d 8) refl refl refl
+  relocations-stay i same stay s d = by_cases (is_session (slots_of v.core) s) (is_session (slots_of new) s) (nat_lt d 8) refl refl refl
     where
       by_cases : (a b l : Bool) → is_session (slots_of v.core) s ≡ a → is_session (slots_of new) s ≡ b → nat_lt d 8 ≡ l → relocation_at (with_core v new) s d ≡ relocation_at v s d
-      by_cases true true l p q t = rw (p, q) refl
+      by_cases true true true p q t = rw (p, q, t) (same (s * 8 + d))
+      by_cases true true false p q t = rw (p, q, t) refl
       by_cases false false l p q t = rw (p, q) refl
       by_cases false true false p q t = rw (p, q, t) refl
-      by_cases false true true p q t = rw (p, q, t) (housed-none i s d (grind (arith, nat_tests)) p)
+      by_cases false true true p q t = rw (p, q, t) (same (s * 8 + d) ∙ ap relocating (housed-none i s d (grind (arith, nat_tests)) p))
       by_cases true false l p q t = elim (stay s p) [
         | inl stays ↦ (let bad : true ≡ false = sym stays ∙ q in absurd (cc))
         | inr none ↦ (let gone : relocation_at (with_core v new) s d ≡ None = rw q refl in gone ∙ sym (none d))
@@ -152,9 +159,9 @@ module _ {K V I : Type 0} (v : PartitionView K V I) (new : CoreView K V I) where
     moment = q.moment;
   }
 
-  pub truncated-event : {keeps : Bool} {cmp : K → K → Ordering} (page now : ℕ) → key_effect.IsTruncation keeps cmp v.core new page now → IsTruncation keeps cmp v (with_core v new) page now
-  truncated-event page now t = record {
-    same = λ s d. ap (λ o. asked_of o (relocation_at (with_core v new) s d)) (t.same s d) ∙ ap (asked_of (key_effect.asked v.core s d)) (relocations-same t.regions s d);
+  pub truncated-event : {keeps : Bool} {cmp : K → K → Ordering} (page now : ℕ) → RelocationsStay v.core new → key_effect.IsTruncation keeps cmp v.core new page now → IsTruncation keeps cmp v (with_core v new) page now
+  truncated-event page now stay t = record {
+    same = λ s d. ap (λ o. asked_of o (relocation_at (with_core v new) s d)) (t.same s d) ∙ ap (asked_of (key_effect.asked v.core s d)) (relocations-same t.regions stay s d);
     pend = t.pend;
     live = t.live;
     begin = t.begin;
@@ -165,10 +172,10 @@ module _ {K V I : Type 0} (v : PartitionView K V I) (new : CoreView K V I) where
     moment = t.moment;
   }
 
-  module _ (slot c now : ℕ) (none : relocation_at v slot c ≡ None) where
+  module _ (slot c now : ℕ) (none : relocation_at v slot c ≡ None) (stay : RelocationsStay v.core new) where
     pub key-frame : key_effect.LeavesOthers v.core new slot c now → LeavesOthers v (with_core v new) slot c now
     key-frame f = record {
-      others = λ s d other. ap (λ o. asked_of o (relocation_at (with_core v new) s d)) (f.others s d other) ∙ ap (asked_of (key_effect.asked v.core s d)) (relocations-same f.regions s d);
+      others = λ s d other. ap (λ o. asked_of o (relocation_at (with_core v new) s d)) (f.others s d other) ∙ ap (asked_of (key_effect.asked v.core s d)) (relocations-same f.regions stay s d);
       number = f.number;
       count = f.count;
       begin = f.begin;
@@ -179,7 +186,7 @@ module _ {K V I : Type 0} (v : PartitionView K V I) (new : CoreView K V I) where
 
     -- the context holds no relocation
     gone : key_effect.LeavesOthers v.core new slot c now → relocation_at (with_core v new) slot c ≡ None
-    gone f = relocations-same f.regions slot c ∙ none
+    gone f = relocations-same f.regions stay slot c ∙ none
 
     pub key-issue : (code : K → ℕ) (op : KeyedOp K V I) → key_effect.IsIssue code v.core new slot c op now → IsIssue code v (with_core v new) slot c (op_of op) now
     key-issue code op i = record {
@@ -258,7 +265,7 @@ Proceeds {K} {V} x is now (Waits why) = (y : Relocation K V) × (is ≡ Some y) 
 Proceeds {K} {V} x is now (NeedsLoad r a) = (y : Relocation K V) × (is ≡ Some y) × (y.number ≡ x.number)
 Proceeds x is now (NeedsBuild ask) = ⊥
 
-module _ {K V I : Type 0} {keeps : Bool} {cmp : K → K → Ordering} {join : V → V → V} {code : K → ℕ} (v new : PartitionView K V I) (s : IsCompacting keeps cmp join code v) (slot c now : ℕ) (r : IsRelocating keeps cmp v new slot c now) where
+module _ {K V I : Type 0} {keeps : Bool} {cmp : K → K → Ordering} (v new : PartitionView K V I) (slot c now : ℕ) (r : IsRelocating keeps cmp v new slot c now) where
   pub relocating-frame : LeavesOthers v new slot c now
   relocating-frame = record {
     others = λ a d other. ap (λ o. asked_of o (relocation_at new a d)) (r.same a d) ∙ ap (asked_of (key_effect.asked v.core a d)) (r.others a d other);
@@ -272,7 +279,7 @@ module _ {K V I : Type 0} {keeps : Bool} {cmp : K → K → Ordering} {join : V 
 
   module _ (x : Relocation K V) (h : relocation_at v slot c ≡ Some x) where
     closed-then : key_effect.asked new.core slot c ≡ None
-    closed-then = r.same slot c ∙ alone-asked v slot c s x h
+    closed-then = r.same slot c ∙ alone-asked v slot c x h
 
     again-asked : (y : Relocation K V) → relocation_at new slot c ≡ Some y → y.number ≡ x.number → asked new slot c ≡ Some (record { number = x.number; op = Relocate })
     again-asked y is n = asked-relocation new slot c y closed-then is ∙ ap (some_relocation {K = K} {V = V} {I = I}) n
@@ -289,7 +296,7 @@ module _ {K V I : Type 0} {keeps : Bool} {cmp : K → K → Ordering} {join : V 
       pub relocating-event : (progress : Progress K V I O R) → Proceeds x (relocation_at new slot c) now progress → IsEvent cmp f v new slot c now progress
       relocating-event progress p = record {
         question = record { number = x.number; op = Relocate };
-        was = relocation-asked v slot c s x h;
+        was = relocation-asked v slot c x h;
         effect = proceeds-effect progress p;
         cleared = λ o e. absurd (cc);
         frame = relocating-frame;
@@ -302,7 +309,7 @@ module _ {K V I : Type 0} {keeps : Bool} {cmp : K → K → Ordering} {join : V 
     relocating-finds (NeedsBuild ask) = not-pending new slot c cmp closed-then
     relocating-finds (NeedsLoad q a) = record {
       question = record { number = x.number; op = Relocate };
-      was = relocation-asked v slot c s x h;
+      was = relocation-asked v slot c x h;
       asks = not-pending new slot c cmp closed-then;
     }
 
@@ -311,40 +318,40 @@ module _ {K V I : Type 0} {keeps : Bool} {cmp : K → K → Ordering} {join : V 
 
 -- ---- the context of a relocation
 module _ {K V I : Type 0} (v : PartitionView K V I) (slot c now : ℕ) (x : Relocation K V) (h : relocation_at v slot c ≡ Some x) where
-  pub set-here : (y : Option (Relocation K V)) → context_in (slots_of v.core) (slice_set v.relocations (slot * 8 + c) y) slot c ≡ y
+  pub set-here : (y : Option (Relocation K V)) → relocating (context_in (slots_of v.core) (slice_set v.core.contexts (slot * 8 + c) (option_map Relocating y)) slot c) ≡ y
   set-here y =
       let o = open-here v slot c x h in
-      context-inside (slots_of v.core) (slice_set v.relocations (slot * 8 + c) y) slot c o.inside o.low ∙ ap joined (get-set_same v.relocations (slot * 8 + c) (Some x) y o.here)
+      ap relocating (context-inside (slots_of v.core) (slice_set v.core.contexts (slot * 8 + c) (option_map Relocating y)) slot c o.inside o.low
+      ∙ ap joined (get-set_same v.core.contexts (slot * 8 + c) (Some (Relocating x)) (option_map Relocating y) o.here)) ∙ relocation-of I y
 
   -- it is given up
-  pub dropped-event : {keeps : Bool} {cmp : K → K → Ordering} {join : V → V → V} {code : K → ℕ} → IsCompacting keeps cmp join code v → IsRelocating keeps cmp v (with_relocation v slot c None now) slot c now
-      → IsGiveUp v (with_relocation v slot c None now) slot c now
-  dropped-event s r = record {
+  pub dropped-event : {keeps : Bool} {cmp : K → K → Ordering} → IsRelocating keeps cmp v (with_relocation v slot c None now) slot c now → IsGiveUp v (with_relocation v slot c None now) slot c now
+  dropped-event r = record {
     question = record { number = x.number; op = Relocate };
-    was = relocation-asked v slot c s x h;
-    closed = asked-none (with_relocation v slot c None now) slot c (alone-asked v slot c s x h) (set-here None);
+    was = relocation-asked v slot c x h;
+    closed = asked-none (with_relocation v slot c None now) slot c (r.same slot c ∙ alone-asked v slot c x h) (set-here None);
     text = refl;
     cleared = refl;
-    frame = relocating-frame v (with_relocation v slot c None now) s slot c now r;
+    frame = relocating-frame v (with_relocation v slot c None now) slot c now r;
   }
 
 -- a relocation is issued in a context that is free
-pub issued-event : {K V I : Type 0} {keeps : Bool} {cmp : K → K → Ordering} {join : V → V → V} {code : K → ℕ} (v : PartitionView K V I) (slot c now : ℕ) (y : Relocation K V) → IsCompacting keeps cmp join code v
+pub issued-event : {K V I : Type 0} {keeps : Bool} {cmp : K → K → Ordering} {join : V → V → V} {code : K → ℕ} (v : PartitionView K V I) (slot c now : ℕ) (y : Relocation K V) → IsSound keeps cmp join code v.core
     → slot < 16 → c < 8 → is_session (slots_of v.core) slot ≡ true
-    → joined (slice_get v.core.contexts (slot * 8 + c)) ≡ None → joined (slice_get v.relocations (slot * 8 + c)) ≡ None → y.number ≡ now
+    → joined (slice_get v.core.contexts (slot * 8 + c)) ≡ None → y.number ≡ now
     → IsRelocating keeps cmp v (with_relocation v slot c (Some y) now) slot c now
     → IsIssue code v (with_relocation v slot c (Some y) now) slot c Relocate now
-issued-event {K} {V} {I} v slot c now y s few low inside operation relocation number r =
-    let none : relocation_at v slot c ≡ None = context-inside (slots_of v.core) v.relocations slot c inside low ∙ relocation in
-    let closed : key_effect.asked v.core slot c ≡ None = ap (option_map key_effect.asked_by) (context-inside (slots_of v.core) v.core.contexts slot c inside low ∙ operation) in
-    let here = free-here (slots_of v.core) v.relocations slot c s.places few low inside none in
+issued-event {K} {V} {I} v slot c now y s few low inside free number r =
+    let held : held_at v.core slot c ≡ None = context-inside (slots_of v.core) v.core.contexts slot c inside low ∙ free in
+    let closed : key_effect.asked v.core slot c ≡ None = ap (λ (o : Option (Open K V I)). option_map key_effect.asked_by (on_key o)) held in
+    let here = free-here (slots_of v.core) v.core.contexts slot c s.places few low inside held in
     let then : relocation_at (with_relocation v slot c (Some y) now) slot c ≡ Some y =
-    context-inside (slots_of v.core) (slice_set v.relocations (slot * 8 + c) (Some y)) slot c inside low ∙ ap joined (get-set_same v.relocations (slot * 8 + c) None (Some y) here) in
+    ap relocating (context-inside (slots_of v.core) (slice_set v.core.contexts (slot * 8 + c) (Some (Relocating y))) slot c inside low ∙ ap joined (get-set_same v.core.contexts (slot * 8 + c) None (Some (Relocating y)) here)) in
     record {
-      closed = asked-none v slot c closed none;
-      opened = asked-relocation (with_relocation v slot c (Some y) now) slot c y closed then ∙ ap (some_relocation {K = K} {V = V} {I = I}) number;
+      closed = asked-none v slot c closed (ap relocating held);
+      opened = asked-relocation (with_relocation v slot c (Some y) now) slot c y (r.same slot c ∙ closed) then ∙ ap (some_relocation {K = K} {V = V} {I = I}) number;
       own = λ o e. absurd (cc);
       text = refl;
       cleared = refl;
-      frame = relocating-frame v (with_relocation v slot c (Some y) now) s slot c now r;
+      frame = relocating-frame v (with_relocation v slot c (Some y) now) slot c now r;
     }

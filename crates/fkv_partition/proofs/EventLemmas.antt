@@ -34,13 +34,15 @@ use Rattle.fkv_operations.specs.Still.{IsStill}
 use Rattle.fkv_lookups.specs.declared.payloads.Payload.{Payload}
 use Rattle.fkv_lookups.specs.Payloads.{standing}
 use Rattle.fkv_partition.specs.declared.contexts.Context.{Context}
+use Rattle.fkv_partition.specs.declared.contexts.Open.{Open}
+use Rattle.fkv_partition.specs.declared.contexts.Open.TheVariants.{OnKey}
 use Rattle.fkv_partition.specs.declared.contexts.Phase.{Phase}
 use Rattle.fkv_partition.specs.declared.contexts.Phase.TheVariants.{Fresh, Confirm, Prepared, Load}
 use Rattle.fkv_partition.specs.declared.contexts.Loading.{Loading}
 use Rattle.fkv_partition.specs.declared.contexts.Progress.TheVariants.{Done, Next, NeedsBuild, NeedsLoad, Waits}
 use Rattle.fkv_partition.specs.declared.contexts.Wait.{Wait}
-use Rattle.fkv_partition.specs.CoreContexts.{is_session, question_in, question_by, joined, context_in, at_phase, claim_by, claim_of, claim_at, loading_by}
-use Rattle.fkv_partition.specs.CoreViews.{CoreView, slots_of, in_regions, with_replaced, partition_of, met_at, context_at, with_context, with_appended, with_payload, live_of, free_slot, open_context}
+use Rattle.fkv_partition.specs.CoreContexts.{is_session, on_key, question_in, question_by, joined, context_in, at_phase, claim_by, claim_of, claim_at, loading_by}
+use Rattle.fkv_partition.specs.CoreViews.{CoreView, slots_of, held_at, in_regions, with_replaced, partition_of, met_at, context_at, with_context, with_appended, with_payload, live_of, free_slot, open_context}
 use Rattle.fkv_partition.specs.CoreEffect.{asked, asked_by, LeavesOthers, IsQuiet, IsIssue, IsEvent, IsGiveUp}
 use Rattle.fkv_partition.specs.CoreClaiming.{IsClaimed}
 use Rattle.fkv_partition.specs.CoreLooking.{Shifts, Evicts}
@@ -53,7 +55,7 @@ use Rattle.fkv_partition.specs.CoreSound.{IsKept, IsLoading, StandsFor, IsSound}
 use Rattle.fkv_functions.proofs.ListLemmas.{get-set_other, get-set_same}
 use Rattle.fkv_lookups.specs.Traced.{IsTraced}
 use Rattle.fkv_partition.proofs.GrownLemmas.{newest-nowhere}
-use Rattle.fkv_partition.proofs.AskedLemmas.{keyed-op, after-op, answer-op, open_at, context-inside, context-other, asked-same, asked-other, free-slot, idle, idle-asked, context-left, context-elsewhere, context-renewed}
+use Rattle.fkv_partition.proofs.AskedLemmas.{keyed-op, after-op, answer-op, key_at, context-inside, context-other, asked-same, asked-other, free-slot, idle, idle-held, context-left, context-elsewhere, context-renewed}
 
 -- a context that asks nothing to be built and claims nothing is fresh
 pub fresh-by : {K V I : Type 0} (n : ℕ) (op : KeyedOp K V I) (phase : Phase V) (keeps : Bool) (cmp : K → K → Ordering) (join : V → V → V) (code : K → ℕ) (r : RecordsView K V) → StandsFor keeps cmp join code r op phase → question_by n op phase ≡ None → claim_by phase ≡ None → loading_by phase ≡ None → phase ≡ Fresh
@@ -108,9 +110,9 @@ question-of {K} {V} {I} n (Rmw k i) (Prepared b s) e ask h =
 pub question-quiet : {K V I : Type 0} (x : Context K V I) (e : IndexEntry) (ask : Ask K V I) → question_in x ≡ Some (e, ask) → claim_by x.phase ≡ None
 question-quiet x e ask h = ap claim_by (question-of x.number x.op x.phase e ask h).phase_is
 
-pub context-is : {K V I : Type 0} (entered xs : List (Option ℕ)) (contexts ys : List (Option (Context K V I))) (slot c : ℕ) (x : Context K V I) → xs ≡ entered → ys ≡ contexts → Some x ≡ context_in xs ys slot c
-    → context_in entered contexts slot c ≡ Some x
-context-is entered xs contexts ys slot c x e h k = ap (λ a. context_in a contexts slot c) (sym e) ∙ ap (λ b. context_in xs b slot c) (sym h) ∙ sym k
+pub context-is : {K V I : Type 0} (entered xs : List (Option ℕ)) (contexts ys : List (Option (Open K V I))) (slot c : ℕ) (x : Context K V I) → xs ≡ entered → ys ≡ contexts → Some x ≡ on_key (context_in xs ys slot c)
+    → on_key (context_in entered contexts slot c) ≡ Some x
+context-is entered xs contexts ys slot c x e h k = ap (λ a. on_key (context_in a contexts slot c)) (sym e) ∙ ap (λ b. on_key (context_in xs b slot c)) (sym h) ∙ sym k
 
 pub same_or : (d c : ℕ) → (d ≡ c) ⊎ (d ≢ c)
 same_or zero zero = inl refl
@@ -122,15 +124,15 @@ same_or (suc d) (suc c) = elim (same_or d c) [ inl e ↦ inl (ap suc e) | inr n 
 pub quiet-regions : {K V I : Type 0} (keeps : Bool) (v : CoreView K V I) (regions : RegionsView) (now : ℕ)
     → ((t d : ℕ) → context_in regions.epochs.slots v.contexts t d ≡ context_in (slots_of v) v.contexts t d)
     → IsQuiet keeps v (in_regions v regions now) now
-quiet-regions keeps v regions now h = record { same = λ t d. ap (option_map asked_by) (h t d); text = λ keeps. refl; number = refl; count = refl; begin = refl; cleared = refl; moment = refl }
+quiet-regions keeps v regions now h = record { same = λ t d. ap (λ o. option_map asked_by (on_key o)) (h t d); text = λ keeps. refl; number = refl; count = refl; begin = refl; cleared = refl; moment = refl }
 
 module _ {K V I : Type 0} {keeps : Bool} (cmp : K → K → Ordering) (join : V → V → V) (code : K → ℕ) (v : CoreView K V I) (s : IsSound keeps cmp join code v) where
   -- a context of an entered session stands for what it says
   pub stands-at : (slot c : ℕ) (x : Context K V I) → context_at v slot c ≡ Some x → StandsFor keeps cmp join code v.records x.op x.phase
-  stands-at slot c x h = s.stands (slot * 8 + c) x (open_at (slots_of v) v.contexts slot c x h).here
+  stands-at slot c x h = s.stands (slot * 8 + c) x (key_at (slots_of v) v.contexts slot c x h).here
 
   pub own-at : (slot c : ℕ) (x : Context K V I) → context_at v slot c ≡ Some x → partition_of v.count (code (key_of x.op)) ≡ v.number
-  own-at slot c x h = s.asked (slot * 8 + c) x (open_at (slots_of v) v.contexts slot c x h).here
+  own-at slot c x h = s.asked (slot * 8 + c) x (key_at (slots_of v) v.contexts slot c x h).here
 
   -- and is fresh where it asks nothing and claims nothing
   pub fresh-at : (slot c : ℕ) (x : Context K V I) → context_at v slot c ≡ Some x → question_in x ≡ None → claim_by x.phase ≡ None → loading_by x.phase ≡ None → x.phase ≡ Fresh
@@ -168,7 +170,7 @@ module _ {K V I : Type 0} {keeps : Bool} (cmp : K → K → Ordering) (join : V 
           is_free : slice_get (slots_of v) slot ≡ Some None
           is_free = free-slot v slot free
 
-          held : (o : Option (Option (Context K V I))) → slice_get v.contexts (slot * 8 + d) ≡ o → d < 8 → joined (slice_get v.contexts (slot * 8 + d)) ≡ None
+          held : (o : Option (Option (Open K V I))) → slice_get v.contexts (slot * 8 + d) ≡ o → d < 8 → joined (slice_get v.contexts (slot * 8 + d)) ≡ None
           held None e low = ap joined e
           held (Some None) e low = ap joined e
           held (Some (Some x)) e low = absurd (let inside = s.housed slot d x low e in let no : false ≡ true = sym (ap (λ o. is_some (option_flatten o)) is_free) ∙ inside in cc)
@@ -189,7 +191,7 @@ module _ {K V I O : Type 0} (cmp : K → K → Ordering) (join : V → V → V) 
     leaves-in : (y : Option (Context K V I)) (r : RecordsView K V) → r.begin ≡ v.records.begin → r.regions ≡ v.records.regions
         → LeavesOthers v (record (with_context v slot c y now) { records = r }) slot c now
     leaves-in y r begin regions = record {
-      others = λ t d o. ap (λ (g : RegionsView). option_map asked_by (context_in g.epochs.slots (slice_set v.contexts (slot * 8 + c) y) t d)) regions ∙ asked-other v slot c now x h y t d o;
+      others = λ t d o. ap (λ (g : RegionsView). option_map asked_by (on_key (context_in g.epochs.slots (slice_set v.contexts (slot * 8 + c) (option_map OnKey y)) t d))) regions ∙ asked-other v slot c now x h y t d o;
       number = refl;
       count = refl;
       begin = begin;
@@ -199,7 +201,7 @@ module _ {K V I O : Type 0} (cmp : K → K → Ordering) (join : V → V → V) 
     }
 
     asked-in : (y : Option (Context K V I)) (r : RecordsView K V) → r.regions ≡ v.records.regions → asked (record (with_context v slot c y now) { records = r }) slot c ≡ option_map asked_by y
-    asked-in y r regions = ap (λ (g : RegionsView). option_map asked_by (context_in g.epochs.slots (slice_set v.contexts (slot * 8 + c) y) slot c)) regions ∙ asked-same v slot c now x h y
+    asked-in y r regions = ap (λ (g : RegionsView). option_map asked_by (on_key (context_in g.epochs.slots (slice_set v.contexts (slot * 8 + c) (option_map OnKey y)) slot c))) regions ∙ asked-same v slot c now x h y
 
     leaves : (y : Option (Context K V I)) → LeavesOthers v (with_context v slot c y now) slot c now
     leaves y = leaves-in y v.records refl refl
@@ -443,15 +445,15 @@ module _ {K V I : Type 0} (code : K → ℕ) (v : CoreView K V I) where
   pub event-issue : (slot c now : ℕ) (op : KeyedOp K V I) → is_session (slots_of v) slot ≡ true → slice_get v.contexts (slot * 8 + c) ≡ Some None → c < 8 → partition_of v.count (code (key_of op)) ≡ v.number
       → IsIssue code v (with_context v slot c (Some (record { number = now; op = op; phase = Fresh })) now) slot c op now
   event-issue slot c now op inside here low own =
-      let x : Option (Context K V I) = Some (record { number = now; op = op; phase = Fresh }) in
+      let x : Option (Open K V I) = Some (OnKey (record { number = now; op = op; phase = Fresh })) in
       record {
-        closed = ap (option_map asked_by) (context-inside (slots_of v) v.contexts slot c inside low ∙ ap joined here);
-        opened = ap (option_map asked_by) (context-inside (slots_of v) (slice_set v.contexts (slot * 8 + c) x) slot c inside low ∙ ap joined (get-set_same v.contexts (slot * 8 + c) None x here));
+        closed = ap (λ o. option_map asked_by (on_key o)) (context-inside (slots_of v) v.contexts slot c inside low ∙ ap joined here);
+        opened = ap (λ o. option_map asked_by (on_key o)) (context-inside (slots_of v) (slice_set v.contexts (slot * 8 + c) x) slot c inside low ∙ ap joined (get-set_same v.contexts (slot * 8 + c) None x here));
         own = λ o e. (let both : Some op ≡ Some o = sym (keyed-op op) ∙ e in let same : op ≡ o = cc in subst (λ (p : KeyedOp K V I). partition_of v.count (code (key_of p)) ≡ v.number) same own);
         text = refl;
         cleared = refl;
         frame = record {
-          others = λ t d o. ap (option_map asked_by) (context-other (slots_of v) v.contexts slot c t d x low o);
+          others = λ t d o. ap (λ z. option_map asked_by (on_key z)) (context-other (slots_of v) v.contexts slot c t d x low o);
           number = refl;
           count = refl;
           begin = refl;
@@ -468,7 +470,7 @@ pub event-moved : {K V I : Type 0} (keeps : Bool) (v : CoreView K V I) (r : Reco
     → ((t d : ℕ) → context_in regions.epochs.slots v.contexts t d ≡ context_in (slots_of v) v.contexts t d)
     → IsQuiet keeps v (record v { records = r; moment = now }) now
 event-moved keeps v r regions now m h = record {
-  same = λ t d. ap (λ (w : RecordsView _ _). option_map asked_by (context_in w.regions.epochs.slots v.contexts t d)) m.is ∙ ap (option_map asked_by) (h t d);
+  same = λ t d. ap (λ (w : RecordsView _ _). option_map asked_by (on_key (context_in w.regions.epochs.slots v.contexts t d))) m.is ∙ ap (λ o. option_map asked_by (on_key o)) (h t d);
   text = m.kept;
   number = refl;
   count = refl;
@@ -480,7 +482,7 @@ event-moved keeps v r regions now m h = record {
 -- a session without open operations is left
 pub left-same : {K V I : Type 0} (v : CoreView K V I) (slot : ℕ) → open_context v slot ≡ None → (t d : ℕ) → context_in (left v.records.regions slot).epochs.slots v.contexts t d ≡ context_in (slots_of v) v.contexts t d
 left-same v slot none t d = elim (same_or t slot) [
-  | inl e ↦ ap (λ n. context_in (slice_set (slots_of v) slot None) v.contexts n d) e ∙ context-left (slots_of v) v.contexts slot d ∙ sym (idle-asked v slot d none) ∙ ap (λ n. context_at v n d) (sym e)
+  | inl e ↦ ap (λ n. context_in (slice_set (slots_of v) slot None) v.contexts n d) e ∙ context-left (slots_of v) v.contexts slot d ∙ sym (idle-held v slot d none) ∙ ap (λ n. held_at v n d) (sym e)
   | inr n ↦ context-elsewhere (slots_of v) v.contexts slot t d None n
 ]
 
@@ -502,11 +504,11 @@ pub event-give_up : {K V I : Type 0} (v : CoreView K V I) (slot c now : ℕ) (x 
 event-give_up v slot c now x records h text begin regions = record {
   question = asked_by x;
   was = ap (option_map asked_by) h;
-  closed = ap (λ (g : RegionsView). option_map asked_by (context_in g.epochs.slots (slice_set v.contexts (slot * 8 + c) None) slot c)) regions ∙ asked-same v slot c now x h None;
+  closed = ap (λ (g : RegionsView). option_map asked_by (on_key (context_in g.epochs.slots (slice_set v.contexts (slot * 8 + c) None) slot c))) regions ∙ asked-same v slot c now x h None;
   text = text;
   cleared = refl;
   frame = record {
-    others = λ t d o. ap (λ (g : RegionsView). option_map asked_by (context_in g.epochs.slots (slice_set v.contexts (slot * 8 + c) None) t d)) regions ∙ asked-other v slot c now x h None t d o;
+    others = λ t d o. ap (λ (g : RegionsView). option_map asked_by (on_key (context_in g.epochs.slots (slice_set v.contexts (slot * 8 + c) None) t d))) regions ∙ asked-other v slot c now x h None t d o;
     number = refl;
     count = refl;
     begin = begin;
@@ -524,13 +526,13 @@ pub merging-at : {K V I : Type 0} {keeps : Bool} {join : V → V → V} {cmp : K
     → is_merge x.op ≡ true
     → IsTrue merges
 merging-at v merges slot c x s same h merge =
-    let place = open_at (slots_of v) v.contexts slot c x h in
+    let place = key_at (slots_of v) v.contexts slot c x h in
     let is = s.merging (slot * 8 + c) x place.here merge in
     same ∙ is
 
 -- a context that is open and claims nothing
 pub claims-none : {K V I : Type 0} (v : CoreView K V I) (slot c : ℕ) (x : Context K V I) → context_at v slot c ≡ Some x → claim_by x.phase ≡ None → claim_at v.contexts (slot * 8 + c) ≡ None
-claims-none v slot c x h quiet = ap (λ o. claim_of (joined o)) (open_at (slots_of v) v.contexts slot c x h).here ∙ quiet
+claims-none v slot c x h quiet = ap (λ o. claim_of (joined o)) (key_at (slots_of v) v.contexts slot c x h).here ∙ quiet
 
 -- an entry is confirmed, or backs off
 module _ {K V I O R : Type 0} (stands : R → Standing) (cmp : K → K → Ordering) (join : V → V → V) (f : Meanings K V I O) (code : K → ℕ) (old new : CoreView K V I) (slot c now : ℕ) (x : Context K V I) (p : Place) (h : context_at old slot c ≡ Some x) (phase : x.phase ≡ Confirm p) (final : Bool) (alone : IsTrue final ↔ IsAlone old.records.words p) where
@@ -572,7 +574,7 @@ not-entered slots slot h = by_test (is_session slots slot) refl
     by_test false e = e
 
 -- the session of another open operation stays where one without any leaves
-pub idle-other : {K V I : Type 0} (v : CoreView K V I) (slot t d : ℕ) (x : Context K V I) → open_context v slot ≡ None → d < 8 → slice_get v.contexts (t * 8 + d) ≡ Some (Some x) → is_session (slots_of v) t ≡ true → is_session (slice_set (slots_of v) slot None) t ≡ true
+pub idle-other : {K V I : Type 0} (v : CoreView K V I) (slot t d : ℕ) (x : Open K V I) → open_context v slot ≡ None → d < 8 → slice_get v.contexts (t * 8 + d) ≡ Some (Some x) → is_session (slots_of v) t ≡ true → is_session (slice_set (slots_of v) slot None) t ≡ true
 idle-other v slot t d x none low here inside = elim (cases_eq t slot) [
   | inl same ↦ absurd (idle v slot d x none low (ap (λ n. slice_get v.contexts (n * 8 + d)) (sym same) ∙ here))
   | inr other ↦ ap (λ o. is_some (option_flatten o)) (get-set_other (slots_of v) slot t None other) ∙ inside

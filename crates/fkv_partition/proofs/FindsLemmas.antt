@@ -27,7 +27,7 @@ use Rattle.fkv_partition.specs.declared.contexts.Phase.TheVariants.{Fresh, Confi
 use Rattle.fkv_partition.specs.declared.contexts.Progress.{Progress}
 use Rattle.fkv_partition.specs.declared.contexts.Progress.TheVariants.{Done, Next, NeedsBuild, NeedsLoad, Waits}
 use Rattle.fkv_partition.specs.declared.contexts.Wait.TheVariants.{Fuzzy, Full}
-use Rattle.fkv_partition.specs.CoreContexts.{question_by, at_phase, context_in}
+use Rattle.fkv_partition.specs.CoreContexts.{question_by, at_phase, context_in, on_key}
 use Rattle.fkv_partition.specs.CoreViews.{CoreView, context_at, with_context}
 use Rattle.fkv_partition.specs.CoreGoing.{Goes}
 use Rattle.fkv_partition.specs.CoreInstalling.{Installs}
@@ -72,7 +72,7 @@ module _ {K V I : Type 0} (cmp : K → K → Ordering) (old new : CoreView K V I
       → new ≡ record (with_context old slot c y now) { records = r } → pending cmp new slot c ≡ None
   set-none x h y r regions none is =
       ap (λ (v : CoreView K V I). pending cmp v slot c) is
-      ∙ ap (λ g. pending_of cmp r (context_in g.epochs.slots (with_context old slot c y now).contexts slot c)) regions
+      ∙ ap (λ g. pending_of cmp r (on_key (context_in g.epochs.slots (with_context old slot c y now).contexts slot c))) regions
       ∙ ap (pending_of cmp r) (context-same old slot c now x h y) ∙ none
 
   -- it stays as it is
@@ -106,7 +106,7 @@ module _ {K V I O R : Type 0} (cmp : K → K → Ordering) (join : V → V → V
         question = asked_by x;
         was = ap (option_map asked_by) d.here;
         asks = ap (λ (u : CoreView _ _ _). pending cmp u slot c) is
-            ∙ ap (pending_of cmp old.records) (context-same old slot c now x d.here _)
+            ∙ ap (pending_of cmp old.records) (context-same old slot c now x d.here (Some (at_phase x (Load (record { begin = old.records.begin; kept = k; wanted = b; parts = parts; looked = now })))))
             ∙ (rw (eq-eqb old.records.begin old.records.begin refl) (ap (λ o. Some (record { moment = now; value = value_of o })) led))
             ∙ ap (to_find cmp old now) (sym (keyed-op x.op));
       })

@@ -24,11 +24,13 @@ use Rattle.fkv_functions.proofs.ListLemmas.{get-set_cases}
 use Rattle.fkv_operations.specs.After.{key_of, is_merge}
 use Rattle.fkv_operations.specs.declared.operations.KeyedOp.{KeyedOp}
 use Rattle.fkv_partition.specs.CoreBeginning.{Issues}
-use Rattle.fkv_partition.proofs.AskedLemmas.{context-inside}
+use Rattle.fkv_partition.proofs.AskedLemmas.{joined-some, relocation-is}
 use Rattle.fkv_partition.specs.Beginning.{IssuesOnKey, IsFirstFree}
-use Rattle.fkv_partition.specs.CoreContexts.{joined, is_session}
+use Rattle.fkv_partition.specs.CoreContexts.{joined, relocating}
 use Rattle.fkv_partition.specs.CoreViews.{CoreView, slots_of, partition_of}
-use Rattle.fkv_partition.specs.Grown.{IsPreserved, NoneOpens, AllStay}
+use Rattle.fkv_partition.specs.Grown.{IsPreserved, RelocationsStay}
+use Rattle.fkv_partition.specs.declared.contexts.Open.{Open}
+use Rattle.fkv_partition.specs.declared.contexts.Open.TheVariants.{Relocating}
 use Rattle.fkv_partition.specs.declared.relocations.Relocation.{Relocation}
 use Rattle.fkv_partition.specs.declared.relocations.Stage.{Stage}
 use Rattle.fkv_partition.specs.declared.relocations.Stage.TheVariants.{Fresh, Reading, Tracing, Ready}
@@ -84,6 +86,12 @@ none-in zero p x e = cc
 none-in (suc n) zero x e = cc
 none-in (suc n) (suc p) x e = none-in n p x e
 
+-- a relocation that stands where relocations stay stood there before
+pub stood-before : {K V I : Type 0} (old new : CoreView K V I) → RelocationsStay old new → (p : ℕ) (x : Relocation K V) → slice_get new.contexts p ≡ Some (Some (Relocating x)) → slice_get old.contexts p ≡ Some (Some (Relocating x))
+stood-before {K} {V} {I} old new stay p x h =
+    joined-some (slice_get old.contexts p) (Relocating x)
+    (relocation-is (joined (slice_get old.contexts p)) x (sym (stay p) ∙ ap (λ (o : Option (Option (Open K V I))). relocating (joined o)) h))
+
 module _ {K V I : Type 0} (keeps : Bool) (cmp : K → K → Ordering) (join : V → V → V) (code : K → ℕ) where
   -- ---- an event of the partition
   -- a relocation that is to append its record again
@@ -136,8 +144,8 @@ module _ {K V I : Type 0} (keeps : Bool) (cmp : K → K → Ordering) (join : V 
   stage-kept old new number count t st b place frozen (Ready entry kept) h =
       (ap (λ n. partition_of n (code entry.key)) count ∙ h.0 ∙ sym number, ready-kept old new t st b place frozen entry kept h.1)
 
-  -- an event of the partition keeps what every compacted partition keeps, where no operation is opened beside a
-  -- relocation, no session with one is left, and Begin passes nothing that is not cleared
+  -- an event of the partition keeps what every compacted partition keeps, where each relocation that stands then stood
+  -- before, and Begin passes nothing that is not cleared
   pub keep-event : (v : PartitionView K V I) (new : CoreView K V I)
       → IsCompacting keeps cmp join code v
       → IsTraced keeps code new.records
@@ -146,19 +154,17 @@ module _ {K V I : Type 0} (keeps : Bool) (cmp : K → K → Ordering) (join : V 
       → new.number ≡ v.core.number
       → new.count ≡ v.core.count
       → new.records.begin ≤ v.cleared
-      → ((p : ℕ) (x : Relocation K V) → slice_get v.relocations p ≡ Some (Some x) → joined (slice_get v.core.contexts p) ≡ None → joined (slice_get new.contexts p) ≡ None)
-      → ((slot c : ℕ) (x : Relocation K V) → c < 8 → slice_get v.relocations (slot * 8 + c) ≡ Some (Some x) → is_session (slots_of v.core) slot ≡ true → is_session (slots_of new) slot ≡ true)
+      → ((p : ℕ) (x : Relocation K V) → slice_get new.contexts p ≡ Some (Some (Relocating x)) → slice_get v.core.contexts p ≡ Some (Some (Relocating x)))
       → IsCompacting keeps cmp join code (with_core v new)
-  keep-event v new i t st b number count begun opens stay =
+  keep-event v new i t st b number count begun stood =
       let shape = b.grown.shape in
       record {
         begun = begun;
         low = (let tail = b.grown.tail in let low = i.low in omega arith);
         place = λ under. rw (shape.page_bits, shape.record_size) (i.place under);
         cleared = λ yes_keeps. b.grown.clear v.cleared i.low yes_keeps (i.cleared yes_keeps);
-        places = i.places;
         stands = λ p x h.
-            let was = i.stands p x h in
+            let was = i.stands p x (stood p x h) in
             let safe = b.grown.raised.safe in
             let frozen = was.frozen in
             record {
@@ -167,34 +173,26 @@ module _ {K V I : Type 0} (keeps : Bool) (cmp : K → K → Ordering) (join : V 
               issued = was.issued;
               stage = stage-kept v.core new number count t st b x.target was.frozen x.stage was.stage;
             };
-        alone = λ p x h. opens p x h (i.alone p x h);
-        housed = λ slot c x low h. stay slot c x low h (i.housed slot c x low h);
       }
 
-  -- so it is where no operation is opened, and no session left, and Begin stands
+  -- so it is where relocations stay, and Begin stands
   pub keep-seated : (v : PartitionView K V I) (new : CoreView K V I)
       → IsCompacting keeps cmp join code v
       → IsTraced keeps code new.records
       → IsStood cmp join new.records
       → IsPreserved keeps cmp join code v.core new
       → IsSteady v.core new
-      → NoneOpens v.core new × AllStay v.core new
+      → RelocationsStay v.core new
       → IsCompacting keeps cmp join code (with_core v new)
-  keep-seated v new i t st b steady seats =
-      keep-event v new i t st b steady.number steady.count (let begun = i.begun in let begin = steady.begin in omega arith) (λ p x h none. seats.0 p none) (λ slot c x low h inside. seats.1 slot inside)
+  keep-seated v new i t st b steady stay =
+      keep-event v new i t st b steady.number steady.count (let begun = i.begun in let begin = steady.begin in omega arith) (stood-before v.core new stay)
 
   -- ---- a relocation begins, goes on or ends
-  pub stage-moment : (v : CoreView K V I) (now place : ℕ) (stage : Stage K V) → StageStands keeps cmp join code v place stage → StageStands keeps cmp join code (record v { moment = now }) place stage
-  stage-moment v now place Fresh h = tt
-  stage-moment v now place (Reading begin) h = h
-  stage-moment v now place (Tracing entry l) h = h
-  stage-moment v now place (Ready entry kept) h = h
-
-  -- a relocation that may stand at a place
-  pub record Fits (v : PartitionView K V I) (cleared i : ℕ) (x : Relocation K V) : Type 0 where
-    pub stands : RelocationStands keeps cmp join code v.core cleared x
-    pub alone : joined (slice_get v.core.contexts i) ≡ None
-    pub housed : (slot c : ℕ) → c < 8 → slot * 8 + c ≡ i → is_session (slots_of v.core) slot ≡ true
+  stage-moment : (v : CoreView K V I) (contexts : List (Option (Open K V I))) (now place : ℕ) (stage : Stage K V) → StageStands keeps cmp join code v place stage → StageStands keeps cmp join code (record v { contexts = contexts; moment = now }) place stage
+  stage-moment v contexts now place Fresh h = tt
+  stage-moment v contexts now place (Reading begin) h = h
+  stage-moment v contexts now place (Tracing entry l) h = h
+  stage-moment v contexts now place (Ready entry kept) h = h
 
   -- what is cleared may rise
   pub record Rises (v : PartitionView K V I) (limit : ℕ) : Type 0 where
@@ -203,36 +201,37 @@ module _ {K V I : Type 0} (keeps : Bool) (cmp : K → K → Ordering) (join : V 
     pub place : limit < 2 ^ 48 → IsRecordStart v.core.records.page_bits v.core.records.record_size limit
     pub cleared : IsTrue keeps → IsCleared cmp v.core.records.entries limit
 
-  pub keep-changed : (v : PartitionView K V I) (i now cleared : ℕ) (y : Option (Relocation K V))
+  higher-stands : (v : PartitionView K V I) (cleared : ℕ) → Rises v cleared → (x : Relocation K V) → RelocationStands keeps cmp join code v.core v.cleared x → RelocationStands keeps cmp join code v.core cleared x
+  higher-stands v cleared r x h = record { place = h.place; frozen = h.frozen; issued = (let up = r.higher in let issued = h.issued in omega arith); stage = h.stage }
+
+  pub keep-changed : (v : PartitionView K V I) (i now cleared : ℕ) (y : Option (Open K V I))
       → IsCompacting keeps cmp join code v
       → Rises v cleared
-      → ((x : Relocation K V) → y ≡ Some x → Fits v cleared i x)
-      → IsCompacting keeps cmp join code (record { core = record v.core { moment = now }; cleared = cleared; relocations = slice_set v.relocations i y })
+      → ((x : Relocation K V) → y ≡ Some (Relocating x) → RelocationStands keeps cmp join code v.core cleared x)
+      → IsCompacting keeps cmp join code (record { core = record v.core { contexts = slice_set v.core.contexts i y; moment = now }; cleared = cleared })
   keep-changed v i now cleared y s r fits = record {
     begun = (let up = r.higher in let begun = s.begun in omega arith);
     low = r.low;
     place = r.place;
     cleared = r.cleared;
-    places = length-set v.relocations i y ∙ s.places;
-    stands = λ p x h. elim (get-set_cases v.relocations i p y (Some x) h) [
-      | inl e ↦ at-moment x (fits x e.1).stands
-      | inr o ↦ at-moment x (higher x (s.stands p x o))
-    ];
-    alone = λ p x h. elim (get-set_cases v.relocations i p y (Some x) h) [
-      | inl e ↦ ap (λ n. joined (slice_get v.core.contexts n)) e.0 ∙ (fits x e.1).alone
-      | inr o ↦ s.alone p x o
-    ];
-    housed = λ slot c x low h. elim (get-set_cases v.relocations i (slot * 8 + c) y (Some x) h) [
-      | inl e ↦ (fits x e.1).housed slot c low e.0
-      | inr o ↦ s.housed slot c x low o
+    stands = λ p x h. elim (get-set_cases v.core.contexts i p y (Some (Relocating x)) h) [
+      | inl e ↦ at-moment x (fits x e.1)
+      | inr o ↦ at-moment x (higher-stands v cleared r x (s.stands p x o))
     ];
   }
     where
-      at-moment : (x : Relocation K V) → RelocationStands keeps cmp join code v.core cleared x → RelocationStands keeps cmp join code (record v.core { moment = now }) cleared x
-      at-moment x h = record { place = h.place; frozen = h.frozen; issued = h.issued; stage = stage-moment v.core now x.target x.stage h.stage }
+      at-moment : (x : Relocation K V) → RelocationStands keeps cmp join code v.core cleared x → RelocationStands keeps cmp join code (record v.core { contexts = slice_set v.core.contexts i y; moment = now }) cleared x
+      at-moment x h = record { place = h.place; frozen = h.frozen; issued = h.issued; stage = stage-moment v.core (slice_set v.core.contexts i y) now x.target x.stage h.stage }
 
-      higher : (x : Relocation K V) → RelocationStands keeps cmp join code v.core v.cleared x → RelocationStands keeps cmp join code v.core cleared x
-      higher x h = record { place = h.place; frozen = h.frozen; issued = (let up = r.higher in let issued = h.issued in omega arith); stage = h.stage }
+  -- nothing else changes
+  pub keep-risen : (v : PartitionView K V I) (cleared : ℕ) → IsCompacting keeps cmp join code v → Rises v cleared → IsCompacting keeps cmp join code (record v { cleared = cleared })
+  keep-risen v cleared s r = record {
+    begun = (let up = r.higher in let begun = s.begun in omega arith);
+    low = r.low;
+    place = r.place;
+    cleared = r.cleared;
+    stands = λ p x h. higher-stands v cleared r x (s.stands p x h);
+  }
 
   -- what is cleared stays
   pub rises-not : (v : PartitionView K V I) → IsCompacting keeps cmp join code v → Rises v v.cleared
@@ -266,38 +265,14 @@ module _ {K V I : Type 0} (keeps : Bool) (cmp : K → K → Ordering) (join : V 
           }
 
   -- ---- the beginning
-  pub compacting-empty : (p : CoreView K V I) → p.records.begin ≡ 64 → p.records.tail ≡ 64 → p.records.entries ≡ [] → IsCompacting keeps cmp join code (record { core = p; cleared = 64; relocations = replicate 128 None })
-  compacting-empty p begin tail entries = record {
+  pub compacting-empty : (p : CoreView K V I) → p.records.begin ≡ 64 → p.records.tail ≡ 64 → p.records.entries ≡ [] → p.contexts ≡ replicate 128 None → IsCompacting keeps cmp join code (record { core = p; cleared = 64 })
+  compacting-empty p begin tail entries contexts = record {
     begun = omega arith;
     low = omega arith;
     place = λ under. first;
     cleared = λ yes_keeps. subst (λ t. IsCleared cmp t 64) (sym entries) (λ e here low. absurd (cc));
-    places = refl;
-    stands = λ i x h. absurd (none-in 128 i x h);
-    alone = λ i x h. absurd (none-in 128 i x h);
-    housed = λ slot c x low h. absurd (none-in 128 (slot * 8 + c) x h);
+    stands = λ i x h. absurd (none-in 128 i (Relocating x) (ap (λ (cs : List (Option (Open K V I))). slice_get cs i) (sym contexts) ∙ h));
   }
-
--- a place of the list of contexts is that of one session
-pub seat-of : (slots : List (Option ℕ)) (slot c : ℕ) → c < 8 → is_session slots slot ≡ true → (s d : ℕ) → d < 8 → s * 8 + d ≡ slot * 8 + c → is_session slots s ≡ true
-seat-of slots slot c low inside s d under same =
-    let one : s ≡ slot = omega arith in
-    ap (is_session slots) one ∙ inside
-
--- what is cleared once a place is, however it is told
-pub done-is : {K V I : Type 0} (v : PartitionView K V I) (slot c place now : ℕ) (p : CoreView K V I) (cleared : ℕ) (items : List (Option (Relocation K V)))
-    → p ≡ record v.core { moment = now }
-    → items ≡ slice_set v.relocations (slot * 8 + c) None
-    → ((v.cleared ≤ place) × (cleared ≡ place_behind v place)) ⊎ ((place < v.cleared) × (cleared ≡ v.cleared))
-    → view_of p cleared items ≡ done_at v slot c place now
-done-is v slot c place now p cleared items is set (inl h) =
-    let low = h.0 in
-    let test : nat_le v.cleared place ≡ true = grind (arith, nat_tests) in
-    rw (is, set, h.1, test) refl
-done-is v slot c place now p cleared items is set (inr h) =
-    let high = h.0 in
-    let test : nat_le v.cleared place ≡ false = grind (arith, nat_tests) in
-    rw (is, set, h.1, test) refl
 
 -- where an event is refused, nothing changed
 pub on-err : {T E P Q : Type 0} (r : Result T E) → (P → Q) → OnErr r P → OnErr r Q
@@ -310,48 +285,6 @@ none-at None h = refl
 none-at (Some x) h = absurd (h x refl)
 
 module _ {K V I : Type 0} (keeps : Bool) (cmp : K → K → Ordering) (join : V → V → V) (code : K → ℕ) where
-  -- a session without relocations is left
-  pub keep-left : (v : PartitionView K V I) (new : CoreView K V I) (slot : ℕ)
-      → IsCompacting keeps cmp join code v
-      → IsTraced keeps code new.records
-      → IsStood cmp join new.records
-      → IsPreserved keeps cmp join code v.core new
-      → IsSteady v.core new
-      → NoneOpens v.core new × ((s : ℕ) → s ≢ slot → is_session (slots_of v.core) s ≡ true → is_session (slots_of new) s ≡ true)
-      → ((d : ℕ) (x : Relocation K V) → relocation_at v slot d ≡ Some x → ⊥)
-      → IsCompacting keeps cmp join code (with_core v new)
-  keep-left v new slot i t st b steady seats none =
-      keep-event keeps cmp join code v new i t st b steady.number steady.count (let begun = i.begun in let begin = steady.begin in omega arith)
-      (λ p x h free. seats.0 p free)
-      (λ s d x low h inside. elim (cases_eq s slot) [
-        | inl same ↦ absurd (here s d x low h inside same)
-        | inr other ↦ seats.1 s other inside
-      ])
-    where
-      here : (s d : ℕ) (x : Relocation K V) → d < 8 → slice_get v.relocations (s * 8 + d) ≡ Some (Some x) → is_session (slots_of v.core) s ≡ true → s ≡ slot → ⊥
-      here s d x low h inside same =
-          none d x (ap (λ n. relocation_at v n d) (sym same) ∙ context-inside (slots_of v.core) v.relocations s d inside low ∙ ap joined h)
-
-  -- an operation is issued in a context without a relocation
-  pub keep-issued : (v : PartitionView K V I) (new : CoreView K V I) (place : ℕ)
-      → IsCompacting keeps cmp join code v
-      → IsTraced keeps code new.records
-      → IsStood cmp join new.records
-      → IsPreserved keeps cmp join code v.core new
-      → IsSteady v.core new
-      → ((p : ℕ) → p ≢ place → joined (slice_get v.core.contexts p) ≡ None → joined (slice_get new.contexts p) ≡ None) × AllStay v.core new
-      → joined (slice_get v.relocations place) ≡ None
-      → IsCompacting keeps cmp join code (with_core v new)
-  keep-issued v new place i t st b steady seats free =
-      keep-event keeps cmp join code v new i t st b steady.number steady.count (let begun = i.begun in let begin = steady.begin in omega arith)
-      (λ p x h none. seats.0 p (λ same. taken p x h same) none)
-      (λ s d x low h inside. seats.1 s inside)
-    where
-      taken : (p : ℕ) (x : Relocation K V) → slice_get v.relocations p ≡ Some (Some x) → p ≡ place → ⊥
-      taken p x h same =
-          let bad : Some x ≡ None = sym (ap joined h) ∙ ap (λ n. joined (slice_get v.relocations n)) same ∙ free in
-          cc
-
   -- the lowest place that is not cleared may be taken once it is frozen
   pub may-relocate : (v : PartitionView K V I) → IsCompacting keeps cmp join code v → IsTraced keeps code v.core.records → v.cleared < v.core.records.regions.offsets.safe_read_only → (now : ℕ)
       → RelocationStands keeps cmp join code v.core v.cleared (record { number = now; target = v.cleared; stage = Fresh })

@@ -43,7 +43,7 @@ module _ {K V I : Type 0} {keeps : Bool} (cmp : K → K → Ordering) (join : V 
   -- it is no relocation
   no-relocation : (y : Relocation K V) → relocation_at old slot c ≡ Some y → ⊥
   no-relocation y h =
-      let same = some-is _ x (sym (relocation-asked old slot c compacting y h) ∙ here) in
+      let same = some-is _ x (sym (relocation-asked old slot c y h) ∙ here) in
       let no : Relocate ≡ Merge k i = ap (λ (z : Asked K V I). z.op) same ∙ is in
       absurd (cc)
 

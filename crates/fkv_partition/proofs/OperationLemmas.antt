@@ -18,18 +18,19 @@ use Rattle.fkv_partition.specs.CoreLoading.{ReadsBy}
 use Rattle.fkv_partition.specs.Pending.{pending, OthersPend, AllPend}
 use Rattle.fkv_partition.specs.CoreViews.{CoreView, slots_of}
 use Rattle.fkv_partition.proofs.AskedLemmas.{context-inside}
+use Rattle.fkv_partition.specs.declared.contexts.Open.TheVariants.{Relocating}
 use Rattle.fkv_partition.specs.declared.relocations.Relocation.{Relocation}
 use Rattle.fkv_partition.specs.declared.relocations.Stage.TheVariants.{Fresh}
 use Rattle.fkv_partition.specs.Beginning.{IssuesOnKey, Relocates, Drops}
 use Rattle.fkv_partition.specs.Effect.{IsQuiet, IsIssue, IsEvent, IsLoad, IsLoaded, IsGiveUp, Finds}
-use Rattle.fkv_partition.specs.Events.{Loads, WaitsFor, LoadsBy}
+use Rattle.fkv_partition.specs.Events.{IsPassedOn, Loads, WaitsFor, LoadsBy}
 use Rattle.fkv_partition.specs.Reading.{WaitsOn, LoadsOnBy}
 use Rattle.fkv_partition.specs.Relocating.{IsRelocating}
-use Rattle.fkv_partition.specs.Sound.{IsCompacting}
+use Rattle.fkv_partition.specs.CoreSound.{IsSound}
+use Rattle.fkv_partition.specs.Grown.{RelocationsStay}
 use Rattle.fkv_partition.specs.Views.{PartitionView, with_core, at_moment, relocation_at, with_relocation}
 use Rattle.fkv_partition.proofs.EffectLemmas.{Proceeds, key-issue, key-event, key-load, key-give-up, key-finds, issued-event, dropped-event, relocating-event, relocating-finds}
-use Rattle.fkv_partition.proofs.TruncateLemmas.{relocating-set}
-use Rattle.fkv_partition.proofs.MoveLemmas.{event-set, open-here}
+use Rattle.fkv_partition.proofs.MoveLemmas.{event-set, open-here, keyless-here, free-keyless, set-pends, dropped-pends}
 
 -- ---- a moment passes
 pub passed-event : {K V I : Type 0} (keeps : Bool) (v : PartitionView K V I) (now : ℕ) → IsQuiet keeps v (at_moment v now) now
@@ -59,12 +60,12 @@ pub keyed-some : {K V I : Type 0} (op : Op K V I) (o : KeyedOp K V I) → keyed 
 keyed-some {K} {V} {I} op o h is = let none : None ≡ Some o = sym (ap keyed is) ∙ h in cc
 
 -- ---- an issue
-pub issue-on-key : {K V I : Type 0} (code : K → ℕ) (old new : PartitionView K V I) (slot now : ℕ) (op : Op K V I) (o : KeyedOp K V I) (r : Result ℕ Refused) → keyed op ≡ Some o → new ≡ with_core old new.core
+pub issue-on-key : {K V I : Type 0} (code : K → ℕ) (old new : PartitionView K V I) (slot now : ℕ) (op : Op K V I) (o : KeyedOp K V I) (r : Result ℕ Refused) → keyed op ≡ Some o → new ≡ with_core old new.core → RelocationsStay old.core new.core
     → IfOk r (λ c. key_effect.IsIssue code old.core new.core slot c o now) → IfOk r (λ c. relocation_at old slot c ≡ None) → IfOk r (λ c. IsIssue code old new slot c op now)
-issue-on-key {K} {V} {I} code old new slot now op o (Err e) is rest event closed = tt
-issue-on-key {K} {V} {I} code old new slot now op o (Ok c) is rest event closed =
+issue-on-key {K} {V} {I} code old new slot now op o (Err e) is rest stay event closed = tt
+issue-on-key {K} {V} {I} code old new slot now op o (Ok c) is rest stay event closed =
     subst (λ (p : Op K V I). IsIssue code old new slot c p now) (keyed-is op o is)
-    (subst (λ (w : PartitionView K V I). IsIssue code old w slot c (op_of o) now) (sym rest) (key-issue old new.core slot c now closed code o event))
+    (subst (λ (w : PartitionView K V I). IsIssue code old w slot c (op_of o) now) (sym rest) (key-issue old new.core slot c now closed stay code o event))
 
 pub issues-pend : {K V I : Type 0} (cmp : K → K → Ordering) (code : K → ℕ) (old new : PartitionView K V I) (slot : ℕ) (op : KeyedOp K V I) (now : ℕ) (result : Result ℕ Refused)
     → ((p q : CoreView K V I) (c : ℕ) → beginning.Issues code p q slot c op now → AllPend cmp p q)
@@ -79,13 +80,13 @@ issues-pend cmp code old new slot op now result law (IssuesOnKey.issues c inside
     (record {
       entered = inside;
       low = free.0;
-      free = context-inside (slots_of old.core) old.core.contexts slot c inside free.0 ∙ free.1.operation;
+      free = context-inside (slots_of old.core) old.core.contexts slot c inside free.0 ∙ free.1;
       own = own;
       merging = merges;
       is = refl;
     }))
 
-pub relocates-event : {K V I : Type 0} {keeps : Bool} {cmp : K → K → Ordering} {join : V → V → V} (code : K → ℕ) (old new : PartitionView K V I) (slot now : ℕ) (op : Op K V I) (r : Result ℕ Refused) → op ≡ Relocate → IsCompacting keeps cmp join code old
+pub relocates-event : {K V I : Type 0} {keeps : Bool} {cmp : K → K → Ordering} {join : V → V → V} (code : K → ℕ) (old new : PartitionView K V I) (slot now : ℕ) (op : Op K V I) (r : Result ℕ Refused) → op ≡ Relocate → IsSound keeps cmp join code old.core
     → IfOk r (λ c. (slot < 16) × (c < 8)) → Relocates old new slot now r → IfOk r (λ c. IsIssue code old new slot c op now)
 relocates-event {K} {V} {I} {keeps} {cmp} code old new slot now op r is s within does = subst (λ (p : Op K V I). IfOk r (λ c. IsIssue code old new slot c p now)) (sym is) (by_rule r within does)
   where
@@ -98,46 +99,47 @@ relocates-event {K} {V} {I} {keeps} {cmp} code old new slot now op r is s within
         let same : c ≡ d = cc in
         subst (λ (u : PartitionView K V I). IsIssue code old u slot c Relocate now) (sym b)
         (subst (λ n. IsIssue code old (with_relocation old slot d (Some (record { number = now; target = old.cleared; stage = Fresh })) now) slot n Relocate now) (sym same)
-        (issued-event old slot d now (record { number = now; target = old.cleared; stage = Fresh }) s w.0 free.0 inside free.1.operation free.1.relocation refl (relocating-set keeps cmp old slot d now (Some (record { number = now; target = old.cleared; stage = Fresh })) free.0)))
+        (issued-event old slot d now (record { number = now; target = old.cleared; stage = Fresh }) s w.0 free.0 inside free.1 refl (event-set keeps cmp old slot d now free.0 (free-keyless old slot d free.1) (Some (record { number = now; target = old.cleared; stage = Fresh })))))
 
 pub relocates-pend : {K V I : Type 0} (cmp : K → K → Ordering) (old new : PartitionView K V I) (slot now : ℕ) (r : Result ℕ Refused) → Relocates old new slot now r → AllPend cmp old.core new.core
 relocates-pend cmp old new slot now r (Relocates.unknown a b h) = rw b (λ s d. refl)
 relocates-pend cmp old new slot now r (Relocates.not_due a n b h) = rw b (λ s d. refl)
 relocates-pend cmp old new slot now r (Relocates.full a n none b h) = rw b (λ s d. refl)
-relocates-pend cmp old new slot now r (Relocates.relocates c inside low free b h) = rw b (λ s d. refl)
+relocates-pend {K} {V} {I} cmp old new slot now r (Relocates.relocates c inside low free b h) =
+    rw b (set-pends cmp old slot c now (free-keyless old slot c free.1) (Some (Relocating _)) refl)
 
 -- ---- what goes on
 pub ends-key : {K V I : Type 0} (old new : PartitionView K V I) (slot c now : ℕ) → relocation_at old slot c ≡ None → new ≡ with_core old new.core
-    → (new.core ≡ old.core) ⊎ key_effect.IsGiveUp old.core new.core slot c now → (new ≡ old) ⊎ IsGiveUp old new slot c now
-ends-key old new slot c now none rest (inl same) = inl (rest ∙ ap (with_core old) same)
-ends-key {K} {V} {I} old new slot c now none rest (inr g) = inr (subst (λ (w : PartitionView K V I). IsGiveUp old w slot c now) (sym rest) (key-give-up old new.core slot c now none g))
+    → RelocationsStay old.core new.core → (new.core ≡ old.core) ⊎ key_effect.IsGiveUp old.core new.core slot c now → (new ≡ old) ⊎ IsGiveUp old new slot c now
+ends-key old new slot c now none rest stay (inl same) = inl (rest ∙ ap (with_core old) same)
+ends-key {K} {V} {I} old new slot c now none rest stay (inr g) = inr (subst (λ (w : PartitionView K V I). IsGiveUp old w slot c now) (sym rest) (key-give-up old new.core slot c now none stay g))
 
 module _ {K V I O R : Type 0} (cmp : K → K → Ordering) (f : Meanings K V I O) (old new : PartitionView K V I) (slot c now : ℕ) where
-  module _ (none : relocation_at old slot c ≡ None) (rest : new ≡ with_core old new.core) where
+  module _ (none : relocation_at old slot c ≡ None) (rest : new ≡ with_core old new.core) (stay : RelocationsStay old.core new.core) where
     pub goes-event : (r : Result (Progress K V I O R) Refused) → IfOk r (key_effect.IsEvent cmp f old.core new.core slot c now) → IfOk r (IsEvent cmp f old new slot c now)
     goes-event (Err e) h = tt
-    goes-event (Ok p) h = subst (λ (w : PartitionView K V I). IsEvent cmp f old w slot c now p) (sym rest) (key-event old new.core slot c now none cmp f p h)
+    goes-event (Ok p) h = subst (λ (w : PartitionView K V I). IsEvent cmp f old w slot c now p) (sym rest) (key-event old new.core slot c now none stay cmp f p h)
 
     pub goes-finds : (r : Result (Progress K V I O R) Refused) → ((p : Progress K V I O R) → r ≡ Ok p → key_effect.Finds cmp old.core new.core slot c now p) → IfOk r (Finds cmp old new slot c now)
     goes-finds (Err e) h = tt
-    goes-finds (Ok p) h = subst (λ (w : PartitionView K V I). Finds cmp old w slot c now p) (sym rest) (key-finds old new.core slot c now none cmp p (h p refl))
+    goes-finds (Ok p) h = subst (λ (w : PartitionView K V I). Finds cmp old w slot c now p) (sym rest) (key-finds old new.core slot c now none stay cmp p (h p refl))
 
     pub loads-event : (r : Result (Progress K V I O R) Refused) → IfOk r (key_effect.IsLoaded cmp f old.core new.core slot c now) → IfOk r (IsLoad cmp f old new slot c now)
     loads-event (Err e) h = tt
-    loads-event (Ok p) h = IsLoad.on_key (subst (λ (w : PartitionView K V I). IsLoaded cmp f old w slot c now p) (sym rest) (key-load old new.core slot c now none cmp f p h))
+    loads-event (Ok p) h = IsLoad.on_key (subst (λ (w : PartitionView K V I). IsLoaded cmp f old w slot c now p) (sym rest) (key-load old new.core slot c now none stay cmp f p h))
 
-  module _ {keeps : Bool} {join : V → V → V} {code : K → ℕ} (s : IsCompacting keeps cmp join code old) (x : Relocation K V) (h : relocation_at old slot c ≡ Some x) where
-    pub relocation-event : IsTrue keeps → (r : Result (Progress K V I O R) Refused) → IfOk r (λ p. IsRelocating keeps cmp old new slot c now) → ((p : Progress K V I O R) → r ≡ Ok p → Proceeds x (relocation_at new slot c) now p) → IfOk r (IsEvent cmp f old new slot c now)
+  module _ (x : Relocation K V) (h : relocation_at old slot c ≡ Some x) where
+    pub relocation-event : {keeps : Bool} → IsTrue keeps → (r : Result (Progress K V I O R) Refused) → IfOk r (λ p. IsRelocating keeps cmp old new slot c now) → ((p : Progress K V I O R) → r ≡ Ok p → Proceeds x (relocation_at new slot c) now p) → IfOk r (IsEvent cmp f old new slot c now)
     relocation-event yes_keeps (Err e) k told = tt
-    relocation-event yes_keeps (Ok p) k told = relocating-event old new s slot c now k x h f yes_keeps p (told p refl)
+    relocation-event yes_keeps (Ok p) k told = relocating-event old new slot c now k x h f yes_keeps p (told p refl)
 
-    pub relocation-load : IsTrue keeps → (r : Result (Progress K V I O R) Refused) → IfOk r (λ p. IsRelocating keeps cmp old new slot c now) → ((p : Progress K V I O R) → r ≡ Ok p → Proceeds x (relocation_at new slot c) now p) → IfOk r (IsLoad cmp f old new slot c now)
+    pub relocation-load : {keeps : Bool} → IsTrue keeps → (r : Result (Progress K V I O R) Refused) → IfOk r (λ p. IsRelocating keeps cmp old new slot c now) → ((p : Progress K V I O R) → r ≡ Ok p → Proceeds x (relocation_at new slot c) now p) → IfOk r (IsLoad cmp f old new slot c now)
     relocation-load yes_keeps (Err e) k told = tt
-    relocation-load yes_keeps (Ok p) k told = IsLoad.relocation (relocating-event old new s slot c now k x h f yes_keeps p (told p refl)) (relocating-finds old new s slot c now k x h p)
+    relocation-load yes_keeps (Ok p) k told = IsLoad.relocation (relocating-event old new slot c now k x h f yes_keeps p (told p refl)) (relocating-finds old new slot c now k x h p)
 
-    pub relocation-finds : (r : Result (Progress K V I O R) Refused) → IfOk r (λ p. IsRelocating keeps cmp old new slot c now) → IfOk r (Finds cmp old new slot c now)
-    relocation-finds (Err e) k = tt
-    relocation-finds (Ok p) k = relocating-finds old new s slot c now k x h p
+    pub relocation-finds : (keeps : Bool) (r : Result (Progress K V I O R) Refused) → IfOk r (λ p. IsRelocating keeps cmp old new slot c now) → IfOk r (Finds cmp old new slot c now)
+    relocation-finds keeps (Err e) k = tt
+    relocation-finds keeps (Ok p) k = relocating-finds old new slot c now k x h p
 
   pub relocation-others : {keeps : Bool} → IsTrue keeps → (r : Result (Progress K V I O R) Refused) → IfOk r (λ p. IsRelocating keeps cmp old new slot c now) → ((e : Refused) → r ≡ Err e → AllPend cmp old.core new.core) → OthersPend cmp old.core new.core slot c
   relocation-others yes_keeps (Err e) k told a d other = told e refl a d
@@ -149,14 +151,14 @@ same-pends {K} {V} {I} {A} cmp old new (Err e) same why is s d = ap (λ (w : Par
 same-pends cmp old new (Ok x) same why is s d = absurd (cc)
 
 -- ---- a relocation is given up
-pub drops-event : {K V I : Type 0} {keeps : Bool} {cmp : K → K → Ordering} {join : V → V → V} {code : K → ℕ} (old new : PartitionView K V I) (s : IsCompacting keeps cmp join code old) (slot c now : ℕ) (r : Result (Unit {0}) Refused) → Drops old new slot c now r → OnOk r (IsGiveUp old new slot c now)
-drops-event old new s slot c now r (Drops.unknown none same told) = rw told tt
-drops-event {K} {V} {I} {keeps} {cmp} old new s slot c now r (Drops.drops x here is told) =
-    rw told (subst (λ (w : PartitionView K V I). IsGiveUp old w slot c now) (sym is) (dropped-event old slot c now x here s (event-set keeps cmp old slot c now (open-here old slot c x here).low None)))
+pub drops-event : {K V I : Type 0} (keeps : Bool) (cmp : K → K → Ordering) (old new : PartitionView K V I) (slot c now : ℕ) (r : Result (Unit {0}) Refused) → Drops old new slot c now r → OnOk r (IsGiveUp old new slot c now)
+drops-event keeps cmp old new slot c now r (Drops.unknown none same told) = rw told tt
+drops-event {K} {V} {I} keeps cmp old new slot c now r (Drops.drops x here is told) =
+    rw told (subst (λ (w : PartitionView K V I). IsGiveUp old w slot c now) (sym is) (dropped-event old slot c now x here (event-set keeps cmp old slot c now (open-here old slot c x here).low (keyless-here old slot c x here) None)))
 
 pub drops-pend : {K V I : Type 0} (cmp : K → K → Ordering) (old new : PartitionView K V I) (slot c now : ℕ) (r : Result (Unit {0}) Refused) → Drops old new slot c now r → AllPend cmp old.core new.core
 drops-pend cmp old new slot c now r (Drops.unknown none same told) = rw same (λ s d. refl)
-drops-pend cmp old new slot c now r (Drops.drops x here is told) = rw is (λ s d. refl)
+drops-pend cmp old new slot c now r (Drops.drops x here is told) = rw is (dropped-pends cmp old slot c now (keyless-here old slot c x here))
 
 -- whether a page waits to be written is the same of a partition that is the same
 pub due-same : {K V I P : Type 0} {u v : PartitionView K V I} → u ≡ v → P ↔ (u.core.records.waiting ≡ []) → P ↔ (v.core.records.waiting ≡ [])
@@ -173,11 +175,11 @@ module _ {K V I : Type 0} (old : PartitionView K V I) (slot c : ℕ) where
   waits-relocation x here page (WaitsFor.relocation w) = w
 
 module _ {K V I O R : Type 0} (stands : R → Standing) (spells : ℕ → List ℕ → ℕ → Entry K V → Type 0) (cmp : K → K → Ordering) (join : V → V → V) (f : Meanings K V I O) (code : K → ℕ) (old new : PartitionView K V I) (slot c now : ℕ) {before after_ : ℕ} {r : Result (Progress K V I O R) Refused} where
-  pub reads-key : relocation_at old slot c ≡ None → new ≡ with_core old new.core → key_loading.LoadsBy stands spells cmp join f old.core new.core slot c now before after_ r
+  pub reads-key : relocation_at old slot c ≡ None → IsPassedOn old new → key_loading.LoadsBy stands spells cmp join f old.core new.core slot c now before after_ r
       → LoadsBy stands spells cmp join f code old new slot c now before after_ r
   reads-key none rest (ReadsBy.idle unasked all same) = ReadsBy.idle (λ page w. unasked page (waits-key old slot c none page w)) (λ came. Loads.on_key none (all came) rest) same
   reads-key none rest (ReadsBy.came page p at own does same) = ReadsBy.came page p (WaitsFor.on_key none at) own (Loads.on_key none does rest) same
-  reads-key none rest (ReadsBy.failed page why at fails is told) = ReadsBy.failed page why (WaitsFor.on_key none at) fails (rest ∙ ap (with_core old) is) told
+  reads-key none rest (ReadsBy.failed page why at fails is told) = ReadsBy.failed page why (WaitsFor.on_key none at) fails (rest.is ∙ ap (with_core old) is) told
 
   pub reads-relocation : (x : Relocation K V) → relocation_at old slot c ≡ Some x → LoadsOnBy stands spells cmp join code old new slot c now before after_ r
       → LoadsBy stands spells cmp join f code old new slot c now before after_ r

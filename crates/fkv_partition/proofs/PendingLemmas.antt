@@ -24,12 +24,12 @@ use Rattle.fkv_partition.specs.CoreViews.{CoreView, slots_of, context_at, with_c
 use Rattle.fkv_partition.specs.CoreEffect.{asked_by, LeavesOthers, IsLoaded}
 use Rattle.fkv_partition.specs.Pending.{pending_of, pending, OthersPend}
 use Rattle.fkv_partition.specs.CoreLoading.{AwaitsPage, MayLoad}
-use Rattle.fkv_partition.proofs.AskedLemmas.{open_at, context-other, asked-same, asked-other, context-same}
+use Rattle.fkv_partition.proofs.AskedLemmas.{asked-same, asked-other, context-same, context-apart}
 
 module _ {K V I : Type 0} (cmp : K → K → Ordering) (v : CoreView K V I) (slot c now : ℕ) (x : Context K V I) (h : context_at v slot c ≡ Some x) where
   -- one context is set
   pub others-pend : (y : Option (Context K V I)) → OthersPend cmp v (with_context v slot c y now) slot c
-  others-pend y s d o = ap (pending_of cmp v.records) (context-other (slots_of v) v.contexts slot c s d y (open_at (slots_of v) v.contexts slot c x h).low o)
+  others-pend y s d o = ap (pending_of cmp v.records) (context-apart v slot c now x h y s d o)
 
   pub same-pend : (y : Option (Context K V I)) → pending cmp (with_context v slot c y now) slot c ≡ pending_of cmp v.records y
   same-pend y = ap (pending_of cmp v.records) (context-same v slot c now x h y)

@@ -1,5 +1,5 @@
 -- What the rules of a relocation leave in its context, and where they refuse.
-use Rattle.std.proofs.Common.{◌≡◌, Bool, ℕ, ◌+◌, ◌*◌, ◌⊎◌, inl, inr, List, Option, Some, None, Result, Ok, Err, slice_set, subst, refl, sym, ◌∙◌, ap}
+use Rattle.std.proofs.Common.{◌≡◌, Bool, ℕ, ◌+◌, ◌*◌, ◌⊎◌, inl, inr, List, Option, Some, None, option_map, Result, Ok, Err, slice_set, subst, refl, sym, ◌∙◌, ap}
 use Rattle.std.specs.declared.cmp.Ordering.{Ordering}
 use Rattle.fkv_functions.specs.declared.refusals.Refused.{Refused}
 use Rattle.fkv_device.specs.Standing.{Standing, Joined}
@@ -9,9 +9,11 @@ use Rattle.fkv_operations.specs.declared.entries.IndexEntry.{IndexEntry}
 use Rattle.fkv_partition.specs.declared.contexts.Progress.{Progress}
 use Rattle.fkv_partition.specs.declared.contexts.Progress.TheVariants.{Done, Next, NeedsLoad, Waits}
 use Rattle.fkv_partition.specs.declared.contexts.Wait.TheVariants.{Full}
-use Rattle.fkv_partition.specs.CoreContexts.{context_in}
+use Rattle.fkv_partition.specs.CoreContexts.{context_in, relocating}
 use Rattle.fkv_partition.specs.Pending.{AllPend}
 use Rattle.fkv_partition.specs.CoreViews.{slots_of}
+use Rattle.fkv_partition.specs.declared.contexts.Open.{Open}
+use Rattle.fkv_partition.specs.declared.contexts.Open.TheVariants.{Relocating}
 use Rattle.fkv_partition.specs.declared.relocations.Relocation.{Relocation}
 use Rattle.fkv_partition.specs.declared.relocations.Stage.TheVariants.{Fresh}
 use Rattle.fkv_partition.specs.Effect.{IsGiveUp}
@@ -21,7 +23,7 @@ use Rattle.fkv_partition.specs.Reading.{LoadsOn}
 use Rattle.fkv_partition.specs.Sound.{IsCompacting}
 use Rattle.fkv_partition.specs.Views.{PartitionView, relocation_at, with_relocation, at_stage}
 use Rattle.fkv_partition.proofs.EffectLemmas.{Proceeds, set-here, dropped-event}
-use Rattle.fkv_partition.proofs.MoveLemmas.{event-set, open-here}
+use Rattle.fkv_partition.proofs.MoveLemmas.{event-set, open-here, keyless-here, dropped-pends}
 
 abbrev granted : {A : Type 0} → A → Result A Refused
 granted x = Ok x
@@ -35,11 +37,11 @@ proceeds-as x is now p q e h = subst (Proceeds x is now) (sym (ok-is p q e)) h
 
 module _ {K V I : Type 0} (old new : PartitionView K V I) (slot c now : ℕ) (x : Relocation K V) (h : relocation_at old slot c ≡ Some x) where
   -- its context holds this then, and the sessions are as they were
-  set-then : (y : Option (Relocation K V)) (v : PartitionView K V I) → new ≡ v → slots_of v.core ≡ slots_of old.core → v.relocations ≡ slice_set old.relocations (slot * 8 + c) y → relocation_at new slot c ≡ y
+  set-then : (y : Option (Relocation K V)) (v : PartitionView K V I) → new ≡ v → slots_of v.core ≡ slots_of old.core → v.core.contexts ≡ slice_set old.core.contexts (slot * 8 + c) (option_map Relocating y) → relocation_at new slot c ≡ y
   set-then y v is slots set =
       ap (λ (w : PartitionView K V I). relocation_at w slot c) is
-      ∙ ap (λ s. context_in s v.relocations slot c) slots
-      ∙ ap (λ rs. context_in (slots_of old.core) rs slot c) set
+      ∙ ap (λ s. relocating (context_in s v.core.contexts slot c)) slots
+      ∙ ap (λ (cs : List (Option (Open K V I))). relocating (context_in (slots_of old.core) cs slot c)) set
       ∙ set-here old slot c now x h y
 
   module _ {O R : Type 0} (progress : Progress K V I O R) where
@@ -142,15 +144,15 @@ loads_on-ends {K} {V} {I} {O} {R} {cmp} {join} {code} stands spells old new slot
 
 module _ {K V I : Type 0} (old new : PartitionView K V I) (slot c now : ℕ) (ends : (new ≡ old) ⊎ ((x : Relocation K V) × (relocation_at old slot c ≡ Some x) × (new ≡ with_relocation old slot c None now))) where
   -- so it is given up
-  pub ended-event : {keeps : Bool} {cmp : K → K → Ordering} {join : V → V → V} {code : K → ℕ} → IsCompacting keeps cmp join code old → (new ≡ old) ⊎ IsGiveUp old new slot c now
-  ended-event {keeps} {cmp} {join} {code} s = elim ends [
+  pub ended-event : (keeps : Bool) (cmp : K → K → Ordering) → (new ≡ old) ⊎ IsGiveUp old new slot c now
+  ended-event keeps cmp = elim ends [
     | inl same ↦ inl same
-    | inr e ↦ inr (subst (λ (w : PartitionView K V I). IsGiveUp old w slot c now) (sym e.2) (dropped-event old slot c now e.0 e.1 s (event-set keeps cmp old slot c now (open-here old slot c e.0 e.1).low None)))
+    | inr e ↦ inr (subst (λ (w : PartitionView K V I). IsGiveUp old w slot c now) (sym e.2) (dropped-event old slot c now e.0 e.1 (event-set keeps cmp old slot c now (open-here old slot c e.0 e.1).low (keyless-here old slot c e.0 e.1) None)))
   ]
 
   -- and look-ups are to find what they were to find
   pub ended-pends : (cmp : K → K → Ordering) → AllPend cmp old.core new.core
   ended-pends cmp = elim ends [
     | inl same ↦ rw same (λ s d. refl)
-    | inr e ↦ rw e.2 (λ s d. refl)
+    | inr e ↦ rw e.2 (dropped-pends cmp old slot c now (keyless-here old slot c e.0 e.1))
   ]

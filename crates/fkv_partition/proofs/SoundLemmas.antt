@@ -28,10 +28,13 @@ use Rattle.fkv_operations.specs.Still.{IsStill}
 use Rattle.fkv_operations.specs.declared.entries.IndexEntry.{IndexEntry}
 use Rattle.fkv_partition.specs.declared.limits.Config.{Config}
 use Rattle.fkv_partition.specs.declared.contexts.Context.{Context}
+use Rattle.fkv_partition.specs.declared.contexts.Open.{Open}
+use Rattle.fkv_partition.specs.declared.contexts.Open.TheVariants.{OnKey, Relocating}
+use Rattle.fkv_partition.specs.declared.relocations.Relocation.{Relocation}
 use Rattle.fkv_partition.specs.declared.contexts.Phase.TheVariants.{Confirm}
 use Rattle.fkv_partition.specs.CoreContexts.{joined, is_session, at_phase, claim_by, claim_of, claim_at}
 use Rattle.fkv_partition.specs.CoreClaiming.{AreOwned}
-use Rattle.fkv_partition.specs.CoreViews.{CoreView, slots_of, empty_core, partition_of, with_context, with_payload, with_replaced, in_regions}
+use Rattle.fkv_partition.specs.CoreViews.{CoreView, slots_of, empty_core, partition_of, with_open, relocated, with_context, with_payload, with_replaced, in_regions}
 use Rattle.fkv_partition.specs.CoreSound.{StandsFor, IsSound}
 use Rattle.fkv_functions.proofs.ListLemmas.{get-set_cases, get-set_same, get-set_other, get-append_cases}
 use Rattle.fkv_texts.proofs.ChangeLemmas.{was_at, set_at-key}
@@ -52,19 +55,19 @@ module _ {K V I : Type 0} {keeps : Bool} {cmp : K → K → Ordering} {join : V 
     places = refl;
     traced = traced;
     stood = stood;
-    stands = λ p x e. absurd (none_in 128 p x e);
+    stands = λ p x e. absurd (none_in 128 p (OnKey x) e);
     owned = record {
       tentative = λ p q e. absurd (none_claims 128 p q e);
       owner = λ q e. absurd (let no = sym (quiet q) ∙ e in cc);
       one = λ p r q e f. absurd (none_claims 128 p q e);
     };
     routed = λ i e k. absurd (cc);
-    asked = λ p x e. absurd (none_in 128 p x e);
-    merging = λ p x e. absurd (none_in 128 p x e);
+    asked = λ p x e. absurd (none_in 128 p (OnKey x) e);
+    merging = λ p x e. absurd (none_in 128 p (OnKey x) e);
     housed = λ slot c x h e. absurd (none_in 128 (slot * 8 + c) x e);
   }
     where
-      none_in : (n p : ℕ) (x : Context K V I) → slice_get (replicate n None) p ≡ Some (Some x) → ⊥
+      none_in : (n p : ℕ) (x : Open K V I) → slice_get (replicate n None) p ≡ Some (Some x) → ⊥
       none_in zero p x e = cc
       none_in (suc n) zero x e = cc
       none_in (suc n) (suc p) x e = none_in n p x e
@@ -83,7 +86,7 @@ module _ {K V I : Type 0} {keeps : Bool} {cmp : K → K → Ordering} {join : V 
         → IsTraced keeps code (with_regions v.records regions)
         → IsStood cmp join (with_regions v.records regions)
         → IsRaised v.records.regions.offsets regions.offsets
-        → ((t c : ℕ) (x : Context K V I) → c < 8 → slice_get v.contexts (t * 8 + c) ≡ Some (Some x) → is_session regions.epochs.slots t ≡ true)
+        → ((t c : ℕ) (x : Open K V I) → c < 8 → slice_get v.contexts (t * 8 + c) ≡ Some (Some x) → is_session regions.epochs.slots t ≡ true)
         → IsSound keeps cmp join code (in_regions v regions now)
     sound-regions regions now traced stood up housed = record {
       own = s.own;
@@ -105,7 +108,7 @@ module _ {K V I : Type 0} {keeps : Bool} {cmp : K → K → Ordering} {join : V 
         → IsStood cmp join r
         → IsMoved keeps regions v.records r
         → IsRaised v.records.regions.offsets r.regions.offsets
-        → ((t c : ℕ) (x : Context K V I) → c < 8 → slice_get v.contexts (t * 8 + c) ≡ Some (Some x) → is_session r.regions.epochs.slots t ≡ true)
+        → ((t c : ℕ) (x : Open K V I) → c < 8 → slice_get v.contexts (t * 8 + c) ≡ Some (Some x) → is_session r.regions.epochs.slots t ≡ true)
         → IsSound keeps cmp join code (record v { records = r; moment = now })
     sound-moved r regions now traced stood m up housed = record {
       own = s.own;
@@ -142,64 +145,69 @@ module _ {K V I : Type 0} {keeps : Bool} {cmp : K → K → Ordering} {join : V 
       housed = s.housed;
     }
 
-    -- an operation that may stand in a context of a session that is entered
-    pub record Fits (r : RecordsView K V) (slot c : ℕ) (x : Context K V I) : Type 0 where
+    -- an operation on a key that may stand in a context
+    pub record Fits (r : RecordsView K V) (x : Context K V I) : Type 0 where
       pub stands : StandsFor keeps cmp join code r x.op x.phase
       pub own : partition_of v.count (code (key_of x.op)) ≡ v.number
       pub merging : is_merge x.op ≡ true → v.merges ≡ true
+
+    -- a context of a session that is entered
+    pub record Houses (slot c : ℕ) : Type 0 where
       pub inside : is_session (slots_of v) slot ≡ true
       pub low : c < 8
 
     -- what is asked of records that take the place of others, where a context is set
-    pub record Suits (r : RecordsView K V) (slot c : ℕ) (y : Option (Context K V I)) : Type 0 where
+    pub record Suits (r : RecordsView K V) (slot c : ℕ) (y : Option (Open K V I)) : Type 0 where
       pub traced : IsTraced keeps code r
       pub stood : IsStood cmp join r
       pub bits : r.partition_bits ≡ v.records.partition_bits
       pub regions : r.regions ≡ v.records.regions
       pub routed : (i : ℕ) (e : Entry K V) → slice_get r.entries i ≡ Some e → partition_of v.count (code e.key) ≡ v.number
-      pub others : (p : ℕ) (x : Context K V I) → p ≢ slot * 8 + c → slice_get v.contexts p ≡ Some (Some x) → StandsFor keeps cmp join code r x.op x.phase
+      pub others : (p : ℕ) (x : Context K V I) → p ≢ slot * 8 + c → slice_get v.contexts p ≡ Some (Some (OnKey x)) → StandsFor keeps cmp join code r x.op x.phase
       pub owned : AreOwned r.words (slice_set v.contexts (slot * 8 + c) y)
 
     -- a context is set, and the records change
-    pub sound-changed : (r : RecordsView K V) (slot c now : ℕ) (y : Option (Context K V I)) → Suits r slot c y → ((x : Context K V I) → y ≡ Some x → Fits r slot c x)
-        → IsSound keeps cmp join code (record (with_context v slot c y now) { records = r })
-    sound-changed r slot c now y suits fits = record {
+    pub sound-changed : (r : RecordsView K V) (slot c now : ℕ) (y : Option (Open K V I)) → Suits r slot c y
+        → ((z : Open K V I) → y ≡ Some z → Houses slot c)
+        → ((x : Context K V I) → y ≡ Some (OnKey x) → Fits r x)
+        → IsSound keeps cmp join code (record (with_open v slot c y now) { records = r })
+    sound-changed r slot c now y suits houses fits = record {
       own = s.own;
       counted = s.counted ∙ ap (λ n. 2 ^ n) (sym suits.bits);
       places = length-set v.contexts (slot * 8 + c) y ∙ s.places;
       traced = suits.traced;
       stood = suits.stood;
       stands = λ p x h. elim (cases_eq p (slot * 8 + c)) [
-        | inl here ↦ (fits x (new p x here h)).stands
+        | inl here ↦ (fits x (new p (OnKey x) here h)).stands
         | inr other ↦ suits.others p x other (sym (get-set_other v.contexts (slot * 8 + c) p y other) ∙ h)
       ];
       owned = suits.owned;
       routed = suits.routed;
-      asked = λ p x h. elim (get-set_cases v.contexts (slot * 8 + c) p y (Some x) h) [
+      asked = λ p x h. elim (get-set_cases v.contexts (slot * 8 + c) p y (Some (OnKey x)) h) [
         | inl e ↦ (fits x e.1).own
         | inr o ↦ s.asked p x o
       ];
-      merging = λ p x h. elim (get-set_cases v.contexts (slot * 8 + c) p y (Some x) h) [
+      merging = λ p x h. elim (get-set_cases v.contexts (slot * 8 + c) p y (Some (OnKey x)) h) [
         | inl e ↦ (fits x e.1).merging
         | inr o ↦ s.merging p x o
       ];
-      housed = λ t d x h e. elim (get-set_cases v.contexts (slot * 8 + c) (t * 8 + d) y (Some x) e) [
-        | inl p ↦ (let f = fits x p.1 in
+      housed = λ t d z h e. elim (get-set_cases v.contexts (slot * 8 + c) (t * 8 + d) y (Some z) e) [
+        | inl p ↦ (let f = houses z p.1 in
             let low : c < 8 = f.low in
             let one : t ≡ slot = (let q : t * 8 + d ≡ slot * 8 + c = p.0 in omega arith) in
             ap (λ (g : RegionsView). is_session g.epochs.slots t) suits.regions ∙ ap (λ n. is_session (slots_of v) n) one ∙ f.inside)
-        | inr o ↦ ap (λ (g : RegionsView). is_session g.epochs.slots t) suits.regions ∙ s.housed t d x h o
+        | inr o ↦ ap (λ (g : RegionsView). is_session g.epochs.slots t) suits.regions ∙ s.housed t d z h o
       ];
     }
       where
-        new : (p : ℕ) (x : Context K V I) → p ≡ slot * 8 + c → slice_get (slice_set v.contexts (slot * 8 + c) y) p ≡ Some (Some x) → y ≡ Some x
-        new p x here h = elim (get-set_cases v.contexts (slot * 8 + c) p y (Some x) h) [
+        new : (p : ℕ) (z : Open K V I) → p ≡ slot * 8 + c → slice_get (slice_set v.contexts (slot * 8 + c) y) p ≡ Some (Some z) → y ≡ Some z
+        new p z here h = elim (get-set_cases v.contexts (slot * 8 + c) p y (Some z) h) [
           | inl e ↦ e.1
-          | inr o ↦ set-at v.contexts (slot * 8 + c) y x (ap (slice_get v.contexts) (sym here) ∙ o) (ap (slice_get (slice_set v.contexts (slot * 8 + c) y)) (sym here) ∙ h)
+          | inr o ↦ set-at v.contexts (slot * 8 + c) y z (ap (slice_get v.contexts) (sym here) ∙ o) (ap (slice_get (slice_set v.contexts (slot * 8 + c) y)) (sym here) ∙ h)
         ]
 
     -- nothing but a context is set, to one that claims nothing as the one before
-    same-records : (slot c : ℕ) (y : Option (Context K V I)) → claim_at v.contexts (slot * 8 + c) ≡ None → claim_of y ≡ None → Suits v.records slot c y
+    same-records : (slot c : ℕ) (y : Option (Open K V I)) → claim_at v.contexts (slot * 8 + c) ≡ None → claim_of y ≡ None → Suits v.records slot c y
     same-records slot c y old quiet = record {
       traced = s.traced;
       stood = s.stood;
@@ -210,18 +218,23 @@ module _ {K V I : Type 0} {keeps : Bool} {cmp : K → K → Ordering} {join : V 
       owned = owned-quiet v.records.words v.records.words v.contexts (slot * 8 + c) y s.owned (λ q. refl) old quiet;
     }
 
-    pub sound-context : (slot c now : ℕ) (x : Context K V I) → claim_at v.contexts (slot * 8 + c) ≡ None → claim_by x.phase ≡ None → Fits v.records slot c x → IsSound keeps cmp join code (with_context v slot c (Some x) now)
-    sound-context slot c now x old quiet fits =
-        sound-changed v.records slot c now (Some x) (same-records slot c (Some x) old quiet) (λ y e. (let same : x ≡ y = cc in subst (Fits v.records slot c) same fits))
+    pub sound-context : (slot c now : ℕ) (x : Context K V I) → claim_at v.contexts (slot * 8 + c) ≡ None → claim_by x.phase ≡ None → Houses slot c → Fits v.records x → IsSound keeps cmp join code (with_context v slot c (Some x) now)
+    sound-context slot c now x old quiet houses fits =
+        sound-changed v.records slot c now (Some (OnKey x)) (same-records slot c (Some (OnKey x)) old quiet) (λ z e. houses) (λ y e. (let same : x ≡ y = cc in subst (Fits v.records) same fits))
 
-    pub sound-freed : (slot c now : ℕ) → claim_at v.contexts (slot * 8 + c) ≡ None → IsSound keeps cmp join code (with_context v slot c None now)
-    sound-freed slot c now old = sound-changed v.records slot c now None (same-records slot c None old refl) (λ y e. absurd (cc))
+    -- a relocation is set
+    pub sound-relocated : (slot c now : ℕ) (x : Relocation K V) → claim_at v.contexts (slot * 8 + c) ≡ None → Houses slot c → IsSound keeps cmp join code (relocated v slot c (Some x) now)
+    sound-relocated slot c now x old houses =
+        sound-changed v.records slot c now (Some (Relocating x)) (same-records slot c (Some (Relocating x)) old refl) (λ z e. houses) (λ y e. absurd (cc))
+
+    pub sound-freed : (slot c now : ℕ) → claim_at v.contexts (slot * 8 + c) ≡ None → IsSound keeps cmp join code (with_open v slot c None now)
+    sound-freed slot c now old = sound-changed v.records slot c now None (same-records slot c None old refl) (λ z e. absurd (cc)) (λ y e. absurd (cc))
 
     -- ---- the records change too
     -- the words change at one place alone, and an operation in another context claims another
     others-stand : (r : RecordsView K V) (slot c : ℕ) (q : Place) → Grows keeps cmp join code v.records r → ChangesAt q v.records.words r.words
         → ((p : ℕ) → p ≢ slot * 8 + c → claim_at v.contexts p ≢ Some q)
-        → (p : ℕ) (x : Context K V I) → p ≢ slot * 8 + c → slice_get v.contexts p ≡ Some (Some x) → StandsFor keeps cmp join code r x.op x.phase
+        → (p : ℕ) (x : Context K V I) → p ≢ slot * 8 + c → slice_get v.contexts p ≡ Some (Some (OnKey x)) → StandsFor keeps cmp join code r x.op x.phase
     others-stand r slot c q grown words none p x n h =
         let mine : claim_at v.contexts p ≡ claim_by x.phase = ap (λ o. claim_of (joined o)) h in
         stands-grown keeps cmp join code v.records r x.op x.phase s.traced grown (λ z e. words.others z (λ same. none p n (mine ∙ e ∙ ap Some same))) (s.stands p x h)
@@ -237,23 +250,24 @@ module _ {K V I : Type 0} {keeps : Bool} {cmp : K → K → Ordering} {join : V 
         → r.entries ≡ v.records.entries
         → is_tentative (word_at v.records.words q) ≡ false
         → IsTrue (is_tentative (word_at r.words q))
-        → slice_get v.contexts (slot * 8 + c) ≡ Some (Some x)
+        → slice_get v.contexts (slot * 8 + c) ≡ Some (Some (OnKey x))
         → claim_by x.phase ≡ None
-        → Fits r slot c (at_phase x (Confirm q))
+        → Houses slot c
+        → Fits r (at_phase x (Confirm q))
         → IsSound keeps cmp join code (record (with_context v slot c (Some (at_phase x (Confirm q))) now) { records = r })
-    sound-claimed r slot c now x q traced stood grown words bits regions text was is here quiet fits =
-        sound-changed r slot c now (Some (at_phase x (Confirm q))) (record {
+    sound-claimed r slot c now x q traced stood grown words bits regions text was is here quiet houses fits =
+        sound-changed r slot c now (Some (OnKey (at_phase x (Confirm q)))) (record {
           traced = traced;
           stood = stood;
           bits = bits;
           regions = regions;
           routed = λ i e h. s.routed i e (ap (λ t. slice_get t i) (sym text) ∙ h);
           others = others-stand r slot c q grown words (λ p n e. (let no = sym was ∙ s.owned.tentative p q e in absurd (cc)));
-          owned = owned-claimed v.records.words r.words v.contexts (slot * 8 + c) (Some (at_phase x (Confirm q))) s.owned q (Some x) words was is here quiet refl;
-        }) (λ y e. (let same : at_phase x (Confirm q) ≡ y = cc in subst (Fits r slot c) same fits))
+          owned = owned-claimed v.records.words r.words v.contexts (slot * 8 + c) (Some (OnKey (at_phase x (Confirm q)))) s.owned q (Some (OnKey x)) words was is here quiet refl;
+        }) (λ z e. houses) (λ y e. (let same : at_phase x (Confirm q) ≡ y = cc in subst (Fits r) same fits))
 
     -- and the operation that made it claims it no more
-    pub sound-settled : (r : RecordsView K V) (slot c now : ℕ) (x : Context K V I) (q : Place) (y : Option (Context K V I))
+    pub sound-settled : (r : RecordsView K V) (slot c now : ℕ) (x : Context K V I) (q : Place) (y : Option (Open K V I))
         → IsTraced keeps code r
         → IsStood cmp join r
         → Grows keeps cmp join code v.records r
@@ -262,12 +276,13 @@ module _ {K V I : Type 0} {keeps : Bool} {cmp : K → K → Ordering} {join : V 
         → r.regions ≡ v.records.regions
         → r.entries ≡ v.records.entries
         → is_tentative (word_at r.words q) ≡ false
-        → slice_get v.contexts (slot * 8 + c) ≡ Some (Some x)
+        → slice_get v.contexts (slot * 8 + c) ≡ Some (Some (OnKey x))
         → x.phase ≡ Confirm q
         → claim_of y ≡ None
-        → ((z : Context K V I) → y ≡ Some z → Fits r slot c z)
-        → IsSound keeps cmp join code (record (with_context v slot c y now) { records = r })
-    sound-settled r slot c now x q y traced stood grown words bits regions text freed here phase quiet fits =
+        → Houses slot c
+        → ((z : Context K V I) → y ≡ Some (OnKey z) → Fits r z)
+        → IsSound keeps cmp join code (record (with_open v slot c y now) { records = r })
+    sound-settled r slot c now x q y traced stood grown words bits regions text freed here phase quiet houses fits =
         let mine : claim_at v.contexts (slot * 8 + c) ≡ Some q = ap (λ o. claim_of (joined o)) here ∙ ap claim_by phase in
         sound-changed r slot c now y (record {
           traced = traced;
@@ -276,8 +291,8 @@ module _ {K V I : Type 0} {keeps : Bool} {cmp : K → K → Ordering} {join : V 
           regions = regions;
           routed = λ i e h. s.routed i e (ap (λ t. slice_get t i) (sym text) ∙ h);
           others = others-stand r slot c q grown words (λ p n e. n (s.owned.one p (slot * 8 + c) q e mine));
-          owned = owned-freed v.records.words r.words v.contexts (slot * 8 + c) y s.owned q (Some x) words freed here (ap claim_by phase) quiet;
-        }) fits
+          owned = owned-freed v.records.words r.words v.contexts (slot * 8 + c) y s.owned q (Some (OnKey x)) words freed here (ap claim_by phase) quiet;
+        }) (λ z e. houses) fits
 
     -- a record at the tail, of a key that belongs here
     pub sound-appended : (slot c now : ℕ) (e : IndexEntry) (k : K) (payload : Payload V) (has : Option V)
@@ -302,7 +317,7 @@ module _ {K V I : Type 0} {keeps : Bool} {cmp : K → K → Ordering} {join : V 
           others = others-stand (with_written v.records e k payload has) slot c e.place (grown-appended cmp join code v.records s.traced e k payload has entry.place) words
               (λ p n h. (let no = sym (final_not_tentative (word_at v.records.words e.place) (ap is_final entry.word ∙ entry.final)) ∙ s.owned.tentative p e.place h in absurd (cc)));
           owned = owned-quiet v.records.words (with_written v.records e k payload has).words v.contexts (slot * 8 + c) None s.owned same old refl;
-        }) (λ y h. absurd (cc))
+        }) (λ z h. absurd (cc)) (λ y h. absurd (cc))
       where
         last : Entry K V
         last = record { address = v.records.tail; previous = address_of e.word; key = k; value = value_in payload; delta = is_part payload }
@@ -327,7 +342,7 @@ module _ {K V I : Type 0} {keeps : Bool} {cmp : K → K → Ordering} {join : V 
               (ap (λ k. partition_of v.count (code k)) (set_at-key a value was.entry) ∙ s.routed i was.entry was.here);
           others = λ p x n h. stands-grown keeps cmp join code v.records (with_value v.records a value) x.op x.phase s.traced (grown-replaced cmp join code v.records s.traced a value high kept) (λ q e. refl) (s.stands p x h);
           owned = owned-quiet v.records.words v.records.words v.contexts (slot * 8 + c) None s.owned (λ q. refl) old refl;
-        }) (λ y h. absurd (cc))
+        }) (λ z h. absurd (cc)) (λ y h. absurd (cc))
 
     -- the same where no context changes
     pub sound-revalued : (now a : ℕ) (value : Option V)
@@ -339,7 +354,7 @@ module _ {K V I : Type 0} {keeps : Bool} {cmp : K → K → Ordering} {join : V 
     sound-revalued now a value high traced stood kept =
         let long : length v.contexts ≤ 16 * 8 + 0 = omega (arith, s.places) in
         let past : slice_get v.contexts (16 * 8 + 0) ≡ None = slice_get_past v.contexts (16 * 8 + 0) long in
-        subst (λ (cs : List (Option (Context K V I))). IsSound keeps cmp join code (record v { contexts = cs; records = with_value v.records a value; moment = now }))
+        subst (λ (cs : List (Option (Open K V I))). IsSound keeps cmp join code (record v { contexts = cs; records = with_value v.records a value; moment = now }))
         (set-past v.contexts (16 * 8 + 0) None long)
         (sound-replaced 16 0 now a value (ap (λ o. claim_of (joined o)) past) high traced stood kept)
 

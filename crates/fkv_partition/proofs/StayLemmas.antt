@@ -23,12 +23,14 @@ use Rattle.fkv_lookups.specs.declared.payloads.Payload.{Payload}
 use Rattle.fkv_lookups.specs.declared.payloads.Payload.TheVariants.{Whole}
 use Rattle.fkv_lookups.specs.Payloads.{standing}
 use Rattle.fkv_partition.specs.declared.contexts.Context.{Context}
+use Rattle.fkv_partition.specs.declared.contexts.Open.{Open}
+use Rattle.fkv_partition.specs.declared.contexts.Open.TheVariants.{OnKey}
 use Rattle.fkv_partition.specs.declared.contexts.Loading.{Loading}
 use Rattle.fkv_partition.specs.declared.contexts.Phase.{Phase}
 use Rattle.fkv_partition.specs.declared.contexts.Phase.TheVariants.{Fresh, Confirm, Prepared, Load}
 use Rattle.fkv_partition.specs.declared.contexts.Progress.{Progress}
-use Rattle.fkv_partition.specs.CoreContexts.{joined, context_in}
-use Rattle.fkv_partition.specs.CoreViews.{CoreView, slots_of, context_at, with_context, in_regions, live_of, MovesTo}
+use Rattle.fkv_partition.specs.CoreContexts.{joined, context_in, on_key, at_phase}
+use Rattle.fkv_partition.specs.CoreViews.{CoreView, slots_of, context_at, with_context, in_regions, live_of, MovesTo, held_at}
 use Rattle.fkv_partition.specs.CoreSound.{IsLoading, StandsFor, IsSound}
 use Rattle.fkv_partition.specs.CoreBeginning.{Enters, Issues}
 use Rattle.fkv_partition.specs.CoreEnding.{Leaves, GivesUp}
@@ -40,7 +42,7 @@ use Rattle.fkv_partition.specs.CoreLoading.{Loads}
 use Rattle.fkv_partition.specs.CoreEffect.{asked_by, IsGiveUp}
 use Rattle.fkv_partition.specs.Frozen.{FrozenStay}
 use Rattle.fkv_partition.specs.Pending.{Pending, pending_by, pending_of, pending, OthersPend, AllPend}
-use Rattle.fkv_partition.proofs.AskedLemmas.{open_at, asked-same, context-other, context-inside}
+use Rattle.fkv_partition.proofs.AskedLemmas.{asked-same, context-apart, context-inside, shown-stays}
 use Rattle.fkv_partition.proofs.EventLemmas.{stands-at, refreshed-same, left-same, entered-same, same_or}
 use Rattle.fkv_partition.proofs.PendingLemmas.{others-pend, frame-of}
 
@@ -97,8 +99,8 @@ module _ {K V I : Type 0} {keeps : Bool} (cmp : K → K → Ordering) (join : V 
   pub changed-others : (slot c now : ℕ) (x : Context K V I) → context_at v slot c ≡ Some x → (y : Option (Context K V I)) (r : RecordsView K V) → r.begin ≡ v.records.begin → r.regions ≡ v.records.regions → KeepsStill cmp v.records r
       → OthersPend cmp v (record (with_context v slot c y now) { records = r }) slot c
   changed-others slot c now x h y r begin regions kept t d o =
-      ap (λ (g : RegionsView). pending_of cmp r (context_in g.epochs.slots (with_context v slot c y now).contexts t d)) regions
-      ∙ ap (pending_of cmp r) (context-other (slots_of v) v.contexts slot c t d y (open_at (slots_of v) v.contexts slot c x h).low o)
+      ap (λ (g : RegionsView). pending_of cmp r (on_key (context_in g.epochs.slots (with_context v slot c y now).contexts t d))) regions
+      ∙ ap (pending_of cmp r) (context-apart v slot c now x h y t d o)
       ∙ all-kept r begin kept t d
 
   -- the new partition is another one, of which this is known
@@ -122,18 +124,18 @@ module _ {K V I : Type 0} {keeps : Bool} (cmp : K → K → Ordering) (join : V 
     goes-others stands f result grows changes (Goes.unknown h is r) = as-others new v slot c is (λ t d o. refl)
     goes-others stands f result grows changes (Goes.asks x e ask h q is r) = as-others new _ slot c is (λ t d o. refl)
     goes-others stands f result grows changes (Goes.not_ready x l h phase is r) = as-others new v slot c is (λ t d o. refl)
-    goes-others stands f result grows changes (Goes.confirms x p h phase alone is r) = reworded x h _ _ refl is
-    goes-others stands f result grows changes (Goes.backs_off x p h phase alone is r) = reworded x h _ _ refl is
+    goes-others stands f result grows changes (Goes.confirms x p h phase alone is r) = reworded x h (Some (at_phase x Fresh)) _ refl is
+    goes-others stands f result grows changes (Goes.backs_off x p h phase alone is r) = reworded x h (Some (at_phase x Fresh)) _ refl is
     goes-others stands f result grows changes (Goes.done x t d is r) = set x d.here None is
-    goes-others stands f result grows changes (Goes.claims x d is r) = reworded x d.here _ is.records (is.claims.is ∙ ap (λ (w : RecordsView K V). record v.records { words = w.words }) (sym is.claims.is)) is.is
+    goes-others stands f result grows changes (Goes.claims x d is r) = reworded x d.here (Some (at_phase x (Confirm is.place))) is.records (is.claims.is ∙ ap (λ (w : RecordsView K V). record v.records { words = w.words }) (sym is.claims.is)) is.is
     goes-others stands f result grows changes (Goes.unclaimed x d full is r) = as-others new v slot c is (λ t d o. refl)
     goes-others stands f result grows changes (Goes.appends x value t e d entry room free is r) = as-others new _ slot c is (changed-others slot c now x d.here None (with_written v.records e (key_of x.op) value (standing join (live_of cmp v (key_of x.op)) value)) refl refl (λ k a low still. grows e (key_of x.op) value (standing join (live_of cmp v (key_of x.op)) value) k a low))
     goes-others stands f result grows changes (Goes.worn x value t d room is r) = as-others new v slot c is (λ t d o. refl)
     goes-others stands f result grows changes (Goes.full x value t d room is r) = as-others new _ slot c is (λ t d o. refl)
     goes-others stands f result grows changes (Goes.replaces x value t e d last is r) = as-others new _ slot c is (changed-others slot c now x d.here None (with_value v.records e.address value) refl refl (changes x value t e d last))
     goes-others stands f result grows changes (Goes.waits x d is r) = as-others new _ slot c is (λ t d o. refl)
-    goes-others stands f result grows changes (Goes.prepares x source i e d entry is r) = set x d.here _ is
-    goes-others stands f result grows changes (Goes.asks_page x b parts e p d entry held is r) = set x d.here _ is
+    goes-others stands f result grows changes (Goes.prepares x source i e d entry is r) = set x d.here (Some (at_phase x (Prepared e source))) is
+    goes-others stands f result grows changes (Goes.asks_page x b parts e p d entry held is r) = set x d.here (Some (at_phase x (Load (record { begin = v.records.begin; kept = e; wanted = b; parts = parts; looked = now })))) is
     goes-others stands f result grows changes (Goes.unshared x b parts d is r) = as-others new v slot c is (λ t d o. refl)
 
     pub installs-others : {O R : Type 0} (f : Meanings K V I O) (ask : Ask K V I) (result : Result (Progress K V I O R) Refused)
@@ -143,20 +145,20 @@ module _ {K V I : Type 0} {keeps : Bool} (cmp : K → K → Ordering) (join : V 
     installs-others f ask result grows (Installs.unknown h is r) = as-others new v slot c is (λ t d o. refl)
     installs-others f ask result grows (Installs.not_ready x h q is r) = as-others new v slot c is (λ t d o. refl)
     installs-others f ask result grows (Installs.stranger x e mine h q n is r) = as-others new v slot c is (λ t d o. refl)
-    installs-others f ask result grows (Installs.moved x e h q n is r) = set x h _ is
-    installs-others f ask result grows (Installs.declined x e h q n u is r) = set x h _ is
+    installs-others f ask result grows (Installs.moved x e h q n is r) = set x h (Some (at_phase x Fresh)) is
+    installs-others f ask result grows (Installs.declined x e h q n u is r) = set x h None is
     installs-others f ask result grows (Installs.worn x e value h q n u room is r) = as-others new v slot c is (λ t d o. refl)
     installs-others f ask result grows (Installs.full x e value h q n u room is r) = as-others new _ slot c is (λ t d o. refl)
     installs-others f ask result grows (Installs.done x e value h q n u room free is r) = as-others new _ slot c is (changed-others slot c now x h None (with_written v.records e ask.key (Whole (Some value)) (Some value)) refl refl (λ k a low still. grows e ask.key (Whole (Some value)) (Some value) k a low))
 
 -- ---- pages move
 pub moved-all : {K V I : Type 0} (keeps : Bool) (cmp : K → K → Ordering) (regions : RegionsView) (old new : CoreView K V I) (now : ℕ) → IsTrue keeps → MovesTo keeps regions old new now
-    → ((t d : ℕ) → context_in regions.epochs.slots old.contexts t d ≡ context_at old t d)
+    → ((t d : ℕ) → context_in regions.epochs.slots old.contexts t d ≡ held_at old t d)
     → AllPend cmp old new
 moved-all keeps cmp regions old new now yes_keeps m same t d =
     ap (λ (w : CoreView _ _ _). pending cmp w t d) m.is
-    ∙ ap (λ (r : RecordsView _ _). pending_of cmp new.records (context_in r.regions.epochs.slots old.contexts t d)) m.moves.is
-    ∙ ap (pending_of cmp new.records) (same t d)
+    ∙ ap (λ (r : RecordsView _ _). pending_of cmp new.records (on_key (context_in r.regions.epochs.slots old.contexts t d))) m.moves.is
+    ∙ ap (λ o. pending_of cmp new.records (on_key o)) (same t d)
     ∙ pending-same cmp old.records new.records (context_at old t d) (ap (λ (r : RecordsView _ _). r.begin) m.moves.is) (m.moves.kept yes_keeps)
 
 as-all : {K V I : Type 0} (cmp : K → K → Ordering) (old new : CoreView K V I) → new ≡ old → AllPend cmp old new
@@ -199,31 +201,15 @@ pub enters-all : {K V I : Type 0} {keeps : Bool} (cmp : K → K → Ordering) (j
 enters-all cmp join code old new now result s (Enters.full h is r) = as-all cmp old new is
 enters-all cmp join code old new now result s (Enters.enters slot h is r) = λ t d.
     ap (λ (w : CoreView _ _ _). pending cmp w t d) is
-    ∙ ap (pending_of cmp (in_regions old (entered old.records.regions slot) now).records) (entered-same cmp join code old s slot h t d)
+    ∙ ap (λ o. pending_of cmp (in_regions old (entered old.records.regions slot) now).records (on_key o)) (entered-same cmp join code old s slot h t d)
     ∙ pending-same cmp old.records (in_regions old (entered old.records.regions slot) now).records (context_at old t d) refl refl
 
 -- a context that was free holds an operation that has not begun
 pub issues-all : {K V I : Type 0} (cmp : K → K → Ordering) (code : K → ℕ) (old new : CoreView K V I) (slot c : ℕ) (op : KeyedOp K V I) (now : ℕ) → Issues code old new slot c op now → AllPend cmp old new
-issues-all {K} {V} {I} cmp code old new slot c op now h = λ t d. ap (λ (w : CoreView K V I). pending cmp w t d) h.is ∙ elim (same_or t slot) [
-  | inl e ↦ elim (same_or d c) [
-    | inl f ↦ rw (e, f) (by_context (context_at (with_context old slot c fresh now) slot c) refl ∙ sym (ap (pending_of cmp old.records) h.free))
-    | inr m ↦ ap (pending_of cmp old.records) (context-other (slots_of old) old.contexts slot c t d fresh h.low (inr m))
-  ]
-  | inr m ↦ ap (pending_of cmp old.records) (context-other (slots_of old) old.contexts slot c t d fresh h.low (inl m))
-]
-  where
-    fresh : Option (Context K V I)
-    fresh = Some (record { number = now; op = op; phase = Fresh })
-
-    -- what stands there now is not open, or has not begun
-    by_context : (o : Option (Context K V I)) → context_at (with_context old slot c fresh now) slot c ≡ o → pending_of cmp old.records (context_at (with_context old slot c fresh now) slot c) ≡ None
-    by_context None k = ap (pending_of cmp old.records) k
-    by_context (Some x) k =
-        let o = open_at (slots_of old) (slice_set old.contexts (slot * 8 + c) fresh) slot c x k in
-        elim (get-set_cases old.contexts (slot * 8 + c) (slot * 8 + c) fresh (Some x) o.here) [
-          | inl new ↦ (let is : fresh ≡ Some x = new.1 in ap (pending_of cmp old.records) k ∙ ap (pending_of cmp old.records) (sym is))
-          | inr was ↦ absurd (let both : Some x ≡ None = ap joined (sym was) ∙ sym (context-inside (slots_of old) old.contexts slot c h.entered h.low) ∙ h.free in cc)
-        ]
+issues-all {K} {V} {I} cmp code old new slot c op now h = λ t d.
+    ap (λ (w : CoreView K V I). pending cmp w t d) h.is
+    ∙ shown-stays (λ (o : Option (Open K V I)). pending_of cmp old.records (on_key o)) refl (slots_of old) old.contexts slot c t d (Some (OnKey (record { number = now; op = op; phase = Fresh })))
+    (ap (λ (o : Option (Open K V I)). pending_of cmp old.records (on_key o)) (sym (context-inside (slots_of old) old.contexts slot c h.entered h.low) ∙ h.free)) refl
 
 -- ---- a page comes, or what came in its place
 module _ {K V I O R : Type 0} (stands : R → Standing) (entry : ℕ → List ℕ → ℕ → Entry K V → Type 0) (cmp : K → K → Ordering) (join : V → V → V) (f : Meanings K V I O) (old new : CoreView K V I) (slot c now : ℕ) (came : Result (Joined R) Refused) where
@@ -236,15 +222,15 @@ module _ {K V I O R : Type 0} (stands : R → Standing) (entry : ℕ → List �
   pub loads-others : (result : Result (Progress K V I O R) Refused) → Loads stands entry cmp join f old new slot c came now result → OthersPend cmp old new slot c
   loads-others result (Loads.unknown h is r) = stays is
   loads-others result (Loads.not_ready x h n is r) = stays is
-  loads-others result (Loads.moved x l h phase n is r) = sets x h _ is
+  loads-others result (Loads.moved x l h phase n is r) = sets x h (Some (at_phase x Fresh)) is
   loads-others result (Loads.failed x l why a q n is r) = sets x a.here None is
   loads-others result (Loads.unread x l a q is r) = stays is
   loads-others result (Loads.stranger x l p s a q h n is r) = stays is
   loads-others result (Loads.damaged x l p why a q is r) = sets x a.awaits.here None is
   loads-others result (Loads.bad_link x l p b parts a q high n is r) = sets x a.awaits.here None is
   loads-others result (Loads.done x l p k i value a q op is r) = sets x a.reads.awaits.here None is
-  loads-others result (Loads.prepares x l p k i value a q op is r) = sets x a.reads.awaits.here _ is
-  loads-others result (Loads.goes_on x l p b parts r a q high place held is t) = sets x a.awaits.here _ is
+  loads-others result (Loads.prepares x l p k i value a q op is r) = sets x a.reads.awaits.here (Some (at_phase x (Prepared l.kept value))) is
+  loads-others result (Loads.goes_on x l p b parts r a q high place held is t) = sets x a.awaits.here (Some (at_phase x (Load (record { begin = l.begin; kept = l.kept; wanted = b; parts = parts; looked = l.looked })))) is
   loads-others result (Loads.unshared x l p b parts a q high place is r) = stays is
 
   ends : (x : Context K V I) → context_at old slot c ≡ Some x → new ≡ with_context old slot c None now → (new ≡ old) ⊎ IsGiveUp old new slot c now

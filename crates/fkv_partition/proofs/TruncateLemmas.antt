@@ -1,4 +1,4 @@
--- What relocations that begin or end leave, and what cutting the start of the log is told to do.
+-- What cutting the start of the log is told to do.
 use Rattle.std.proofs.Common.{◌≡◌, Bool, ℕ, ◌+◌, ◌*◌, ◌/◌, ◌^◌, ◌<◌, ◌≤◌, List, Option, Result, refl, sym, ap, subst, arith}
 use Rattle.std.proofs.lemmas.Nat.{div-add-mod', pow_pos, mul-le}
 use Rattle.std.proofs.Math.Nat.{mod-lt}
@@ -10,26 +10,10 @@ use Rattle.fkv_texts.specs.declared.entries.Entry.{Entry}
 use Rattle.fkv_texts.specs.Deltas.{IsCleared}
 use Rattle.fkv_partition.specs.CoreViews.{CoreView, slots_of}
 use Rattle.fkv_partition.specs.CoreTruncating as partition
-use Rattle.fkv_partition.proofs.AskedLemmas.{context-other}
 use Rattle.fkv_partition.specs.declared.relocations.Relocation.{Relocation}
 use Rattle.fkv_partition.specs.Views.{PartitionView, with_core, with_relocation}
 use Rattle.fkv_partition.specs.Relocating.{IsRelocating}
 use Rattle.fkv_partition.specs.Truncating.{Truncates}
-
--- a relocation begins or ends
-pub relocating-set : {K V I : Type 0} (keeps : Bool) (cmp : K → K → Ordering) (v : PartitionView K V I) (slot c now : ℕ) (y : Option (Relocation K V)) → c < 8 → IsRelocating keeps cmp v (with_relocation v slot c y now) slot c now
-relocating-set keeps cmp v slot c now y low = record {
-  same = λ s d. refl;
-  pend = λ yes_keeps s d. refl;
-  live = λ yes_keeps q. refl;
-  others = λ s d other. context-other (slots_of v.core) v.relocations slot c s d y low other;
-  rises = omega arith;
-  number = refl;
-  count = refl;
-  begin = refl;
-  regions = refl;
-  moment = refl;
-}
 
 -- ---- the start of a page, and an address
 pub page-low : (bits page a : ℕ) → page ≤ page_at bits a → start_at bits page ≤ a

@@ -15,10 +15,9 @@ use Rattle.fkv_partition.specs.declared.relocations.Relocation.{Relocation}
 use Rattle.fkv_partition.specs.declared.relocations.Stage.TheVariants.{Fresh}
 use Rattle.fkv_partition.specs.Views.{PartitionView, relocation_at, with_relocation, with_core}
 
--- neither an operation nor a relocation stands in a context of a slot
-pub record IsFree {K V I : Type 0} (v : PartitionView K V I) (slot c : ℕ) : Type 0 where
-  pub operation : joined (slice_get v.core.contexts (slot * 8 + c)) ≡ None
-  pub relocation : joined (slice_get v.relocations (slot * 8 + c)) ≡ None
+-- nothing stands in a context of a slot
+abbrev pub IsFree : {K V I : Type 0} → PartitionView K V I → ℕ → ℕ → Type 0
+IsFree v slot c = joined (slice_get v.core.contexts (slot * 8 + c)) ≡ None
 
 -- the lowest free context of a slot, or that there is none
 abbrev pub IsFirstFree : {K V I : Type 0} → PartitionView K V I → ℕ → Option ℕ → Type 0

@@ -7,7 +7,7 @@ use Rattle.fkv_operations.specs.After.{key_of, is_merge}
 use Rattle.fkv_operations.specs.declared.operations.KeyedOp.{KeyedOp}
 use Rattle.fkv_partition.specs.declared.contexts.Phase.TheVariants.{Fresh}
 use Rattle.fkv_partition.specs.CoreContexts.{is_session}
-use Rattle.fkv_partition.specs.CoreViews.{CoreView, partition_of, slots_of, context_at, with_context, in_regions, free_slot}
+use Rattle.fkv_partition.specs.CoreViews.{CoreView, partition_of, slots_of, held_at, with_context, in_regions, free_slot}
 
 -- a session gets the lowest free slot, with the current epoch and the view of now
 pub data Enters {K V I : Type 0} (old new : CoreView K V I) (now : ℕ) (result : Result ℕ Refused) : Type 0 where
@@ -28,7 +28,7 @@ pub record Issues {K V I : Type 0} (code : K → ℕ) (old new : CoreView K V I)
     : Type 0 where
   pub entered : IsEntered old slot
   pub low : c < 8
-  pub free : context_at old slot c ≡ None
+  pub free : held_at old slot c ≡ None
   pub own : partition_of old.count (code (key_of op)) ≡ old.number
   pub merging : is_merge op ≡ true → old.merges ≡ true
   pub is : new ≡ with_context old slot c (Some (record { number = now; op = op; phase = Fresh })) now

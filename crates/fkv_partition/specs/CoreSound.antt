@@ -19,6 +19,8 @@ use Rattle.fkv_operations.specs.declared.entries.IndexEntry.{IndexEntry}
 use Rattle.fkv_operations.specs.declared.operations.KeyedOp.{KeyedOp}
 use Rattle.fkv_operations.specs.declared.operations.KeyedOp.TheVariants.{Read, Upsert, Rmw, Delete, Merge}
 use Rattle.fkv_partition.specs.declared.contexts.Context.{Context}
+use Rattle.fkv_partition.specs.declared.contexts.Open.{Open}
+use Rattle.fkv_partition.specs.declared.contexts.Open.TheVariants.{OnKey}
 use Rattle.fkv_partition.specs.declared.contexts.Phase.{Phase}
 use Rattle.fkv_partition.specs.declared.contexts.Phase.TheVariants.{Fresh, Confirm, Prepared, Load}
 use Rattle.fkv_partition.specs.declared.contexts.Loading.{Loading}
@@ -95,7 +97,7 @@ pub record IsSound {K V I : Type 0} (keeps : Bool) (cmp : K → K → Ordering) 
   -- each record stands for what its key has once it stands
   pub stood : IsStood cmp join v.records
   pub stands : (p : ℕ) (x : Context K V I)
-      → slice_get v.contexts p ≡ Some (Some x)
+      → slice_get v.contexts p ≡ Some (Some (OnKey x))
       → StandsFor keeps cmp join code v.records x.op x.phase
   pub owned : AreOwned v.records.words v.contexts
   -- keys belong here: those of records, and those of open operations
@@ -103,14 +105,15 @@ pub record IsSound {K V I : Type 0} (keeps : Bool) (cmp : K → K → Ordering) 
       → slice_get v.records.entries i ≡ Some e
       → partition_of v.count (code e.key) ≡ v.number
   pub asked : (p : ℕ) (x : Context K V I)
-      → slice_get v.contexts p ≡ Some (Some x)
+      → slice_get v.contexts p ≡ Some (Some (OnKey x))
       → partition_of v.count (code (key_of x.op)) ≡ v.number
   -- a merge is open only where the functions merge
   pub merging : (p : ℕ) (x : Context K V I)
-      → slice_get v.contexts p ≡ Some (Some x)
+      → slice_get v.contexts p ≡ Some (Some (OnKey x))
       → is_merge x.op ≡ true
       → v.merges ≡ true
-  pub housed : (slot c : ℕ) (x : Context K V I)
+  -- what is open is of a session that is entered
+  pub housed : (slot c : ℕ) (x : Open K V I)
       → c < 8
       → slice_get v.contexts (slot * 8 + c) ≡ Some (Some x)
       → is_session (slots_of v) slot ≡ true

@@ -1,5 +1,5 @@
 -- What a contract sees of a partition.
-use Rattle.std.specs.Prelude.{◌≡◌, Bool, true, ◌+◌, ◌*◌, ◌%◌, ◌^◌, ℕ, List, Option, Some, None, replicate, slice_set, slice_range, position, is_some}
+use Rattle.std.specs.Prelude.{◌≡◌, Bool, option_map, true, ◌+◌, ◌*◌, ◌%◌, ◌^◌, ℕ, List, Option, Some, None, replicate, slice_set, slice_range, position, is_some}
 use Rattle.std.specs.declared.cmp.Ordering.{Ordering}
 use Rattle.fkv_functions.specs.Plain.{PlainMap}
 use Rattle.fkv_epoch.specs.Moves as epochs
@@ -21,18 +21,21 @@ use Rattle.fkv_texts.specs.declared.entries.ChainPosition.TheVariants.{Found, Be
 use Rattle.fkv_lookups.specs.declared.gathered.Gathered.{Gathered}
 use Rattle.fkv_lookups.specs.declared.decisions.LookupResult.{LookupResult}
 use Rattle.fkv_partition.specs.declared.contexts.Context.{Context}
+use Rattle.fkv_partition.specs.declared.contexts.Open.{Open}
+use Rattle.fkv_partition.specs.declared.contexts.Open.TheVariants.{OnKey, Relocating}
+use Rattle.fkv_partition.specs.declared.relocations.Relocation.{Relocation}
 use Rattle.fkv_partition.specs.declared.contexts.Loading.{Loading}
 use Rattle.fkv_partition.specs.declared.limits.Config.{Config}
-use Rattle.fkv_partition.specs.CoreContexts.{context_in, loading_of, is_session}
+use Rattle.fkv_partition.specs.CoreContexts.{context_in, on_key, relocating, loading_of, is_session}
 
 -- a partition: whether its functions merge; its number among how many; its records with the entries of their classes, the regions of their log and
--- its sessions; the open operations of these; and its last moment
+-- its sessions; what is open in the contexts of these; and its last moment
 pub record CoreView (K V I : Type 0) : Type 0 where
   pub merges : Bool
   pub number : ℕ
   pub count : ℕ
   pub records : RecordsView K V
-  pub contexts : List (Option (Context K V I))
+  pub contexts : List (Option (Open K V I))
   pub moment : ℕ
 
 -- a partition with nothing in it, before the first moment, of functions that merge or not, for records of this size
@@ -96,18 +99,31 @@ abbrev pub reached_from : {K V I : Type 0} → (K → K → Ordering) → (V →
 reached_from cmp join code v slot k low None = record { parts = None; position = Below 1 }
 reached_from cmp join code v slot k low (Some a) = looked_up cmp join code v.records low k a
 
--- the operation that is open in a context of an entered session
+-- what is open in a context of an entered session
+abbrev pub held_at : {K V I : Type 0} → CoreView K V I → ℕ → ℕ → Option (Open K V I)
+held_at v slot c = context_in (slots_of v) v.contexts slot c
+
+-- the operation on a key that is, and the relocation
 abbrev pub context_at : {K V I : Type 0} → CoreView K V I → ℕ → ℕ → Option (Context K V I)
-context_at v slot c = context_in (slots_of v) v.contexts slot c
+context_at v slot c = on_key (held_at v slot c)
+
+abbrev pub relocation_in : {K V I : Type 0} → CoreView K V I → ℕ → ℕ → Option (Relocation K V)
+relocation_in v slot c = relocating (held_at v slot c)
 
 -- the look-up in which it waits for a page
 abbrev pub loading_at : {K V I : Type 0} → CoreView K V I → ℕ → ℕ → Option (Loading V)
 loading_at v slot c = loading_of (context_at v slot c)
 
--- the view with this operation, or none, in a context, at another moment
+-- the view with this in a context, at another moment: whatever it is, an operation on a key, or a relocation
+abbrev pub with_open : {K V I : Type 0} → CoreView K V I → ℕ → ℕ → Option (Open K V I) → ℕ → CoreView K V I
+with_open v slot c x now = record v { contexts = slice_set v.contexts (slot * 8 + c) x; moment = now }
+
 abbrev pub with_context : {K V I : Type 0} → CoreView K V I → ℕ → ℕ → Option (Context K V I) → ℕ
     → CoreView K V I
-with_context v slot c x now = record v { contexts = slice_set v.contexts (slot * 8 + c) x; moment = now }
+with_context v slot c x now = with_open v slot c (option_map OnKey x) now
+
+abbrev pub relocated : {K V I : Type 0} → CoreView K V I → ℕ → ℕ → Option (Relocation K V) → ℕ → CoreView K V I
+relocated v slot c x now = with_open v slot c (option_map Relocating x) now
 
 -- the view after a record of this key with this payload, by which the key has this value, or none, was appended, behind
 -- the one to which its class's entry led, and the entry was moved to it, and the context was freed

@@ -24,11 +24,13 @@ use Rattle.fkv_partition.specs.declared.relocations.Relocation.{Relocation}
 use Rattle.fkv_partition.specs.Beginning.{IssuesOnKey, Relocates, Drops}
 use Rattle.fkv_partition.specs.Going.{GoesOn}
 use Rattle.fkv_partition.specs.Reading.{LoadsOn, WaitsOn}
+use Rattle.fkv_partition.specs.Grown.{RelocationsStay}
 use Rattle.fkv_partition.specs.Views.{PartitionView, relocation_at, with_core}
 
 -- relocations stay, and what is cleared
-abbrev pub IsPassedOn : {K V I : Type 0} → PartitionView K V I → PartitionView K V I → Type 0
-IsPassedOn old new = new ≡ with_core old new.core
+pub record IsPassedOn {K V I : Type 0} (old new : PartitionView K V I) : Type 0 where
+  pub is : new ≡ with_core old new.core
+  pub relocations : RelocationsStay old.core new.core
 
 pub record Enters {K V I : Type 0} (old new : PartitionView K V I) (now : ℕ) (result : Result ℕ Refused) : Type 0 where
   pub does : beginning.Enters old.core new.core now result

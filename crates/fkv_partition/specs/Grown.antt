@@ -13,7 +13,7 @@ use Rattle.fkv_operations.specs.KeptWords.{IsNext}
 use Rattle.fkv_lookups.specs.RecordsViews.{RecordsView, indexed}
 use Rattle.fkv_texts.specs.Deltas.{IsCleared}
 use Rattle.fkv_partition.specs.declared.contexts.Loading.{Loading}
-use Rattle.fkv_partition.specs.CoreContexts.{joined, is_session}
+use Rattle.fkv_partition.specs.CoreContexts.{joined, is_session, relocating}
 use Rattle.fkv_partition.specs.CoreSound.{IsKept, IsLoading, IsSound}
 use Rattle.fkv_partition.specs.CoreViews.{CoreView, slots_of}
 
@@ -73,9 +73,10 @@ abbrev pub ArePreserved : {K V I : Type 0} → Bool → (K → K → Ordering) �
 ArePreserved keeps cmp join code v [] = Unit {0}
 ArePreserved keeps cmp join code v (w ∷ ws) = IsPreserved keeps cmp join code v w × IsSound keeps cmp join code w × ArePreserved keeps cmp join code w ws
 
--- where no operation was open none is, and who was entered is
-abbrev pub NoneOpens : {K V I : Type 0} → CoreView K V I → CoreView K V I → Type 0
-NoneOpens old new = (p : ℕ) → joined (slice_get old.contexts p) ≡ None → joined (slice_get new.contexts p) ≡ None
+-- relocations stay in their contexts, and who was entered is
+abbrev pub RelocationsStay : {K V I : Type 0} → CoreView K V I → CoreView K V I → Type 0
+RelocationsStay old new =
+    (p : ℕ) → relocating (joined (slice_get new.contexts p)) ≡ relocating (joined (slice_get old.contexts p))
 
 abbrev pub AllStay : {K V I : Type 0} → CoreView K V I → CoreView K V I → Type 0
 AllStay old new = (s : ℕ) → is_session (slots_of old) s ≡ true → is_session (slots_of new) s ≡ true

@@ -1,5 +1,5 @@
 //! What events change of a partition. Each change keeps what every partition keeps, and says what it leaves.
-ghost use Rattle.std.specs.Prelude.{◌≡◌, ⊤, ◌+◌, ◌*◌, ◌^◌, ◌<◌, ◌≤◌, ◌↔◌, true, false, IsSome, IsTrue, Some, None, Ok, Err, IfSome, IfOk, IfErr, OnOk, OnErr};
+ghost use Rattle.std.specs.Prelude.{◌≡◌, ⊤, ◌+◌, ◌*◌, ◌^◌, ◌<◌, ◌≤◌, ◌↔◌, true, false, IsSome, IsTrue, Some, None, Ok, Err, IfSome, IfOk, IfErr, OnOk, OnErr, slice_get};
 ghost use Rattle.std.specs.List.{list_any};
 ghost use Rattle.std.specs.Bool.{OnTrue, OnFalse};
 ghost use Rattle.fkv_index.specs.Words.{is_empty};
@@ -9,16 +9,17 @@ ghost use Rattle.fkv_operations.specs.After.{key_of, is_merge};
 ghost use Rattle.fkv_operations.specs.Classes.{IsClass};
 ghost use Rattle.fkv_lookups.specs.RecordsViews.{class_in, confirmed, released, with_value, IsFull, IsReplaceable};
 ghost use Rattle.fkv_lookups.specs.Payloads.{standing};
-ghost use Rattle.fkv_partition.specs.CoreContexts.{at_phase, claim_by, claim_at};
+ghost use Rattle.fkv_partition.specs.CoreContexts.{joined, on_key, at_phase, claim_by, claim_at};
 ghost use Rattle.fkv_partition.specs.CoreClaiming.{IsClaimed};
 ghost use Rattle.fkv_regions.specs.RegionsView.{left};
-ghost use Rattle.fkv_partition.specs.CoreViews.{context_at, open_context, MovesTo, partition_of, with_context, with_payload, with_replaced, live_of};
+ghost use Rattle.fkv_partition.specs.CoreViews.{context_at, open_context, MovesTo, partition_of, relocated, with_context, with_payload, with_replaced, live_of};
 ghost use Rattle.fkv_partition.specs.CoreSound.{StandsFor};
 ghost use Rattle.fkv_partition.specs.CoreBeginning.{IsEntered};
 ghost use Rattle.fkv_partition.specs.Writes.{IsWrite};
 
-use crate::contexts::{Context, ContextOf, Phase, move_on, set_context};
+use crate::contexts::{Context, ContextOf, Open, Phase, move_on, set_context};
 use crate::cores::Core;
+use crate::relocations::RelocationOf;
 use fkv_device::Receipt;
 use fkv_functions::{Mergeable, Refused};
 use fkv_index::Place;
@@ -55,7 +56,7 @@ impl<F: Mergeable, R: Receipt> Core<F, R> {
         self.moment = now;
     }
 
-    /// Frees a context whose operation, if any, waits to confirm no entry.
+    /// Frees a context, where what is open there, if anything, waits to confirm no entry.
     pub(crate) fn free(&mut self, slot: usize, context: usize, now: u64)
         requires session { slot < 16 }
         requires context { context < 8 }
@@ -83,7 +84,31 @@ impl<F: Mergeable, R: Receipt> Core<F, R> {
             phase: Phase::Fresh,
         };
         self.moment = now;
-        set_context(&mut self.contexts, slot, context, Some(fresh));
+        set_context(&mut self.contexts, slot, context, Some(Open::OnKey(fresh)));
+    }
+
+    /// Opens a relocation in a context in which no operation on a key is open, or moves the one that is open there to another
+    /// stage.
+    pub(crate) fn set_relocation(
+        &mut self,
+        slot: usize,
+        context: usize,
+        relocation: RelocationOf<F>,
+        now: u64,
+    )
+        requires session { slot < 16 }
+        requires entered { IsEntered self.old slot }
+        requires context { context < 8 }
+        requires keyless { on_key (joined (slice_get self.old.contexts (slot * 8 + context))) ≡ None }
+        ensures { self.new ≡ relocated self.old slot context (Some relocation) now }
+    {
+        self.moment = now;
+        set_context(
+            &mut self.contexts,
+            slot,
+            context,
+            Some(Open::Relocating(relocation)),
+        );
     }
 
     /// Moves the operation that is open in a context to another phase. Before and after it waits to confirm no entry.

@@ -1,7 +1,8 @@
 //! The open operations of a partition: how far each is, and what an event of it answers.
 ghost use Rattle.std.specs.Prelude.{◌≡◌, ⊤, ◌+◌, ◌*◌, ◌<◌, ◌≤◌, ◌⊎◌, ◌↔◌, length, Option, Some, None, IfSome, IfNone, cond, nat_lt, slice_get, slice_range, slice_set, position, is_none, is_some, IsTrue};
-ghost use Rattle.fkv_partition.specs.CoreContexts.{joined, at_phase, question_in, claim_by, loading_by};
+ghost use Rattle.fkv_partition.specs.CoreContexts.{joined, on_key, relocating, at_phase, question_in, claim_by, loading_by};
 
+use crate::relocations::Relocation;
 use fkv_device::Receipt;
 use fkv_functions::{Ask, Functions};
 use fkv_index::Place;
@@ -79,7 +80,26 @@ impl<K: Copy, V: Copy, I: Copy> Clone for Context<K, V, I> {
     }
 }
 
-/// The open operations of one type of functions.
+/// What is open in a context of a session: one of these, or nothing.
+#[derive(Copy)]
+pub enum Open<K, V, I> {
+    /// An operation on a key.
+    OnKey(Context<K, V, I>),
+    /// A relocation.
+    Relocating(Relocation<K, V>),
+}
+
+impl<K: Copy, V: Copy, I: Copy> Clone for Open<K, V, I> {
+    ghost is_clone = { λ x y. y ≡ x };
+
+    ghost is_infallible = { λ _. ⊤ };
+
+    fn clone(&self) -> Result<Self, AllocError> {
+        Ok(*self)
+    }
+}
+
+/// The operations on keys of one type of functions.
 pub type ContextOf<F> = Context<
     <F as Functions>::Key,
     <F as Functions>::Value,
@@ -121,8 +141,8 @@ pub type ProgressOf<F, R> = Progress<
     R,
 >;
 
-/// What stands in a context of a session: the operation that is open there, for one.
-pub fn open_at<T: Copy>(contexts: &[Option<T>], slot: usize, context: usize) -> Option<T>
+/// What is open in a context of a session.
+fn open_at<T: Copy>(contexts: &[Option<T>], slot: usize, context: usize) -> Option<T>
     requires session { slot < 16 }
     requires places { length contexts.now ≡ 128 }
     ensures value { result ≡ cond (nat_lt context 8) (joined (slice_get contexts.now (slot * 8 + context))) None }
@@ -134,7 +154,43 @@ pub fn open_at<T: Copy>(contexts: &[Option<T>], slot: usize, context: usize) -> 
     contexts[slot * CONTEXTS + context]
 }
 
-/// Whether nothing stands in a context of a session. Unlike [`open_at`] it copies nothing.
+/// The operation on a key that is open in a context of a session.
+pub fn operation_at<K: Copy, V: Copy, I: Copy>(
+    contexts: &[Option<Open<K, V, I>>],
+    slot: usize,
+    context: usize,
+) -> Option<Context<K, V, I>>
+    requires session { slot < 16 }
+    requires places { length contexts.now ≡ 128 }
+    ensures value { result ≡ on_key (cond (nat_lt context 8) (joined (slice_get contexts.now (slot * 8 + context))) None) }
+    ensures context { IfSome result (λ _. context < 8) }
+{
+    match open_at(contexts, slot, context) {
+        Some(Open::OnKey(operation)) => Some(operation),
+        Some(Open::Relocating(_relocation)) => None,
+        None => None,
+    }
+}
+
+/// The relocation that is open in a context of a session.
+pub fn relocation_at<K: Copy, V: Copy, I: Copy>(
+    contexts: &[Option<Open<K, V, I>>],
+    slot: usize,
+    context: usize,
+) -> Option<Relocation<K, V>>
+    requires session { slot < 16 }
+    requires places { length contexts.now ≡ 128 }
+    ensures value { result ≡ relocating (cond (nat_lt context 8) (joined (slice_get contexts.now (slot * 8 + context))) None) }
+    ensures context { IfSome result (λ _. context < 8) }
+{
+    match open_at(contexts, slot, context) {
+        Some(Open::Relocating(relocation)) => Some(relocation),
+        Some(Open::OnKey(_operation)) => None,
+        None => None,
+    }
+}
+
+/// Whether nothing stands in a context of a session. It copies nothing.
 pub fn is_vacant<T>(contexts: &[Option<T>], slot: usize, context: usize) -> bool
     requires session { slot < 16 }
     requires context { context < 8 }
@@ -142,6 +198,28 @@ pub fn is_vacant<T>(contexts: &[Option<T>], slot: usize, context: usize) -> bool
     ensures { IsTrue result ↔ (joined (slice_get contexts.now (slot * 8 + context)) ≡ None) }
 {
     contexts[slot * CONTEXTS + context].is_none()
+}
+
+/// The lowest context of a session in which a relocation is open.
+pub fn relocating_context<K, V, I>(contexts: &[Option<Open<K, V, I>>], slot: usize) -> Option<usize>
+    requires session { slot < 16 }
+    requires places { length contexts.now ≡ 128 }
+    ensures value { result ≡ position (λ o. is_some (relocating o)) (slice_range contexts.now (slot * 8) (slot * 8 + 8)) }
+{
+    let first = slot * CONTEXTS;
+    contexts[first..first + CONTEXTS]
+        .iter()
+        .position(|open| is_relocating(open))
+}
+
+/// Whether a relocation is open in a context.
+fn is_relocating<K, V, I>(open: &Option<Open<K, V, I>>) -> bool
+    ensures { result ≡ is_some (relocating open.now) }
+{
+    match open {
+        Some(Open::Relocating(_)) => true,
+        Some(Open::OnKey(_)) | None => false,
+    }
 }
 
 /// The lowest open context of a session.
@@ -173,7 +251,7 @@ pub fn set_context<T: Copy>(
 
 /// Moves the operation that is open in a context to another phase, where it stands.
 pub fn move_on<K: Copy, V: Copy, I: Copy>(
-    contexts: &mut Vec<Option<Context<K, V, I>>>,
+    contexts: &mut Vec<Option<Open<K, V, I>>>,
     slot: usize,
     context: usize,
     _operation: &Context<K, V, I>,
@@ -181,11 +259,11 @@ pub fn move_on<K: Copy, V: Copy, I: Copy>(
 )
     requires session { slot < 16 }
     requires context { context < 8 }
-    requires here { slice_get contexts.old.items (slot * 8 + context) ≡ Some (Some _operation.now) }
+    requires here { slice_get contexts.old.items (slot * 8 + context) ≡ Some (Some (Open.OnKey _operation.now)) }
     ensures { contexts.new.items
-        ≡ slice_set contexts.old.items (slot * 8 + context) (Some (at_phase _operation.now phase)) }
+        ≡ slice_set contexts.old.items (slot * 8 + context) (Some (Open.OnKey (at_phase _operation.now phase))) }
 {
-    if let Some(open) = &mut contexts[slot * CONTEXTS + context] {
+    if let Some(Open::OnKey(open)) = &mut contexts[slot * CONTEXTS + context] {
         open.phase = phase;
     }
 }

@@ -2,7 +2,7 @@
 ghost use Rattle.std.specs.Prelude.{◌≡◌, ◌<◌, ◌≤◌, None, Some, false, IfSome};
 ghost use Rattle.fkv_lookups.specs.declared.decisions.LookupResult.TheVariants.{Mutable};
 ghost use Rattle.fkv_texts.specs.declared.entries.ChainPosition.TheVariants.{Found};
-ghost use Rattle.fkv_partition.specs.CoreViews.{context_at, entry_for, first_from, met_at, partition_of};
+ghost use Rattle.fkv_partition.specs.CoreViews.{held_at, entry_for, first_from, met_at, partition_of};
 ghost use Rattle.fkv_partition.specs.CoreAtOnce.{IsAtHand, IsDoneAtOnce};
 ghost use Rattle.fkv_partition.specs.CoreBeginning.{IsEntered};
 
@@ -33,7 +33,7 @@ impl<F: Mergeable, R: Receipt> Core<F, R> {
         requires session { slot < 16 }
         requires entered { IsEntered self.old slot }
         requires context { context < 8 }
-        requires free { context_at self.old slot context ≡ None }
+        requires free { held_at self.old slot context ≡ None }
         ensures done { IfSome result (λ shown. IsDoneAtOnce R.stands F.Key.cmp F.parts.joined F.meaning F.code self.old self.new
             slot context key.now input.now issued now shown) }
         ensures left { result ≡ None → (held : F.Value) → IsAtHand F.Key.cmp F.parts.joined F.code self.old slot key.now held
@@ -101,7 +101,7 @@ impl<F: Mergeable, R: Receipt> Core<F, R> {
         requires session { slot < 16 }
         requires entered { IsEntered self.old slot }
         requires own { partition_of self.old.count (F.code key.now) ≡ self.old.number }
-        requires free { context_at self.old slot _context ≡ None }
+        requires free { held_at self.old slot _context ≡ None }
         requires low { _context < 8 }
         requires first { first_from F.Key.cmp F.code self.old slot key.now (entry_for F.code self.old key.now)
             ≡ Found last }

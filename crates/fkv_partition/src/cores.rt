@@ -3,11 +3,11 @@ ghost use Rattle.std.specs.Prelude.{◌≡◌, ◌≢◌, ◌<◌, ◌≤◌, �
 ghost use Rattle.fkv_records.specs.Records.{size_of};
 ghost use Rattle.fkv_partition.specs.Limits.{IsPartitionOf};
 ghost use Rattle.fkv_operations.specs.After.{key_of, is_merge};
-ghost use Rattle.fkv_partition.specs.CoreViews.{context_at, empty_core, partition_of};
+ghost use Rattle.fkv_partition.specs.CoreViews.{held_at, empty_core, partition_of};
 ghost use Rattle.fkv_partition.specs.CoreBeginning.{Enters, IsEntered, Issues};
 ghost use Rattle.fkv_partition.specs.CoreEffect.{IsQuiet, IsIssue};
 
-use crate::contexts::Context;
+use crate::contexts::Open;
 use crate::limits::Config;
 use fkv_device::Receipt;
 use fkv_functions::{Mergeable, Refused};
@@ -26,7 +26,7 @@ pub struct Core<F: Mergeable, R: Receipt> {
     pub(crate) number: u64,
     pub(crate) count: u64,
     pub(crate) records: Records<F, R>,
-    pub(crate) contexts: Vec<Option<Context<F::Key, F::Value, F::Input>>>,
+    pub(crate) contexts: Vec<Option<Open<F::Key, F::Value, F::Input>>>,
     pub(crate) moment: u64,
 }
 
@@ -120,7 +120,7 @@ impl<F: Mergeable, R: Receipt> Core<F, R> {
         requires later { self.old.moment < now }
         requires entered { IsEntered self.old slot }
         requires context { context < 8 }
-        requires free { context_at self.old slot context ≡ None }
+        requires free { held_at self.old slot context ≡ None }
         requires own { partition_of self.old.count (F.code (key_of op)) ≡ self.old.number }
         requires merging { is_merge op ≡ true → self.old.merges ≡ true }
         ensures effect { Issues F.code self.old self.new slot context op now }

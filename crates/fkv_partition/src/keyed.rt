@@ -7,7 +7,8 @@ ghost use Rattle.fkv_partition.specs.CoreInstalling.{Installs};
 ghost use Rattle.fkv_partition.specs.CoreLoading.{Loads, LoadsBy, WaitsFor};
 ghost use Rattle.fkv_partition.specs.CoreEnding.{GivesUp};
 ghost use Rattle.fkv_partition.specs.CoreEffect.{IsEvent, IsGiveUp, IsIssue, IsLoaded};
-ghost use Rattle.fkv_partition.specs.Views.{relocation_at, with_core};
+ghost use Rattle.fkv_partition.specs.Events.{IsPassedOn};
+ghost use Rattle.fkv_partition.specs.Views.{relocation_at};
 ghost use Rattle.fkv_partition.specs.Beginning.{IssuesOnKey};
 
 use crate::contexts::ProgressOf;
@@ -32,7 +33,7 @@ impl<F: Mergeable, R: Receipt> Partition<F, R> {
     ) -> Result<usize, Refused>
         requires later { self.old.core.moment < now }
         ensures effect { IssuesOnKey F.code self.old self.new slot op now result }
-        ensures rest { self.new ≡ with_core self.old self.new.core }
+        ensures rest { IsPassedOn self.old self.new }
         ensures event { IfOk result
             (λ context. IsIssue F.code self.old.core self.new.core slot context op now) }
         ensures closed { IfOk result (λ context. relocation_at self.old slot context ≡ None) }
@@ -77,7 +78,7 @@ impl<F: Mergeable, R: Receipt> Partition<F, R> {
         requires later { self.old.core.moment < now }
         ensures effect { Goes R.stands F.Key.cmp F.parts.joined F.meaning F.code self.old.core self.new.core
             slot context now result }
-        ensures rest { self.new ≡ with_core self.old self.new.core }
+        ensures rest { IsPassedOn self.old self.new }
         ensures event { IfOk result (λ progress.
             IsEvent F.Key.cmp F.meaning self.old.core self.new.core slot context now progress) }
         ensures within { IfOk result (λ _. (slot < 16) × (context < 8)) }
@@ -105,7 +106,7 @@ impl<F: Mergeable, R: Receipt> Partition<F, R> {
         requires later { self.old.core.moment < now }
         ensures effect { Installs F.Key.cmp F.meaning F.code self.old.core self.new.core
             slot context built now result }
-        ensures rest { self.new ≡ with_core self.old self.new.core }
+        ensures rest { IsPassedOn self.old self.new }
         ensures event { IsTrue R.keeps → IfOk result (λ progress.
             IsEvent F.Key.cmp F.meaning self.old.core self.new.core slot context now progress) }
         ensures within { IfOk result (λ _. (slot < 16) × (context < 8)) }
@@ -132,7 +133,7 @@ impl<F: Mergeable, R: Receipt> Partition<F, R> {
         requires later { self.old.core.moment < now }
         ensures effect { Loads R.stands (IsEntryIn F.Key.codec F.Value.codec) F.Key.cmp F.parts.joined F.meaning self.old.core self.new.core
             slot context came now result }
-        ensures rest { self.new ≡ with_core self.old self.new.core }
+        ensures rest { IsPassedOn self.old self.new }
         ensures event { IsTrue R.keeps → IfOk result (λ progress.
             IsLoaded F.Key.cmp F.meaning self.old.core self.new.core slot context now progress) }
         ensures within { IfOk result (λ _. (slot < 16) × (context < 8)) }
@@ -159,7 +160,7 @@ impl<F: Mergeable, R: Receipt> Partition<F, R> {
         requires later { self.old.core.moment < now }
         ensures effect { LoadsBy R.stands (IsEntryIn F.Key.codec F.Value.codec) F.Key.cmp F.parts.joined F.meaning self.old.core self.new.core
             slot context now (P.failures reader.old) (P.failures reader.new) result }
-        ensures rest { self.new ≡ with_core self.old self.new.core }
+        ensures rest { IsPassedOn self.old self.new }
         ensures event { IsTrue R.keeps → IfOk result (λ progress.
             IsLoaded F.Key.cmp F.meaning self.old.core self.new.core slot context now progress) }
         ensures unread { ((page : ℕ) → WaitsFor self.old.core slot context page → ⊥) → reader.new ≡ reader.old }
@@ -185,7 +186,7 @@ impl<F: Mergeable, R: Receipt> Partition<F, R> {
     ) -> Result<(), Refused>
         requires later { self.old.core.moment < now }
         ensures effect { GivesUp self.old.core self.new.core slot context now result }
-        ensures rest { self.new ≡ with_core self.old self.new.core }
+        ensures rest { IsPassedOn self.old self.new }
         ensures event { OnOk result (IsGiveUp self.old.core self.new.core slot context now) }
         ensures within { OnOk result ((slot < 16) × (context < 8)) }
         ensures unchanged { OnErr result (self.new ≡ self.old) }
@@ -204,7 +205,7 @@ impl<F: Mergeable, R: Receipt> Partition<F, R> {
     /// there.
     pub fn give_up_untimed(&mut self, slot: usize, context: usize) -> Result<(), Refused>
         ensures effect { GivesUp self.old.core self.new.core slot context self.old.core.moment result }
-        ensures rest { self.new ≡ with_core self.old self.new.core }
+        ensures rest { IsPassedOn self.old self.new }
         ensures event { OnOk result (IsGiveUp self.old.core self.new.core slot context self.old.core.moment) }
         ensures within { OnOk result ((slot < 16) × (context < 8)) }
         ensures unchanged { OnErr result (self.new ≡ self.old) }

@@ -1,5 +1,5 @@
 //! What events look at in a partition. None of these changes it.
-ghost use Rattle.std.specs.Prelude.{◌≡◌, ◌+◌, ◌*◌, ◌<◌, ◌≤◌, ◌↔◌, Some, None, true, false, IsTrue, IfSome, option_map, slice_get};
+ghost use Rattle.std.specs.Prelude.{◌≡◌, ◌+◌, ◌*◌, ◌<◌, ◌≤◌, ◌↔◌, Some, None, true, false, IsTrue, IfSome, is_some, option_map, position, slice_get, slice_range};
 ghost use Rattle.std.specs.Bool.{OnTrue, OnFalse};
 ghost use Rattle.fkv_index.specs.Words.{address_of};
 ghost use Rattle.fkv_operations.specs.After.{key_of, is_merge};
@@ -7,13 +7,16 @@ ghost use Rattle.fkv_texts.specs.declared.entries.Entry.{Entry};
 ghost use Rattle.fkv_lookups.specs.Decisions.{decision, low_of};
 ghost use Rattle.fkv_operations.specs.Classes.{IsClass};
 ghost use Rattle.fkv_lookups.specs.RecordsViews.{class_in, IsEntryOf};
-ghost use Rattle.fkv_partition.specs.CoreContexts.{is_session, joined};
+ghost use Rattle.fkv_partition.specs.CoreContexts.{is_session, joined, relocating};
 ghost use Rattle.fkv_partition.specs.CoreBeginning.{IsEntered};
-ghost use Rattle.fkv_partition.specs.CoreViews.{IsAtDelta, context_at, entry_for, found_for, first_from, met_at, open_context, partition_of, reached_from, seen_at, slots_of};
+ghost use Rattle.fkv_partition.specs.CoreViews.{IsAtDelta, context_at, entry_for, found_for, first_from, met_at, open_context, partition_of, relocation_in, reached_from, seen_at, slots_of};
 ghost use Rattle.fkv_partition.specs.CoreSound.{IsSound};
 
-use crate::contexts::{ContextOf, is_vacant, open_at, open_context};
+use crate::contexts::{
+    ContextOf, is_vacant, open_context, operation_at, relocating_context, relocation_at,
+};
 use crate::cores::Core;
+use crate::relocations::RelocationOf;
 use fkv_device::Receipt;
 use fkv_functions::{Functions, Mergeable};
 use fkv_lookups::decisions::blind;
@@ -71,10 +74,30 @@ impl<F: Mergeable, R: Receipt> Core<F, R> {
         if !self.records.is_entered(slot) {
             return None;
         }
-        open_at(&self.contexts, slot, context)
+        operation_at(&self.contexts, slot, context)
     }
 
-    /// Whether no operation stands in a context of a slot.
+    /// The relocation that is open in a context.
+    pub fn relocation(&self, slot: usize, context: usize) -> Option<RelocationOf<F>>
+        ensures value { result ≡ relocation_in self.now slot context }
+        ensures session { IfSome result (λ _. slot < 16) }
+        ensures context { IfSome result (λ _. context < 8) }
+    {
+        if !self.records.is_entered(slot) {
+            return None;
+        }
+        relocation_at(&self.contexts, slot, context)
+    }
+
+    /// The lowest context of a slot in which a relocation stands.
+    pub fn first_relocation(&self, slot: usize) -> Option<usize>
+        requires { slot < 16 }
+        ensures { result ≡ position (λ o. is_some (relocating o)) (slice_range self.now.contexts (slot * 8) (slot * 8 + 8)) }
+    {
+        relocating_context(&self.contexts, slot)
+    }
+
+    /// Whether nothing stands in a context of a slot.
     pub fn is_vacant(&self, slot: usize, context: usize) -> bool
         requires session { slot < 16 }
         requires context { context < 8 }

@@ -1,4 +1,4 @@
-//! A partition: the core of its operations on keys, its relocations, and how much of its log is cleared.
+//! A partition: a core, which has what is open in the contexts of its sessions, and how much of its log is cleared.
 ghost use Rattle.std.specs.Prelude.{◌≡◌, ◌≢◌, ◌<◌, ◌≤◌, ◌⊎◌, ◌+◌, ◌*◌, ◌^◌, ◌||◌, Option, Some, None, Err, IsTrue, ◌↔◌, IfOk, IfErr, IfSome, is_some, length, slice_get};
 ghost use Rattle.fkv_records.specs.Records.{size_of};
 ghost use Rattle.fkv_partition.specs.CoreContexts.{joined};
@@ -12,10 +12,10 @@ ghost use Rattle.fkv_partition.specs.Going.{is_awaiting};
 ghost use Rattle.fkv_partition.specs.Sound.{IsCompacting};
 ghost use Rattle.fkv_partition.specs.Beginning.{IsFirstFree};
 
-use crate::contexts::{CONTEXTS, open_at};
-use crate::cores::{Core, free_places};
+use crate::contexts::CONTEXTS;
+use crate::cores::Core;
 use crate::limits::Config;
-use crate::relocations::{Relocation, RelocationOf, awaited};
+use crate::relocations::{RelocationOf, awaited};
 use fkv_device::Receipt;
 use fkv_functions::{Mergeable, Refused};
 use fkv_operations::{Op, OpOf};
@@ -28,7 +28,6 @@ use std::marker::Model;
 pub struct Partition<F: Mergeable, R: Receipt> {
     pub(crate) core: Core<F, R>,
     pub(crate) cleared: Address,
-    pub(crate) relocations: Vec<Option<Relocation<F::Key, F::Value>>>,
 }
 
 impl<F: Mergeable, R: Receipt> Model for Partition<F, R> {
@@ -38,10 +37,9 @@ impl<F: Mergeable, R: Receipt> Model for Partition<F, R> {
 
     ghost Value = { PartitionView F.Key F.Value F.Input };
 
-    ghost view = { λ c. view_of c.core c.cleared c.relocations.items };
+    ghost view = { λ c. view_of c.core c.cleared };
 
-    ghost invariant = { λ c. IsCompacting R.keeps F.Key.cmp F.parts.joined F.code
-        (view_of c.core c.cleared c.relocations.items) };
+    ghost invariant = { λ c. IsCompacting R.keeps F.Key.cmp F.parts.joined F.code (view_of c.core c.cleared) };
 }
 
 impl<F: Mergeable, R: Receipt> Partition<F, R> {
@@ -59,15 +57,10 @@ impl<F: Mergeable, R: Receipt> Partition<F, R> {
             Err(refused) => return Err(refused),
             Ok(core) => core,
         };
-        let relocations = match free_places(alloc) {
-            Err(refused) => return Err(refused),
-            Ok(relocations) => relocations,
-        };
         core.known();
         Ok(Partition {
             core,
             cleared: FIRST,
-            relocations,
         })
     }
 
@@ -189,13 +182,10 @@ impl<F: Mergeable, R: Receipt> Partition<F, R> {
         ensures session { IfSome result (λ _. slot < 16) }
         ensures context { IfSome result (λ _. context < 8) }
     {
-        if !self.core.is_session(slot) {
-            return None;
-        }
-        open_at(&self.relocations, slot, context)
+        self.core.relocation(slot, context)
     }
 
-    /// The lowest context of a session in which neither an operation nor a relocation is open.
+    /// The lowest context of a session in which nothing is open.
     pub(crate) fn first_free(&self, slot: usize) -> Option<usize>
         requires session { slot < 16 }
         requires entered { IsEntered self.now.core slot }

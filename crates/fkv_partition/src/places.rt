@@ -1,5 +1,5 @@
 //! What events change of relocations and of what is cleared. Each change keeps what every partition keeps.
-ghost use Rattle.std.specs.Prelude.{◌≡◌, ◌+◌, ◌*◌, ◌<◌, ◌≤◌, ◌↔◌, ℕ, IsTrue, Some, None, slice_get};
+ghost use Rattle.std.specs.Prelude.{IsSome, ◌≡◌, ◌+◌, ◌*◌, ◌<◌, ◌≤◌, ◌↔◌, ℕ, IsTrue, Some, None, slice_get};
 ghost use Rattle.fkv_records.specs.Places.{IsRecordStart};
 ghost use Rattle.fkv_texts.specs.declared.entries.Entry.{Entry};
 ghost use Rattle.fkv_texts.specs.Text.{entry_at};
@@ -7,11 +7,10 @@ ghost use Rattle.fkv_texts.specs.Deltas.{IsSuperseded};
 ghost use Rattle.fkv_partition.specs.CoreContexts.{is_session, joined};
 ghost use Rattle.fkv_partition.specs.CoreViews.{slots_of};
 ghost use Rattle.fkv_partition.specs.CoreBeginning.{IsEntered};
-ghost use Rattle.fkv_partition.specs.Views.{at_moment, at_stage, done_at, relocation_at, with_relocation};
+ghost use Rattle.fkv_partition.specs.Views.{at_moment, at_stage, cleared_past, done_at, relocation_at, with_relocation};
 ghost use Rattle.fkv_partition.specs.Stages.{RelocationStands, StageStands};
 ghost use Rattle.fkv_partition.specs.Beginning.{IsFree, IsFirstOpen};
 
-use crate::contexts::{is_vacant, open_context, set_context};
 use crate::partitions::Partition;
 use crate::relocations::{RelocationOf, StageOf, in_stage};
 use fkv_device::Receipt;
@@ -20,20 +19,20 @@ use fkv_lookups::clearing::cleared_stay;
 use fkv_records::Address;
 
 impl<F: Mergeable, R: Receipt> Partition<F, R> {
-    /// Whether neither an operation nor a relocation stands in a context of a session.
+    /// Whether nothing stands in a context of a session.
     pub(crate) fn is_free(&self, slot: usize, context: usize) -> bool
         requires session { slot < 16 }
         requires context { context < 8 }
         ensures { IsTrue result ↔ IsFree self.now slot context }
     {
-        self.core.is_vacant(slot, context) && is_vacant(&self.relocations, slot, context)
+        self.core.is_vacant(slot, context)
     }
 
     /// Whether a relocation of a session is open.
     pub(crate) fn has_relocation(&self, slot: usize) -> bool
         ensures { IsTrue result ↔ ((c : ℕ) × (x : _) × (relocation_at self.now slot c ≡ Some x)) }
     {
-        self.core.is_session(slot) && open_context(&self.relocations, slot).is_some()
+        self.core.is_session(slot) && self.core.first_relocation(slot).is_some()
     }
 
     /// The lowest context of a session in which a relocation is open.
@@ -43,7 +42,7 @@ impl<F: Mergeable, R: Receipt> Partition<F, R> {
         if !self.core.is_session(slot) {
             return None;
         }
-        open_context(&self.relocations, slot)
+        self.core.first_relocation(slot)
     }
 
     /// A moment passes, and nothing else changes.
@@ -68,8 +67,7 @@ impl<F: Mergeable, R: Receipt> Partition<F, R> {
         requires stands { RelocationStands R.keeps F.Key.cmp F.parts.joined F.code self.old.core self.old.cleared relocation }
         ensures { self.new ≡ with_relocation self.old slot context (Some relocation) now }
     {
-        self.core.pass(now);
-        set_context(&mut self.relocations, slot, context, Some(relocation));
+        self.core.set_relocation(slot, context, relocation, now);
     }
 
     /// Moves a relocation to another stage.
@@ -87,25 +85,37 @@ impl<F: Mergeable, R: Receipt> Partition<F, R> {
         requires stands { StageStands R.keeps F.Key.cmp F.parts.joined F.code self.old.core relocation.now.target stage }
         ensures { self.new ≡ with_relocation self.old slot context (Some (at_stage relocation.now stage)) now }
     {
-        self.core.pass(now);
         let moved = in_stage(relocation, stage);
-        set_context(&mut self.relocations, slot, context, Some(moved));
+        self.core.set_relocation(slot, context, moved, now);
     }
 
     /// Frees the context of a relocation, which has no effect.
     pub(crate) fn end(&mut self, slot: usize, context: usize, now: u64)
         requires session { slot < 16 }
         requires context { context < 8 }
+        requires here { IsSome (relocation_at self.old slot context) }
         ensures { self.new ≡ with_relocation self.old slot context None now }
     {
-        self.core.pass(now);
-        set_context(&mut self.relocations, slot, context, None);
+        self.core.free(slot, context, now);
+    }
+
+    /// What is cleared once the record at a place is.
+    pub(crate) fn past(&self, place: Address) -> Address
+        requires place { IsRecordStart self.now.core.records.page_bits self.now.core.records.record_size place }
+        ensures { result ≡ cleared_past self.now place }
+    {
+        if self.cleared <= place {
+            self.core.records().next(place)
+        } else {
+            self.cleared
+        }
     }
 
     /// Clears a place whose record is superseded, where it was not cleared before, and frees the context of the relocation.
     pub(crate) fn finish(&mut self, slot: usize, context: usize, place: Address, now: u64)
         requires session { slot < 16 }
         requires context { context < 8 }
+        requires here { IsSome (relocation_at self.old slot context) }
         requires issued { place ≤ self.old.cleared }
         requires place { IsRecordStart self.old.core.records.page_bits self.old.core.records.record_size place }
         requires low { place < self.old.core.records.tail }
@@ -116,10 +126,8 @@ impl<F: Mergeable, R: Receipt> Partition<F, R> {
     {
         cleared_stay::<F::Key, F::Value>();
         self.core.known();
-        self.core.pass(now);
-        if self.cleared <= place {
-            self.cleared = self.core.records().next(place);
-        }
-        set_context(&mut self.relocations, slot, context, None);
+        let cleared = self.past(place);
+        self.core.free(slot, context, now);
+        self.cleared = cleared;
     }
 }

@@ -18,7 +18,7 @@ ghost use Rattle.fkv_lookups.specs.RecordsViews.{class_in, IsEntryOf, IsTruncati
 ghost use Rattle.fkv_texts.specs.Deltas.{IsCleared};
 ghost use Rattle.fkv_partition.specs.declared.changes.Write.{Write};
 ghost use Rattle.fkv_partition.specs.declared.contexts.Progress.{Progress};
-ghost use Rattle.fkv_partition.specs.CoreContexts.{joined, is_session};
+ghost use Rattle.fkv_partition.specs.CoreContexts.{is_session};
 ghost use Rattle.fkv_partition.specs.CoreViews.{CoreView, slots_of, live_of, with_payload};
 ghost use Rattle.fkv_partition.specs.CoreBeginning.{Enters, Issues};
 ghost use Rattle.fkv_partition.specs.CoreEnding.{Leaves, GivesUp};
@@ -29,7 +29,7 @@ ghost use Rattle.fkv_partition.specs.CoreFlushing.{Flushes};
 ghost use Rattle.fkv_partition.specs.CoreLoading.{Loads};
 ghost use Rattle.fkv_partition.specs.CoreTruncating.{Truncates};
 ghost use Rattle.fkv_partition.specs.Writes.{IsWrite};
-ghost use Rattle.fkv_partition.specs.Grown.{IsPreserved, ArePreserved, NoneOpens, AllStay};
+ghost use Rattle.fkv_partition.specs.Grown.{IsPreserved, ArePreserved, RelocationsStay, AllStay};
 ghost use Rattle.fkv_partition.specs.CoreSound.{IsSound};
 
 use fkv_device::Receipt;
@@ -122,45 +122,39 @@ pub fn kept_words_stay_sound<K, V, I>()
     entries_lead::<K, V>();
 }
 
-/// Where no operation was open none is, and a session that was entered is, by every event but those that are for this:
-/// an issue opens an operation in the context alone that was chosen, and the session alone goes that leaves.
+/// Every event of an operation on a key, of a session or of pages leaves the relocations in their contexts, and a session that
+/// was entered is, but the one that leaves.
 pub fn sessions_preserved<K, V, I, O, R>()
     ensures goes { (stands : R → Standing) (cmp : K → K → Ordering) (join : V → V → V) (f : Meanings K V I O) (code : K → ℕ)
         (old new : CoreView K V I) (slot c now : ℕ) (result : Result (Progress K V I O R) Refused)
-        → Goes stands cmp join f code old new slot c now result → NoneOpens old new × AllStay old new }
+        → Goes stands cmp join f code old new slot c now result → RelocationsStay old new × AllStay old new }
     ensures installs { (cmp : K → K → Ordering) (join : V → V → V) (f : Meanings K V I O) (code : K → ℕ) (old new : CoreView K V I)
         (slot c : ℕ) (ask : Ask K V I) (now : ℕ) (result : Result (Progress K V I O R) Refused)
-        → Installs cmp f code old new slot c ask now result → NoneOpens old new × AllStay old new }
+        → Installs cmp f code old new slot c ask now result → RelocationsStay old new × AllStay old new }
     ensures gives_up { (old new : CoreView K V I) (slot c now : ℕ) (result : Result (Unit {0}) Refused)
-        → GivesUp old new slot c now result → NoneOpens old new × AllStay old new }
+        → GivesUp old new slot c now result → RelocationsStay old new × AllStay old new }
     ensures issues { (code : K → ℕ) (old new : CoreView K V I) (slot c : ℕ) (op : KeyedOp K V I) (now : ℕ)
         → Issues code old new slot c op now
-        → ((p : ℕ) → p ≢ slot * 8 + c
-        → joined (slice_get old.contexts p) ≡ None → joined (slice_get new.contexts p) ≡ None)
-        × AllStay old new }
+        → RelocationsStay old new × AllStay old new }
     ensures enters { (old new : CoreView K V I) (now : ℕ) (result : Result ℕ Refused)
-        → Enters old new now result → NoneOpens old new × AllStay old new }
+        → Enters old new now result → RelocationsStay old new × AllStay old new }
     ensures leaves { (keeps : Bool) (old new : CoreView K V I) (slot now : ℕ) (result : Result (Unit {0}) Refused)
         → Leaves keeps old new slot now result
-        → NoneOpens old new
+        → RelocationsStay old new
         × ((s : ℕ) → s ≢ slot → is_session (slots_of old) s ≡ true → is_session (slots_of new) s ≡ true) }
     ensures refreshes { (keeps : Bool) (old new : CoreView K V I) (slot now : ℕ)
         (result : Result (Unit {0}) Refused)
-        → Refreshes keeps old new slot now result → NoneOpens old new × AllStay old new }
+        → Refreshes keeps old new slot now result → RelocationsStay old new × AllStay old new }
     ensures shifts { (keeps : Bool) (old new : CoreView K V I) (page now : ℕ) (result : Result (Unit {0}) Refused)
-        → Shifts keeps old new page now result → NoneOpens old new × AllStay old new }
+        → Shifts keeps old new page now result → RelocationsStay old new × AllStay old new }
     ensures evicts { (keeps : Bool) (old new : CoreView K V I) (page now : ℕ) (result : Result (Unit {0}) Refused)
-        → Evicts keeps old new page now result → NoneOpens old new × AllStay old new }
+        → Evicts keeps old new page now result → RelocationsStay old new × AllStay old new }
     ensures flushes { (old new : CoreView K V I) (s : Standing) (bytes : List ℕ) (now : ℕ)
         (result : Result (Unit {0}) Refused)
-        → Flushes old new s bytes now result → NoneOpens old new × AllStay old new }
+        → Flushes old new s bytes now result → RelocationsStay old new × AllStay old new }
     ensures truncates { (keeps : Bool) (old new : CoreView K V I) (page now : ℕ)
         (result : Result (Unit {0}) Refused)
-        → Truncates keeps old new page now result → NoneOpens old new × AllStay old new }
-    // a record is appended, and the context of its operation is freed
-    ensures appends { (v : CoreView K V I) (slot c now : ℕ) (write : Write K V) (has : Option V)
-        → NoneOpens v (with_payload v slot c write.entry write.key write.payload has now)
-        × AllStay v (with_payload v slot c write.entry write.key write.payload has now) }
+        → Truncates keeps old new page now result → RelocationsStay old new × AllStay old new }
 {}
 
 /// So it is where a page comes.
@@ -168,5 +162,5 @@ pub fn loads_preserve_sessions<F: Mergeable, R: Receipt>()
     ensures { (old new : CoreView F.Key F.Value F.Input) (slot c : ℕ) (came : Result (Joined R) Refused)
         (now : ℕ) (result : Result (Progress F.Key F.Value F.Input F.Output R) Refused)
         → Loads R.stands (IsEntryIn F.Key.codec F.Value.codec) F.Key.cmp F.parts.joined F.meaning old new slot c came now result
-        → NoneOpens old new × AllStay old new }
+        → RelocationsStay old new × AllStay old new }
 {}

@@ -15,6 +15,7 @@ use crate::preserving::events_preserve;
 use crate::relocations::{EntryOf, RelocationOf, Stage, StageOf};
 use fkv_device::Receipt;
 use fkv_functions::{Mergeable, Refused};
+use fkv_lookups::clearing::cleared_stay;
 use fkv_lookups::{Payload, low_of};
 use fkv_operations::{Answer, IndexEntry};
 use fkv_records::Address;
@@ -158,6 +159,7 @@ impl<F: Mergeable, R: Receipt> Partition<F, R> {
         ensures unchanged { OnErr result (self.new ≡ self.old) }
         ensures moment { self.new.core.moment ≤ now }
     {
+        cleared_stay::<F::Key, F::Value>();
         events_preserve::<F::Key, F::Value, F::Input, F::Output, R>();
         self.known();
         if !self.core.records().holds(&kept) {
@@ -169,6 +171,7 @@ impl<F: Mergeable, R: Receipt> Partition<F, R> {
             key: entry.key,
             payload: Payload::Whole(entry.value),
         };
+        let cleared = self.past(relocation.target);
         match self.core.append(slot, context, write, now) {
             Err(refused) => Err(refused),
             Ok(None) => {
@@ -177,7 +180,7 @@ impl<F: Mergeable, R: Receipt> Partition<F, R> {
             }
             Ok(Some(_address)) => {
                 self.core.known();
-                self.finish(slot, context, relocation.target, now);
+                self.cleared = cleared;
                 Ok(Progress::Done(Answer::Cleared, now))
             }
         }

@@ -289,7 +289,7 @@ loads-cases {K} {V} {I} {O} {R} stands entry cmp join f code old new slot c now 
   where
     by_rule : Loads stands entry cmp join f code old new slot c came now (Err e) → ((new ≡ old) × (ends_operation e ≡ false)) ⊎ ((new.core.moment ≡ now) × (ends_operation e ≡ true))
     by_rule (Loads.on_key none h rest) = elim (loads_on_key-cases stands entry cmp join f old.core new.core slot c now r access came e comes h) [
-      | inl same ↦ inl (rest ∙ ap (with_core old) same.0, same.1)
+      | inl same ↦ inl (rest.is ∙ ap (with_core old) same.0, same.1)
       | inr passed ↦ inr passed
     ]
     by_rule (Loads.relocation x k h) = loads_on-cases stands entry cmp join code old new slot c now r access came e comes h

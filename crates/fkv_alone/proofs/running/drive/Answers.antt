@@ -155,7 +155,7 @@ loop-turn-init g c = record {
   others = λ kept. pend-self g.F.Key.Ord.cmp c.args.partition.now.core c.args.slot c.args.context;
   on = tt;
   taken = omega arith;
-  rest = refl;
+  rest = record { is = refl; relocations = λ p. refl };
   past = c.requires.past;
 }
 

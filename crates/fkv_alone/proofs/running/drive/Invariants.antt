@@ -2,7 +2,7 @@ use Rattle.std.proofs.Common.{◌≡◌, ◌+◌, ◌≤◌, ℕ, true, IsTrue}
 use Rattle.fkv_operations.specs.After.{is_merge}
 use Rattle.fkv_operations.specs.declared.operations.KeyedOp.{KeyedOp}
 use Rattle.fkv_partition.specs.CoreViews.{CoreView}
-use Rattle.fkv_partition.specs.Views.{with_core}
+use Rattle.fkv_partition.specs.Events.{IsPassedOn}
 use Rattle.fkv_alone.specs.Stages.{HasCome, IsReady}
 use Rattle.fkv_alone.specs.Ending.{IsOn}
 use Rattle.fkv_partition.specs.Pending.{OthersPend}
@@ -24,6 +24,6 @@ invariant-loop-turn g l = record {
   others : IsTrue g.R.Receipt.keeps → OthersPend g.F.Key.Ord.cmp l.fn.partition.core l.partition.core l.slot l.context;
   on : IsOn l.told;
   taken : l.clock ≡ l.fn.clock + l._turn;
-  rest : l.partition ≡ with_core l.fn.partition l.partition.core;
+  rest : IsPassedOn l.fn.partition l.partition;
   past : l.partition.core.moment ≤ l.clock;
 }

@@ -8,4 +8,4 @@ pub returns-clause-low : goal.returns-clause-low
 returns-clause-low g c = λ v slot k x h. asked-low v slot k x h
 
 pub returns-clause-relocating : goal.returns-clause-relocating
-returns-clause-relocating g c = λ keeps cmp join code v slot k x s h. (relocation-asked v slot k s x h, not-pending v slot k cmp (alone-asked v slot k s x h))
+returns-clause-relocating g c = λ keeps cmp join code v slot k x s h. (relocation-asked v slot k x h, not-pending v slot k cmp (alone-asked v slot k x h))

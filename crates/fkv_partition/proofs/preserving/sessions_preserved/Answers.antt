@@ -1,4 +1,4 @@
-use Rattle.fkv_partition.proofs.SeatLemmas.{goes-seats, installs-seats, gives-up-seats, issues-seats, enters-seats, leaves-seats, refreshes-seats, shifts-seats, evicts-seats, flushes-seats, truncates-seats, appends-seats}
+use Rattle.fkv_partition.proofs.SeatLemmas.{goes-seats, installs-seats, gives-up-seats, issues-seats, enters-seats, leaves-seats, refreshes-seats, shifts-seats, evicts-seats, flushes-seats, truncates-seats}
 use Rattle.fkv_partition.proofs.preserving.sessions_preserved.Goals as goal
 
 pub returns : goal.returns
@@ -14,5 +14,4 @@ returns g c = record {
   evicts = λ keeps old new page now result h. evicts-seats old new keeps page now result h;
   flushes = λ old new st bytes now result h. flushes-seats old new st bytes now result h;
   truncates = λ keeps old new page now result h. truncates-seats old new keeps page now result h;
-  appends = λ v slot at now write has. appends-seats v slot at now write has;
 }

@@ -1,8 +1,7 @@
 use Rattle.std.proofs.Common.{◌≡◌, ◌+◌, ◌<◌, ◌∙◌, true, false, is_some, sym, ap, arith}
-use Rattle.fkv_partition.specs.CoreViews.{CoreView}
 use Rattle.fkv_partition.specs.Views.{relocation_at}
 use Rattle.fkv_compaction.specs.Compactor.{GivesUpAll}
-use Rattle.fkv_compaction.proofs.CompactorLemmas.{dropped, first-here, none-up_to, none-past, none-all, asked-other}
+use Rattle.fkv_compaction.proofs.CompactorLemmas.{dropped, first-here, none-up_to, none-past, none-all, asked-other, without-more}
 use Rattle.fkv_compaction.proofs.compactor.Compactor.give_up_all.Goals.{then-is_some+in-Ok, else-is_some}
 use Rattle.fkv_compaction.proofs.compactor.Compactor.give_up_all.Goals as goal
 
@@ -16,15 +15,14 @@ loop-context-preserved g c =
     elim c.if-is_some.branch [
       | then-is_some+in-Ok w ↦
           (let some : is_some (relocation_at v slot context) ≡ true = told ∙ w.if-is_some.true in
-          let inside : context < 8 = omega (arith, c.loop-context-test.true) in
           let drop = w.give_up-given_up in
           let gone = dropped v drop.new.self slot context w.in-Ok.now drop.result some (rw c.self.view_is at drop.ensures.effect) in
           rw (w.partition-is, gone, w.clock-is, w.in-Ok.ensures.given, w.in-Ok.ensures.ok)
           (record {
-            none = none-past g.F.Key.Ord.cmp v slot context (c.loop-context.clock + 1) inside kept.none some;
+            none = none-past g.F.Key.Ord.cmp v slot context (c.loop-context.clock + 1) some kept.none;
             goes = λ new end more. kept.goes new end (GivesUpAll.next (first-here v slot context some kept.none) more);
-            others = λ s d other. asked-other g.F.Key.Ord.cmp v slot context (c.loop-context.clock + 1) inside s d other ∙ kept.others s d other;
-            core = ap {A = CoreView g.row.F-Key.Denot g.row.F-Value.Denot g.row.F-Input.Denot} (λ p. record p { moment = c.loop-context.clock + 1 }) kept.core;
+            others = λ s d other. asked-other g.F.Key.Ord.cmp v slot context (c.loop-context.clock + 1) some s d other ∙ kept.others s d other;
+            core = without-more g.F.Key.Ord.cmp v slot context (c.loop-context.clock + 1) some kept.core;
             cleared = kept.cleared;
             past = omega arith;
             used = omega (arith, kept.used);

@@ -1,7 +1,7 @@
 use Rattle.std.proofs.Common.{◌≡◌, ◌≢◌, ◌+◌, ◌<◌, ◌≤◌, ℕ, None}
 use Rattle.fkv_partition.specs.Effect.{asked}
 use Rattle.fkv_partition.specs.Views.{PartitionView, relocation_at}
-use Rattle.fkv_compaction.specs.Compactor.{GivesUpAll}
+use Rattle.fkv_compaction.specs.Compactor.{GivesUpAll, IsWithoutThem}
 use Rattle.fkv_compaction.proofs.compactor.Compactor.give_up_all.Given as goal
 
 abbrev pub invariant-loop-context : goal.invariant-loop-context
@@ -11,7 +11,7 @@ invariant-loop-context g l = record {
       → GivesUpAll l.self l.partition new l.clock end
       → GivesUpAll l.self l.fn.partition new l.fn.clock end;
   others : (s d : ℕ) → s ≢ l.self → asked l.partition s d ≡ asked l.fn.partition s d;
-  core : l.partition.core ≡ record l.fn.partition.core { moment = l.partition.core.moment };
+  core : IsWithoutThem g.F.Key.Ord.cmp l.fn.partition.core l.partition.core;
   cleared : l.partition.cleared ≡ l.fn.partition.cleared;
   past : l.partition.core.moment ≤ l.clock;
   used : l.clock ≤ l.fn.clock + l.context;

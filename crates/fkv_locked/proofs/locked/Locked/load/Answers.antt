@@ -29,8 +29,8 @@ invariant_of-self-2 g c =
       λ k held.
           let kept = c.self.invariant.3 k held in
           c.note_loaded.ensures.kept k c.self.inside.partition c.load.new.self c.self.inside.looks.items c.mark_at-look.ensures
-          (load_comes g.R.Receipt.stands _ g.F.Key.Ord.cmp g.F.Mergeable.parts.joined g.F.Functions.meaning g.F.Functions.code g.R.Receipt.keeps c.self.inside.partition c.load.new.self c.args.mine.now c.args.came c.in-Ok.now
-          c.known.ensures.compacting c.in-Ok.ensures.asks (λ p h. (kept.past c.args.mine.now.seat.slot c.args.mine.now.context p h).early) (omega arith)
+          (load_comes g.R.Receipt.stands _ g.F.Key.Ord.cmp g.F.Mergeable.parts.joined g.F.Functions.meaning g.F.Functions.code c.self.inside.partition c.load.new.self c.args.mine.now c.args.came c.in-Ok.now
+          c.in-Ok.ensures.asks (λ p h. (kept.past c.args.mine.now.seat.slot c.args.mine.now.context p h).early) (omega arith)
           c.in-Ok-load.progress c.in-Ok-load.ensures.effect (c.in-Ok-load.ensures.event held) (c.load.ensures.others held))
           (rw c.in-Ok.ensures.entries kept),
     )

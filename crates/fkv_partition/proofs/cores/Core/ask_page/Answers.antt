@@ -10,7 +10,7 @@ use Rattle.fkv_partition.specs.CoreContexts.{claim_by}
 use Rattle.fkv_partition.specs.CoreViews.{slots_of, met_at}
 use Rattle.fkv_partition.specs.CoreGoing.{asks_page, unshared}
 use Rattle.fkv_functions.proofs.CallLemmas.{with_six}
-use Rattle.fkv_partition.proofs.AskedLemmas.{open_at}
+use Rattle.fkv_partition.proofs.AskedLemmas.{key_at}
 use Rattle.fkv_partition.proofs.EventLemmas.{loading-stands, event-loads}
 use Rattle.fkv_partition.proofs.DecidedLemmas.{page_flushed}
 use Rattle.fkv_partition.proofs.cores.Core.ask_page.Goals as goal
@@ -23,7 +23,7 @@ receipt-requires-whole g c κs =
     let v = c.args.self.now in
     let x = c.args.operation.now in
     let d = c.requires.decided in
-    let inside = (open_at (slots_of v) v.contexts c.args.slot c.args.context x d.here).inside in
+    let inside = (key_at (slots_of v) v.contexts c.args.slot c.args.context x d.here).inside in
     let met = load-met g.F.Functions.meaning x.op (met_at g.F.Key.Ord.cmp g.F.Mergeable.parts.joined g.F.Functions.code v c.args.slot (key_of x.op)) c.args.wanted c.args.parts d.decided in
     let w = c.meetings_tell.ensures.wanted g.R.Receipt.keeps g.F.Key.Ord.cmp g.F.Mergeable.parts.joined g.F.Functions.code v.records (key_of x.op) c.args.slot c.args.wanted c.args.parts order c.known.ensures.traced c.known.ensures.stood inside met in
     with_six (
@@ -42,7 +42,7 @@ set_phase-requires-clause-stands g c =
     let d = c.requires.decided in
     let class = class_in g.F.Functions.code v.records (key_of x.op) in
     let a = address_of c.args.kept.word in
-    let inside = (open_at (slots_of v) v.contexts c.args.slot c.args.context x d.here).inside in
+    let inside = (key_at (slots_of v) v.contexts c.args.slot c.args.context x d.here).inside in
     let leads = c.entries_lead.ensures.found g.R.Receipt.keeps g.F.Functions.code v.records class c.args.kept c.known.ensures.traced c.requires.stands in
     let met = load-met g.F.Functions.meaning x.op (met_at g.F.Key.Ord.cmp g.F.Mergeable.parts.joined g.F.Functions.code v c.args.slot (key_of x.op)) c.args.wanted c.args.parts d.decided in
     let begins : c.begin.result ≡ v.records.begin = c.begin.ensures ∙ ap (λ u. u.records.begin) c.self.view_is in

@@ -2,7 +2,7 @@ use Rattle.std.proofs.Common.{◌≡◌, true, false, Some, refl, sym, ap, ◌�
 use Rattle.std.proofs.Math.Nat.{le_of_lt, le_refl}
 use Rattle.fkv_index.specs.Places.{word_at}
 use Rattle.fkv_partition.specs.declared.contexts.Phase.TheVariants.{Fresh}
-use Rattle.fkv_partition.specs.CoreContexts.{context_in, question_in}
+use Rattle.fkv_partition.specs.CoreContexts.{context_in, question_in, on_key}
 use Rattle.fkv_partition.specs.CoreInside.{view_of}
 use Rattle.fkv_partition.specs.CoreInstalling.{unknown, not_ready, stranger, moved}
 use Rattle.fkv_functions.proofs.CallLemmas.{with_six}
@@ -21,7 +21,7 @@ returns-then-not-is-clause-effect g c =
 pub holds-requires-whole : goal.holds-requires-whole
 holds-requires-whole g c κs =
     let q = c.in-Some-question_of.question in
-    let at : context_in c.self.inside.records.regions.epochs.slots c.self.inside.contexts.items c.args.slot c.args.context ≡ Some c.in-Some.open = rw (← c.self.view_is) at (sym c.in-Some.ensures.value) in
+    let at : on_key (context_in c.self.inside.records.regions.epochs.slots c.self.inside.contexts.items c.args.slot c.args.context) ≡ Some c.in-Some.open = rw (← c.self.view_is) at (sym c.in-Some.ensures.value) in
     with_six (
     (kept-at g.F.Key.Ord.cmp g.F.Mergeable.parts.joined g.F.Functions.code (view_of g.F.Mergeable.MERGES c.self.inside.number c.self.inside.count c.self.inside.records c.self.inside.contexts.items c.self.inside.moment) c.self.invariant c.args.slot c.args.context c.in-Some.open q.0 q.1 at (sym c.in-Some-question_of.ensures)).entry.place)
 

@@ -34,7 +34,7 @@ use Rattle.fkv_partition.specs.CoreContexts.{is_session}
 use Rattle.fkv_partition.specs.CoreGoing.{done, claims, unclaimed, waits}
 use Rattle.fkv_partition.specs.CoreSound.{IsSound}
 use Rattle.fkv_partition.specs.CoreViews.{CoreView, context_at, slots_of, seen_at, entry_for, found_for, first_from, met_at, partition_of}
-use Rattle.fkv_partition.proofs.AskedLemmas.{open_at}
+use Rattle.fkv_partition.proofs.AskedLemmas.{key_at}
 use Rattle.fkv_partition.proofs.DecidedLemmas.{replaced-at, seen-begun, first-met, met-first}
 use Rattle.fkv_partition.proofs.EventLemmas.{decides-at, event-quiet, event-claims, event-waits, claims-none, merging-at, own-at}
 use Rattle.fkv_partition.proofs.cores.Core.look_up.Goals as goal
@@ -70,7 +70,7 @@ module _ {K V I O : Type 0} {keeps : Bool} (cmp : K → K → Ordering) (join : 
     (firsts : (keeps : Bool) (cmp : K → K → Ordering) (join : V → V → V) (code : K → ℕ) (v : RecordsView K V) (k : K) (low a : ℕ) → IsKeyOrder cmp → IsTraced keeps code v → IsStood cmp join v → entry_of v (class_in code v k) ≡ Some a → v.from ≤ low → IsFirst (first_up cmp code v low k a) (looked_up cmp join code v low k a))
     (value : Option V) (told : Answer O) (d : Decision V I O) (met : d ≡ decision f x.op (met_at cmp join code v slot (key_of x.op))) (is : d ≡ Replace value told) where
   inside-here : is_session (slots_of v) slot ≡ true
-  inside-here = (open_at (slots_of v) v.contexts slot c x here).inside
+  inside-here = (key_at (slots_of v) v.contexts slot c x here).inside
 
   first-here : first ≡ first_from cmp code v slot (key_of x.op) (entry_for code v (key_of x.op))
   first-here = read ∙ ap (λ k. first_from cmp code v slot k (entry_for code v k)) own
@@ -104,7 +104,7 @@ module _ {K V I O : Type 0} {keeps : Bool} (cmp : K → K → Ordering) (join : 
 pub first-first-requires-clause-entered : goal.first-first-requires-clause-entered
 first-first-requires-clause-entered g c =
     let v = c.args.self.now in
-    (open_at (slots_of v) v.contexts c.args.slot c.args.context c.args.operation.now c.requires.here).inside
+    (key_at (slots_of v) v.contexts c.args.slot c.args.context c.args.operation.now c.requires.here).inside
 
 pub first-first-requires-clause-entry : goal.first-first-requires-clause-entry
 first-first-requires-clause-entry g c = c.address_of-address.ensures ∙ c.find-entry.ensures.address
@@ -112,13 +112,13 @@ first-first-requires-clause-entry g c = c.address_of-address.ensures ∙ c.find-
 pub decided-requires-clause-entered : goal.decided-requires-clause-entered
 decided-requires-clause-entered g c =
     let v = c.args.self.now in
-    (open_at (slots_of v) v.contexts c.args.slot c.args.context c.args.operation.now c.requires.here).inside
+    (key_at (slots_of v) v.contexts c.args.slot c.args.context c.args.operation.now c.requires.here).inside
 
 pub decided-requires-clause-merging : goal.decided-requires-clause-merging
 decided-requires-clause-merging g c =
     let v = c.args.self.now in
     let x = c.args.operation.now in
-    c.known.ensures.merging _ x (open_at (slots_of v) v.contexts c.args.slot c.args.context x c.requires.here).here
+    c.known.ensures.merging _ x (key_at (slots_of v) v.contexts c.args.slot c.args.context x c.requires.here).here
 
 pub decided-requires-clause-entry : goal.decided-requires-clause-entry
 decided-requires-clause-entry g c =
@@ -148,7 +148,7 @@ returns-in-Done-clause-event g c =
     rw c.free.ensures
     (event-quiet g.F.Key.Ord.cmp g.F.Mergeable.parts.joined g.F.Functions.meaning g.F.Functions.code v c.args.slot c.args.context c.args.now x c.requires.here g.F.Mergeable.parts
     (λ m. g.met.F.Mergeable.merges (merging-at v g.F.Mergeable.MERGES c.args.slot c.args.context x c.known.ensures (sym c.merges-merges.ensures.functions ∙ c.merges-merges.ensures.value) c.requires.here m)) order
-    (c.meetings_tell.ensures.held g.R.Receipt.keeps g.F.Key.Ord.cmp g.F.Mergeable.parts.joined g.F.Functions.code v.records (key_of x.op) c.args.slot order c.known.ensures.traced c.known.ensures.stood (open_at (slots_of v) v.contexts c.args.slot c.args.context x c.requires.here).inside) c.in-Done.answer (sym c.decided.ensures ∙ c.in-Done.is))
+    (c.meetings_tell.ensures.held g.R.Receipt.keeps g.F.Key.Ord.cmp g.F.Mergeable.parts.joined g.F.Functions.code v.records (key_of x.op) c.args.slot order c.known.ensures.traced c.known.ensures.stood (key_at (slots_of v) v.contexts c.args.slot c.args.context x c.requires.here).inside) c.in-Done.answer (sym c.decided.ensures ∙ c.in-Done.is))
 
 pub claim-requires-clause-range : goal.claim-requires-clause-range
 claim-requires-clause-range g c = c.find-entry.ensures.range

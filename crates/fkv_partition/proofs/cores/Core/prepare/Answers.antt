@@ -7,7 +7,7 @@ use Rattle.fkv_operations.specs.declared.operations.KeyedOp.TheVariants.{Rmw}
 use Rattle.fkv_partition.specs.CoreContexts.{claim_by}
 use Rattle.fkv_lookups.specs.DecisionLaws.{prepare-met}
 use Rattle.fkv_partition.specs.CoreViews.{slots_of, met_at}
-use Rattle.fkv_partition.proofs.AskedLemmas.{open_at}
+use Rattle.fkv_partition.proofs.AskedLemmas.{key_at}
 use Rattle.fkv_partition.specs.CoreGoing.{prepares}
 use Rattle.fkv_partition.proofs.EventLemmas.{asks-rmw, prepared-stands, event-prepares}
 use Rattle.fkv_partition.proofs.cores.Core.prepare.Goals as goal
@@ -25,7 +25,7 @@ set_phase-requires-clause-stands g c =
     let d = c.requires.decided in
     let class = class_in g.F.Functions.code v.records (key_of x.op) in
     let a = address_of c.args.kept.word in
-    let inside = (open_at (slots_of v) v.contexts c.args.slot c.args.context x d.here).inside in
+    let inside = (key_at (slots_of v) v.contexts c.args.slot c.args.context x d.here).inside in
     let leads = c.entries_lead.ensures.found g.R.Receipt.keeps g.F.Functions.code v.records class c.args.kept c.known.ensures.traced c.requires.stands in
     let held = c.meetings_tell.ensures.held g.R.Receipt.keeps g.F.Key.Ord.cmp g.F.Mergeable.parts.joined g.F.Functions.code v.records (key_of x.op) c.args.slot order c.known.ensures.traced c.known.ensures.stood inside in
     prepared-stands g.F.Key.Ord.cmp g.F.Mergeable.parts.joined g.F.Functions.meaning g.F.Functions.code v c.args.slot c.args.context c.args.now x d.here g.R.Receipt.keeps c.args.kept c.args.ask.source c.args.ask.input

@@ -5,7 +5,7 @@ use Rattle.fkv_operations.specs.After.{key_of}
 use Rattle.fkv_partition.specs.CoreContexts.{claim_by}
 use Rattle.fkv_partition.specs.CoreViews.{slots_of, seen_at}
 use Rattle.fkv_partition.specs.CoreGoing.{replaces}
-use Rattle.fkv_partition.proofs.AskedLemmas.{open_at}
+use Rattle.fkv_partition.proofs.AskedLemmas.{key_at}
 use Rattle.fkv_partition.proofs.EventLemmas.{event-replaces, claims-none, last-is, merging-at}
 use Rattle.fkv_partition.proofs.DecidedLemmas.{replaced-at, met-replaceable}
 use Rattle.fkv_partition.proofs.cores.Core.rewrite.Goals as goal
@@ -23,7 +23,7 @@ replace-requires-clause-last g c =
     let v = c.args.self.now in
     let x = c.args.operation.now in
     let d = c.requires.decided in
-    let inside = (open_at (slots_of v) v.contexts c.args.slot c.args.context x d.here).inside in
+    let inside = (key_at (slots_of v) v.contexts c.args.slot c.args.context x d.here).inside in
     let m = replaced-at g.F.Key.Ord.cmp g.F.Mergeable.parts.joined g.F.Functions.meaning g.F.Functions.code v c.args.slot x.op c.args.value c.args.answer (λ w. c.meetings_tell.ensures.mutable g.R.Receipt.keeps g.F.Key.Ord.cmp g.F.Mergeable.parts.joined g.F.Functions.code v.records (key_of x.op) c.args.slot w order c.known.ensures.traced c.known.ensures.stood inside) d.decided in
     let same = last-is _ c.args.last m.1.entry c.requires.last m.1.last in
     rw same (met-replaceable g.F.Key.Ord.cmp g.F.Mergeable.parts.joined g.F.Functions.code v.records (seen_at v c.args.slot) (key_of x.op) m.0 region.Mutable order m.1)
@@ -36,7 +36,7 @@ replace-requires-clause-mutable g c =
     let v = c.args.self.now in
     let x = c.args.operation.now in
     let d = c.requires.decided in
-    let inside = (open_at (slots_of v) v.contexts c.args.slot c.args.context x d.here).inside in
+    let inside = (key_at (slots_of v) v.contexts c.args.slot c.args.context x d.here).inside in
     let m = replaced-at g.F.Key.Ord.cmp g.F.Mergeable.parts.joined g.F.Functions.meaning g.F.Functions.code v c.args.slot x.op c.args.value c.args.answer (λ w. c.meetings_tell.ensures.mutable g.R.Receipt.keeps g.F.Key.Ord.cmp g.F.Mergeable.parts.joined g.F.Functions.code v.records (key_of x.op) c.args.slot w order c.known.ensures.traced c.known.ensures.stood inside) d.decided in
     let same = last-is _ c.args.last m.1.entry c.requires.last m.1.last in
     rw same (c.meetings_tell.ensures.unfrozen g.R.Receipt.keeps g.F.Key.Ord.cmp g.F.Mergeable.parts.joined g.F.Functions.code v.records (key_of x.op) c.args.slot m.0 c.known.ensures.traced c.known.ensures.stood inside m.1)
@@ -52,7 +52,7 @@ returns-clause-event g c =
     let v = c.args.self.now in
     let x = c.args.operation.now in
     let d = c.requires.decided in
-    let inside = (open_at (slots_of v) v.contexts c.args.slot c.args.context x d.here).inside in
+    let inside = (key_at (slots_of v) v.contexts c.args.slot c.args.context x d.here).inside in
     rw c.replace.ensures
     (event-replaces g.F.Key.Ord.cmp g.F.Mergeable.parts.joined g.F.Functions.meaning g.F.Functions.code v c.args.slot c.args.context c.args.now x d.here g.F.Mergeable.parts
     (λ m. g.met.F.Mergeable.merges (merging-at v g.F.Mergeable.MERGES c.args.slot c.args.context x c.known.ensures (sym c.merges-merges.ensures.functions ∙ c.merges-merges.ensures.value) d.here m))

@@ -1,28 +1,27 @@
 use Rattle.std.proofs.Common.{◌≡◌, ◌+◌, ◌*◌, Some}
-use Rattle.fkv_partition.specs.CoreContexts.{context_in, at_phase}
+use Rattle.fkv_partition.specs.CoreContexts.{context_in, at_phase, on_key}
 use Rattle.fkv_partition.specs.CoreInside.{view_of}
 use Rattle.fkv_partition.proofs.SoundLemmas.{sound-context}
-use Rattle.fkv_partition.proofs.AskedLemmas.{open_at}
+use Rattle.fkv_partition.proofs.AskedLemmas.{key_at}
 use Rattle.fkv_partition.proofs.EventLemmas.{own-at, claims-none}
 use Rattle.fkv_partition.proofs.cores.Core.set_phase.Goals as goal
 
 pub invariant_of-self : goal.invariant_of-self
 invariant_of-self g c =
     let x = c.args.operation.now in
-    let at : context_in c.self.inside.records.regions.epochs.slots c.self.inside.contexts.items c.args.slot c.args.context ≡ Some x = rw (← c.self.view_is) at c.requires.here in
-    let here = open_at c.self.inside.records.regions.epochs.slots c.self.inside.contexts.items c.args.slot c.args.context x at in
+    let at : on_key (context_in c.self.inside.records.regions.epochs.slots c.self.inside.contexts.items c.args.slot c.args.context) ≡ Some x = rw (← c.self.view_is) at c.requires.here in
+    let here = key_at c.self.inside.records.regions.epochs.slots c.self.inside.contexts.items c.args.slot c.args.context x at in
     rw (c.move_on.ensures)
     (sound-context c.self.invariant c.args.slot c.args.context c.args.now (at_phase x c.args.phase)
     (claims-none (view_of g.F.Mergeable.MERGES c.self.inside.number c.self.inside.count c.self.inside.records c.self.inside.contexts.items c.self.inside.moment) c.args.slot c.args.context x at c.requires.unclaimed) c.requires.claims_nothing
+    (record { inside = here.inside; low = here.low })
     (record {
       stands = rw (← c.self.view_is) at c.requires.stands;
       own = own-at g.F.Key.Ord.cmp g.F.Mergeable.parts.joined g.F.Functions.code (view_of g.F.Mergeable.MERGES c.self.inside.number c.self.inside.count c.self.inside.records c.self.inside.contexts.items c.self.inside.moment) c.self.invariant c.args.slot c.args.context x at;
       merging = c.self.invariant.merging (c.args.slot * 8 + c.args.context) x here.here;
-      inside = here.inside;
-      low = here.low;
     }))
 
 pub move_on-requires-clause-here : goal.move_on-requires-clause-here
 move_on-requires-clause-here g c =
-    let at : context_in c.self.inside.records.regions.epochs.slots c.self.inside.contexts.items c.args.slot c.args.context ≡ Some c.args.operation.now = rw (← c.self.view_is) at c.requires.here in
-    (open_at c.self.inside.records.regions.epochs.slots c.self.inside.contexts.items c.args.slot c.args.context c.args.operation.now at).here
+    let at : on_key (context_in c.self.inside.records.regions.epochs.slots c.self.inside.contexts.items c.args.slot c.args.context) ≡ Some c.args.operation.now = rw (← c.self.view_is) at c.requires.here in
+    (key_at c.self.inside.records.regions.epochs.slots c.self.inside.contexts.items c.args.slot c.args.context c.args.operation.now at).here

@@ -8,4 +8,5 @@ invariant_of-self g c =
     rw c.set_context.ensures
     (sound-context c.self.invariant c.args.slot c.args.context c.args.now (record { number = c.args.now; op = c.args.op; phase = Fresh })
     (rw (← c.self.view_is) at c.requires.unclaimed) refl
-    (record { stands = tt; own = rw (← c.self.view_is) at c.requires.own; merging = rw (← c.self.view_is) at c.requires.merging; inside = rw (← c.self.view_is) at c.requires.entered; low = c.requires.context }))
+    (record { inside = rw (← c.self.view_is) at c.requires.entered; low = c.requires.context })
+    (record { stands = tt; own = rw (← c.self.view_is) at c.requires.own; merging = rw (← c.self.view_is) at c.requires.merging }))

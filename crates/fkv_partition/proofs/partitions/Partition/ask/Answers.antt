@@ -1,9 +1,10 @@
-use Rattle.std.proofs.Common.{refl, subst}
+use Rattle.std.proofs.Common.{Some, refl, subst}
 use Rattle.fkv_records.specs.Places.{page_at}
 use Rattle.fkv_pages.specs.Loads.{IsHeldBy}
 use Rattle.fkv_partition.specs.Checking.{asks}
+use Rattle.fkv_partition.specs.Views.{at_stage}
 use Rattle.fkv_partition.proofs.ApartLemmas.{err-ok, loads-done, no-later, has-come}
-use Rattle.fkv_partition.proofs.MoveLemmas.{event-set}
+use Rattle.fkv_partition.proofs.MoveLemmas.{event-set, keyless-here}
 use Rattle.fkv_partition.proofs.partitions.Partition.ask.Goals as goal
 
 pub returns-clause-effect : goal.returns-clause-effect
@@ -12,7 +13,7 @@ returns-clause-effect g c =
     rw c.set_stage.ensures (asks c.in-Ok.receipt (subst (λ u. IsHeldBy u.core.records.receipts (page_at u.core.records.page_bits c.args.wanted) (g.R.Receipt.stands c.in-Ok.receipt)) c.self.view_is held) refl refl)
 
 pub returns-clause-event : goal.returns-clause-event
-returns-clause-event g c = rw c.set_stage.ensures (event-set g.R.Receipt.keeps g.F.Key.Ord.cmp c.args.self.now c.args.slot c.args.context c.args.now c.requires.context _)
+returns-clause-event g c = rw c.set_stage.ensures (event-set g.R.Receipt.keeps g.F.Key.Ord.cmp c.args.self.now c.args.slot c.args.context c.args.now c.requires.context (keyless-here c.args.self.now c.args.slot c.args.context c.args.relocation.now c.requires.here) (Some (at_stage c.args.relocation.now c.args.stage)))
 
 pub returns-in-Err-clause-uncleared : goal.returns-in-Err-clause-uncleared
 returns-in-Err-clause-uncleared g c = err-ok

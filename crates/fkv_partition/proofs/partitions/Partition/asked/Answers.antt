@@ -10,7 +10,7 @@ returns-then-not-is_session-clause-none g c =
 
 pub returns-in-Ok-clause-within : goal.returns-in-Ok-clause-within
 returns-in-Ok-clause-within g c =
-    let v = view_of c.self.inside.core c.self.inside.cleared c.self.inside.relocations.items in
+    let v = view_of c.self.inside.core c.self.inside.cleared in
     (c.is_session.ensures.within c.if-not-is_session.false, asked-low v c.args.slot c.args.context _ (asked-key v c.args.slot c.args.context _ c.in-Ok.ensures.ok))
 
 pub returns-in-Some-clause-ok : goal.returns-in-Some-clause-ok

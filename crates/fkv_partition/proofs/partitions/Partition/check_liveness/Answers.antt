@@ -7,7 +7,7 @@ use Rattle.fkv_lookups.specs.RecordsViews.{class_in, IsEntryOf}
 use Rattle.fkv_partition.specs.CoreViews.{partition_of, found_for, entry_for}
 use Rattle.fkv_partition.specs.Checking.{NeedsNoCopy, ChecksLiveness}
 use Rattle.fkv_partition.proofs.ApartLemmas.{none-by, some-by, has-come}
-use Rattle.fkv_partition.proofs.MoveLemmas.{event-done, past-place, open-here, stands-here, low-here}
+use Rattle.fkv_partition.proofs.MoveLemmas.{event-done, past-place, open-here, stands-here, low-here, keyless-here}
 use Rattle.fkv_partition.proofs.CheckingLemmas.{superseded-one, superseded-foreign, superseded-nowhere}
 use Rattle.fkv_partition.proofs.partitions.Partition.check_liveness.Goals as goal
 
@@ -33,7 +33,7 @@ pub returns-then-is_none-clause-event : goal.returns-then-is_none-clause-event
 returns-then-is_none-clause-event g c =
     let v = c.args.self.now in
     let x = c.args.relocation.now in
-    rw c.finish.ensures (event-done g.R.Receipt.keeps g.F.Key.Ord.cmp v c.args.slot c.args.context c.args.now c.requires.context x.target (past-place v x.target c.known.ensures.core.traced (stands-here v c.args.slot c.args.context x c.requires.here c.known.ensures.compacting).place).0)
+    rw c.finish.ensures (event-done g.R.Receipt.keeps g.F.Key.Ord.cmp v c.args.slot c.args.context c.args.now c.requires.context (keyless-here v c.args.slot c.args.context c.args.relocation.now c.requires.here) x.target (past-place v x.target c.known.ensures.core.traced (stands-here v c.args.slot c.args.context x c.requires.here c.known.ensures.compacting).place).0)
 
 pub returns-then-is_none-clause-cleared : goal.returns-then-is_none-clause-cleared
 returns-then-is_none-clause-cleared g c =
@@ -74,7 +74,7 @@ pub returns-then-home-number-clause-event : goal.returns-then-home-number-clause
 returns-then-home-number-clause-event g c =
     let v = c.args.self.now in
     let x = c.args.relocation.now in
-    rw c.finish-then-home-number.ensures (event-done g.R.Receipt.keeps g.F.Key.Ord.cmp v c.args.slot c.args.context c.args.now c.requires.context x.target (past-place v x.target c.known.ensures.core.traced (stands-here v c.args.slot c.args.context x c.requires.here c.known.ensures.compacting).place).0)
+    rw c.finish-then-home-number.ensures (event-done g.R.Receipt.keeps g.F.Key.Ord.cmp v c.args.slot c.args.context c.args.now c.requires.context (keyless-here v c.args.slot c.args.context c.args.relocation.now c.requires.here) x.target (past-place v x.target c.known.ensures.core.traced (stands-here v c.args.slot c.args.context x c.requires.here c.known.ensures.compacting).place).0)
 
 pub returns-then-home-number-clause-cleared : goal.returns-then-home-number-clause-cleared
 returns-then-home-number-clause-cleared g c =
@@ -115,7 +115,7 @@ pub returns-in-None-clause-event : goal.returns-in-None-clause-event
 returns-in-None-clause-event g c =
     let v = c.args.self.now in
     let x = c.args.relocation.now in
-    rw c.finish-in-None.ensures (event-done g.R.Receipt.keeps g.F.Key.Ord.cmp v c.args.slot c.args.context c.args.now c.requires.context x.target (past-place v x.target c.known.ensures.core.traced (stands-here v c.args.slot c.args.context x c.requires.here c.known.ensures.compacting).place).0)
+    rw c.finish-in-None.ensures (event-done g.R.Receipt.keeps g.F.Key.Ord.cmp v c.args.slot c.args.context c.args.now c.requires.context (keyless-here v c.args.slot c.args.context c.args.relocation.now c.requires.here) x.target (past-place v x.target c.known.ensures.core.traced (stands-here v c.args.slot c.args.context x c.requires.here c.known.ensures.compacting).place).0)
 
 pub returns-in-None-clause-cleared : goal.returns-in-None-clause-cleared
 returns-in-None-clause-cleared g c =

@@ -6,7 +6,7 @@ use Rattle.fkv_partition.specs.CoreViews.{entry_for}
 use Rattle.fkv_partition.proofs.DecidedLemmas.{page_flushed}
 use Rattle.fkv_partition.specs.Checking.{ChecksLiveness}
 use Rattle.fkv_functions.proofs.CallLemmas.{with_six}
-use Rattle.fkv_partition.proofs.MoveLemmas.{event-done, past-place, open-here, stands-here, low-here}
+use Rattle.fkv_partition.proofs.MoveLemmas.{event-done, past-place, open-here, stands-here, low-here, keyless-here}
 use Rattle.fkv_partition.proofs.CheckingLemmas.{told-so, superseded-one, superseded-newer, ready, further-disk, tracing}
 use Rattle.fkv_partition.specs.Checking.{NeedsNoCopy}
 use Rattle.fkv_partition.proofs.ApartLemmas.{no-higher, has-come}
@@ -101,7 +101,7 @@ returns-in-Superseded-clause-event g c =
     let v = c.args.self.now in
     let x = c.args.relocation.now in
     let e = c.args.entry in
-    rw c.finish.ensures (event-done g.R.Receipt.keeps g.F.Key.Ord.cmp v c.args.slot c.args.context c.args.now c.requires.context x.target (past-place v x.target c.known.ensures.core.traced (stands-here v c.args.slot c.args.context x c.requires.here c.known.ensures.compacting).place).0)
+    rw c.finish.ensures (event-done g.R.Receipt.keeps g.F.Key.Ord.cmp v c.args.slot c.args.context c.args.now c.requires.context (keyless-here v c.args.slot c.args.context c.args.relocation.now c.requires.here) x.target (past-place v x.target c.known.ensures.core.traced (stands-here v c.args.slot c.args.context x c.requires.here c.known.ensures.compacting).place).0)
 
 pub returns-in-Superseded-clause-cleared : goal.returns-in-Superseded-clause-cleared
 returns-in-Superseded-clause-cleared g c =

@@ -10,8 +10,8 @@ returns-in-None-clause-effect g c = GivesUp.on_key (sym c.relocation.ensures.val
 
 pub returns-in-None-clause-event : goal.returns-in-None-clause-event
 returns-in-None-clause-event g c =
-    on-ok c.give_up_on_key.result (λ e. subst (λ w. IsGiveUp c.args.self.now w c.args.slot c.args.context c.args.now) (sym c.give_up_on_key.ensures.rest)
-    (key-give-up c.args.self.now c.give_up_on_key.new.self.core c.args.slot c.args.context c.args.now (sym c.relocation.ensures.value ∙ c.in-None.is) e)) c.give_up_on_key.ensures.event
+    on-ok c.give_up_on_key.result (λ e. subst (λ w. IsGiveUp c.args.self.now w c.args.slot c.args.context c.args.now) (sym c.give_up_on_key.ensures.rest.is)
+    (key-give-up c.args.self.now c.give_up_on_key.new.self.core c.args.slot c.args.context c.args.now (sym c.relocation.ensures.value ∙ c.in-None.is) c.give_up_on_key.ensures.rest.relocations e)) c.give_up_on_key.ensures.event
 
 pub returns-in-None-clause-others : goal.returns-in-None-clause-others
 returns-in-None-clause-others g c =
@@ -21,7 +21,7 @@ pub returns-in-Some-clause-effect : goal.returns-in-Some-clause-effect
 returns-in-Some-clause-effect g c = GivesUp.relocation c.in-Some._relocation (sym c.relocation.ensures.value ∙ c.in-Some.is) c.drop_relocation.ensures.effect
 
 pub returns-in-Some-clause-event : goal.returns-in-Some-clause-event
-returns-in-Some-clause-event g c = drops-event c.args.self.now c.drop_relocation.new.self c.known.ensures.compacting c.args.slot c.args.context c.args.now c.drop_relocation.result c.drop_relocation.ensures.effect
+returns-in-Some-clause-event g c = drops-event g.R.Receipt.keeps g.F.Key.Ord.cmp c.args.self.now c.drop_relocation.new.self c.args.slot c.args.context c.args.now c.drop_relocation.result c.drop_relocation.ensures.effect
 
 pub returns-in-Some-clause-others : goal.returns-in-Some-clause-others
 returns-in-Some-clause-others g c = λ s d other. drops-pend g.F.Key.Ord.cmp c.args.self.now c.drop_relocation.new.self c.args.slot c.args.context c.args.now c.drop_relocation.result c.drop_relocation.ensures.effect s d

@@ -4,7 +4,7 @@ use Rattle.fkv_partition.specs.Stages.{StageStands}
 use Rattle.fkv_partition.specs.Sound.{IsCompacting}
 use Rattle.fkv_partition.specs.Going.{awaited_by, GoesOn}
 use Rattle.fkv_partition.proofs.ApartLemmas.{err-ok, ok-all, no-later, has-come}
-use Rattle.fkv_partition.proofs.MoveLemmas.{is-set, stands-here}
+use Rattle.fkv_partition.proofs.MoveLemmas.{is-set, stands-here, keyless-here}
 use Rattle.fkv_partition.proofs.partitions.Partition.go_on.Goals as goal
 
 pub append_again-requires-clause-stands : goal.append_again-requires-clause-stands
@@ -26,7 +26,7 @@ returns-then-relocation-self-clause-effect g c =
 pub returns-then-relocation-self-clause-event : goal.returns-then-relocation-self-clause-event
 returns-then-relocation-self-clause-event g c =
     let v = c.args.self.now in
-    is-set g.R.Receipt.keeps g.F.Key.Ord.cmp v c.args.slot c.args.context c.args.now c.in-Some.ensures.context None c.end.ensures
+    is-set g.R.Receipt.keeps g.F.Key.Ord.cmp v c.args.slot c.args.context c.args.now c.in-Some.ensures.context (keyless-here v c.args.slot c.args.context c.in-Some.relocation (sym c.in-Some.ensures.value)) None c.end.ensures
 
 pub look-requires-clause-uncleared : goal.look-requires-clause-uncleared
 look-requires-clause-uncleared g c =

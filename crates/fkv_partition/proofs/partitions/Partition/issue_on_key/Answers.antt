@@ -1,7 +1,8 @@
 use Rattle.std.proofs.Common.{◌≡◌, ◌∙◌, ◌+◌, ◌*◌, ◌<◌, arith, None, subst, refl, sym, ap}
 use Rattle.std.proofs.lemmas.Bool.{OnTrue_at, OnFalse_at}
 use Rattle.fkv_operations.specs.After.{key_of}
-use Rattle.fkv_partition.specs.CoreViews.{partition_of, slots_of, context_at}
+use Rattle.fkv_partition.specs.CoreViews.{partition_of, slots_of, held_at}
+use Rattle.fkv_partition.specs.CoreContexts.{relocating}
 use Rattle.fkv_partition.specs.CoreBeginning.{IsEntered}
 use Rattle.fkv_partition.specs.CoreEffect.{IsIssue}
 use Rattle.fkv_partition.specs.Inside.{view_of}
@@ -9,7 +10,7 @@ use Rattle.fkv_partition.specs.Beginning.{IssuesOnKey}
 use Rattle.fkv_partition.specs.Views.{with_core}
 use Rattle.fkv_partition.proofs.ApartLemmas.{no-later, is-before}
 use Rattle.fkv_partition.proofs.SteadyLemmas.{issues-steady}
-use Rattle.fkv_partition.proofs.KeepLemmas.{keep-issued, issues-told}
+use Rattle.fkv_partition.proofs.KeepLemmas.{keep-seated, issues-told}
 use Rattle.fkv_partition.proofs.MoveLemmas.{open-free}
 use Rattle.fkv_partition.proofs.partitions.Partition.issue_on_key.Goals as goal
 
@@ -43,19 +44,17 @@ returns-in_default-clause-effect g c =
 
 pub invariant_of-self : goal.invariant_of-self
 invariant_of-self g c =
-    let v = view_of c.self.inside.core c.self.inside.cleared c.self.inside.relocations.items in
+    let v = view_of c.self.inside.core c.self.inside.cleared in
     let new = c.issue.new.self in
     let does = c.issue.ensures.effect in
-    let first = rw (← c.self.view_is) at c.in-Some.ensures.value in
-    keep-issued g.R.Receipt.keeps g.F.Key.Ord.cmp g.F.Mergeable.parts.joined g.F.Functions.code v new (c.args.slot * 8 + c.in-Some.context) c.self.invariant c.known-2.ensures.traced c.known-2.ensures.stood
+    keep-seated g.R.Receipt.keeps g.F.Key.Ord.cmp g.F.Mergeable.parts.joined g.F.Functions.code v new c.self.invariant c.known-2.ensures.traced c.known-2.ensures.stood
     (c.events_preserve.ensures.issues g.R.Receipt.keeps g.F.Key.Ord.cmp g.F.Mergeable.parts.joined g.F.Functions.code v.core new c.args.slot c.in-Some.context c.args.op c.args.now c.known.ensures does)
     (issues-steady v.core new c.args.slot c.in-Some.context c.args.now g.F.Functions.code c.args.op does)
-    (c.sessions_preserved.ensures.issues g.F.Functions.code v.core new c.args.slot c.in-Some.context c.args.op c.args.now does)
-    first.1.relocation
+    (c.sessions_preserved.ensures.issues g.F.Functions.code v.core new c.args.slot c.in-Some.context c.args.op c.args.now does).0
 
 pub returns-clause-effect : goal.returns-clause-effect
 returns-clause-effect g c =
-    let v = view_of c.self.inside.core c.self.inside.cleared c.self.inside.relocations.items in
+    let v = view_of c.self.inside.core c.self.inside.cleared in
     let first = rw (← c.self.view_is) at c.in-Some.ensures.value in
     rw (← c.self.view_is) (issues-told g.F.Functions.code v c.issue.new.self c.args.slot c.in-Some.context c.args.op c.args.now first c.issue.ensures.effect)
 
@@ -86,14 +85,11 @@ issue-requires-clause-entered g c = sym c.is_session.ensures.value ∙ c.if-not-
 pub issue-requires-clause-context : goal.issue-requires-clause-context
 issue-requires-clause-context g c = c.in-Some.ensures.within
 
-pub returns-clause-rest : goal.returns-clause-rest
-returns-clause-rest g c = ap (λ u. with_core u c.issue.new.self) c.self.view_is
-
 pub returns-clause-event : goal.returns-clause-event
 returns-clause-event g c = subst (λ u. IsIssue g.F.Functions.code u.core c.issue.new.self c.args.slot c.in-Some.context c.args.op c.args.now) c.self.view_is c.issue.ensures.event
 
 pub returns-clause-closed : goal.returns-clause-closed
-returns-clause-closed g c = open-free (slots_of c.args.self.now.core) c.args.self.now.relocations c.args.slot c.in-Some.context c.in-Some.ensures.value.1.relocation
+returns-clause-closed g c = ap relocating (open-free (slots_of c.args.self.now.core) c.args.self.now.core.contexts c.args.slot c.in-Some.context c.in-Some.ensures.value.1)
 
 pub returns-clause-within : goal.returns-clause-within
 returns-clause-within g c = (c.is_session.ensures.within c.if-not-is_session.false, c.in-Some.ensures.within)
@@ -102,25 +98,25 @@ pub returns-clause-moment : goal.returns-clause-moment
 returns-clause-moment g c = omega (arith, ap (λ u. u.moment) c.issue.ensures.effect.is)
 
 pub returns-then-not-is_session-clause-rest : goal.returns-then-not-is_session-clause-rest
-returns-then-not-is_session-clause-rest g c = refl
+returns-then-not-is_session-clause-rest g c = record { is = refl; relocations = λ p. refl }
 
 pub returns-then-not-is_session-clause-unchanged : goal.returns-then-not-is_session-clause-unchanged
 returns-then-not-is_session-clause-unchanged g c = refl
 
 pub returns-then-came-held-clause-rest : goal.returns-then-came-held-clause-rest
-returns-then-came-held-clause-rest g c = refl
+returns-then-came-held-clause-rest g c = record { is = refl; relocations = λ p. refl }
 
 pub returns-then-came-held-clause-unchanged : goal.returns-then-came-held-clause-unchanged
 returns-then-came-held-clause-unchanged g c = refl
 
 pub returns-then-lacks_merges-clause-rest : goal.returns-then-lacks_merges-clause-rest
-returns-then-lacks_merges-clause-rest g c = refl
+returns-then-lacks_merges-clause-rest g c = record { is = refl; relocations = λ p. refl }
 
 pub returns-then-lacks_merges-clause-unchanged : goal.returns-then-lacks_merges-clause-unchanged
 returns-then-lacks_merges-clause-unchanged g c = refl
 
 pub returns-in_default-clause-rest : goal.returns-in_default-clause-rest
-returns-in_default-clause-rest g c = refl
+returns-in_default-clause-rest g c = record { is = refl; relocations = λ p. refl }
 
 pub returns-in_default-clause-unchanged : goal.returns-in_default-clause-unchanged
 returns-in_default-clause-unchanged g c = refl
@@ -128,7 +124,7 @@ returns-in_default-clause-unchanged g c = refl
 pub issue-requires-clause-free : goal.issue-requires-clause-free
 issue-requires-clause-free g c =
     let v = c.args.self.now in
-    subst (λ u. context_at u.core c.args.slot c.in-Some.context ≡ None) (sym c.self.view_is) (open-free (slots_of v.core) v.core.contexts c.args.slot c.in-Some.context c.in-Some.ensures.value.1.operation)
+    subst (λ u. held_at u.core c.args.slot c.in-Some.context ≡ None) (sym c.self.view_is) (open-free (slots_of v.core) v.core.contexts c.args.slot c.in-Some.context c.in-Some.ensures.value.1)
 
 pub issue-requires-clause-own : goal.issue-requires-clause-own
 issue-requires-clause-own g c =
@@ -138,3 +134,6 @@ issue-requires-clause-own g c =
 
 pub issue-requires-clause-merging : goal.issue-requires-clause-merging
 issue-requires-clause-merging g c = OnFalse_at c.if-lacks_merges.false c.lacks_merges.ensures.merges
+
+pub returns-clause-rest : goal.returns-clause-rest
+returns-clause-rest g c = rw (← c.self.view_is) (record { is = refl; relocations = (c.sessions_preserved.ensures.issues g.F.Functions.code c.self.inside.core c.issue.new.self c.args.slot c.in-Some.context c.args.op c.args.now c.issue.ensures.effect).0 })

@@ -13,11 +13,11 @@ returns-in-None-clause-effect g c =
 
 pub returns-in-None-clause-event : goal.returns-in-None-clause-event
 returns-in-None-clause-event g c = λ yes_keeps.
-    loads-event g.F.Key.Ord.cmp g.F.Functions.meaning c.args.self.now c.load_by_on_key.new.self c.args.slot c.args.context c.args.now (sym c.relocation.ensures.value ∙ c.in-None.is) c.load_by_on_key.ensures.rest c.load_by_on_key.result (c.load_by_on_key.ensures.event yes_keeps)
+    loads-event g.F.Key.Ord.cmp g.F.Functions.meaning c.args.self.now c.load_by_on_key.new.self c.args.slot c.args.context c.args.now (sym c.relocation.ensures.value ∙ c.in-None.is) c.load_by_on_key.ensures.rest.is c.load_by_on_key.ensures.rest.relocations c.load_by_on_key.result (c.load_by_on_key.ensures.event yes_keeps)
 
 pub returns-in-None-clause-fails : goal.returns-in-None-clause-fails
 returns-in-None-clause-fails g c =
-    if-err c.load_by_on_key.result (λ why e. ends-key c.args.self.now c.load_by_on_key.new.self c.args.slot c.args.context c.args.now (sym c.relocation.ensures.value ∙ c.in-None.is) c.load_by_on_key.ensures.rest
+    if-err c.load_by_on_key.result (λ why e. ends-key c.args.self.now c.load_by_on_key.new.self c.args.slot c.args.context c.args.now (sym c.relocation.ensures.value ∙ c.in-None.is) c.load_by_on_key.ensures.rest.is c.load_by_on_key.ensures.rest.relocations
     (reads-any _ c.load_by_on_key.ensures.effect
     (λ came does. c.loads_end.ensures.fails c.args.self.now.core c.load_by_on_key.new.self.core c.args.slot c.args.context came c.args.now why (rw e at does))
     (λ told same is. inl same)))
@@ -41,7 +41,7 @@ returns-in-Some-clause-effect g c =
 pub returns-in-Some-clause-event : goal.returns-in-Some-clause-event
 returns-in-Some-clause-event g c = λ yes_keeps.
     let here = sym c.relocation.ensures.value ∙ c.in-Some.is in
-    relocation-load g.F.Key.Ord.cmp g.F.Functions.meaning c.args.self.now c.resume_load_by.new.self c.args.slot c.args.context c.args.now c.known.ensures.compacting c.in-Some._relocation here yes_keeps c.resume_load_by.result c.resume_load_by.ensures.event
+    relocation-load g.F.Key.Ord.cmp g.F.Functions.meaning c.args.self.now c.resume_load_by.new.self c.args.slot c.args.context c.args.now c.in-Some._relocation here yes_keeps c.resume_load_by.result c.resume_load_by.ensures.event
     (λ p e. reads-any _ c.resume_load_by.ensures.effect
     (λ came does. loads_on-proceeds g.R.Receipt.stands _ g.F.Key.Ord.cmp g.F.Mergeable.parts.joined g.F.Functions.code c.args.self.now c.resume_load_by.new.self c.args.slot c.args.context c.args.now came p c.in-Some._relocation here (rw e at does))
     (λ told same is. let bad = sym is ∙ e in absurd (cc)))
@@ -50,7 +50,7 @@ pub returns-in-Some-clause-fails : goal.returns-in-Some-clause-fails
 returns-in-Some-clause-fails g c =
     if-err c.resume_load_by.result (λ why e. reads-any _ c.resume_load_by.ensures.effect
     (λ came does. ended-event c.args.self.now c.resume_load_by.new.self c.args.slot c.args.context c.args.now
-    (loads_on-ends g.R.Receipt.stands _ c.args.self.now c.resume_load_by.new.self c.args.slot c.args.context c.args.now came why (rw e at does)) c.known.ensures.compacting)
+    (loads_on-ends g.R.Receipt.stands _ c.args.self.now c.resume_load_by.new.self c.args.slot c.args.context c.args.now came why (rw e at does)) g.R.Receipt.keeps g.F.Key.Ord.cmp)
     (λ told same is. inl same))
 
 pub returns-in-Some-clause-others : goal.returns-in-Some-clause-others

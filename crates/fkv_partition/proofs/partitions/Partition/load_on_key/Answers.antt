@@ -1,3 +1,4 @@
+use Rattle.std.proofs.Common.{refl}
 use Rattle.fkv_partition.specs.Inside.{view_of}
 use Rattle.fkv_partition.proofs.SteadyLemmas.{loads-steady}
 use Rattle.fkv_partition.proofs.KeepLemmas.{keep-seated}
@@ -5,15 +6,18 @@ use Rattle.fkv_partition.proofs.partitions.Partition.load_on_key.Goals as goal
 
 pub invariant_of-self : goal.invariant_of-self
 invariant_of-self g c =
-    let v = view_of c.self.inside.core c.self.inside.cleared c.self.inside.relocations.items in
+    let v = view_of c.self.inside.core c.self.inside.cleared in
     let does = c.load-loaded.ensures.effect in
     keep-seated g.R.Receipt.keeps g.F.Key.Ord.cmp g.F.Mergeable.parts.joined g.F.Functions.code v c.load-loaded.new.self c.self.invariant c.known-2.ensures.traced c.known-2.ensures.stood
     (c.loads_preserve.ensures g.R.Receipt.keeps g.F.Functions.code v.core c.load-loaded.new.self c.args.slot c.args.context c.args.came c.args.now c.load-loaded.result c.known.ensures does)
     (loads-steady v.core c.load-loaded.new.self c.args.slot c.args.context c.args.now _ _ g.F.Key.Ord.cmp g.F.Mergeable.parts.joined g.F.Functions.meaning c.args.came c.load-loaded.result does)
-    (c.loads_preserve_sessions.ensures v.core c.load-loaded.new.self c.args.slot c.args.context c.args.came c.args.now c.load-loaded.result does)
+    (c.loads_preserve_sessions.ensures v.core c.load-loaded.new.self c.args.slot c.args.context c.args.came c.args.now c.load-loaded.result does).0
 
 pub returns-clause-effect : goal.returns-clause-effect
 returns-clause-effect g c = rw (← c.self.view_is) c.load-loaded.ensures.effect
 
 pub returns-clause-event : goal.returns-clause-event
 returns-clause-event g c = rw (← c.self.view_is) c.load-loaded.ensures.event
+
+pub returns-clause-rest : goal.returns-clause-rest
+returns-clause-rest g c = rw (← c.self.view_is) (record { is = refl; relocations = (c.loads_preserve_sessions.ensures c.self.inside.core c.load-loaded.new.self c.args.slot c.args.context c.args.came c.args.now c.load-loaded.result c.load-loaded.ensures.effect).0 })

@@ -1,12 +1,12 @@
-use Rattle.std.proofs.Common.{◌∙◌, Some, refl, sym, subst, arith}
+use Rattle.std.proofs.Common.{◌∙◌, ap, Some, refl, sym, subst, arith}
 use Rattle.fkv_partition.specs.CoreBeginning.{IsEntered}
 use Rattle.fkv_partition.specs.CoreViews.{slots_of}
+use Rattle.fkv_partition.specs.CoreContexts.{relocating}
 use Rattle.fkv_partition.specs.Inside.{view_of}
 use Rattle.fkv_partition.specs.Beginning.{Relocates}
 use Rattle.fkv_partition.proofs.ApartLemmas.{no-later, has-come}
 use Rattle.fkv_partition.proofs.KeepLemmas.{may-relocate}
-use Rattle.fkv_partition.proofs.TruncateLemmas.{relocating-set}
-use Rattle.fkv_partition.proofs.MoveLemmas.{open-free}
+use Rattle.fkv_partition.proofs.MoveLemmas.{event-set, open-free, free-keyless}
 use Rattle.fkv_partition.proofs.partitions.Partition.relocate.Goals as goal
 
 pub returns-then-not-is_session-clause-effect : goal.returns-then-not-is_session-clause-effect
@@ -28,7 +28,7 @@ begin_relocation-requires-clause-free g c = c.in-Some.ensures.value.1
 
 pub begin_relocation-requires-clause-stands : goal.begin_relocation-requires-clause-stands
 begin_relocation-requires-clause-stands g c =
-    let v = view_of c.self.inside.core c.self.inside.cleared c.self.inside.relocations.items in
+    let v = view_of c.self.inside.core c.self.inside.cleared in
     let agrees = rw c.records.ensures at c.view-view.ensures.agrees in
     let safe = agrees.safe in
     let low = c.if-target-view.false in
@@ -41,7 +41,7 @@ returns-clause-effect g c =
     rw (c.begin_relocation.ensures, ← c.self.view_is) (Relocates.relocates c.in-Some.context inside (rw (c.view-view.ensures.value, c.records.ensures) at c.if-target-view.false) first refl refl)
 
 pub returns-clause-event : goal.returns-clause-event
-returns-clause-event g c = rw c.begin_relocation.ensures (relocating-set g.R.Receipt.keeps g.F.Key.Ord.cmp c.args.self.now c.args.slot c.in-Some.context c.args.now (Some _) c.in-Some.ensures.within)
+returns-clause-event g c = rw c.begin_relocation.ensures (event-set g.R.Receipt.keeps g.F.Key.Ord.cmp c.args.self.now c.args.slot c.in-Some.context c.args.now c.in-Some.ensures.within (free-keyless c.args.self.now c.args.slot c.in-Some.context c.in-Some.ensures.value.1) (Some _))
 
 pub returns-then-not-is_session-clause-moment : goal.returns-then-not-is_session-clause-moment
 returns-then-not-is_session-clause-moment g c = no-later c.requires.later
@@ -68,7 +68,7 @@ pub returns-clause-within : goal.returns-clause-within
 returns-clause-within g c = (c.is_session.ensures.within c.if-not-is_session.false, c.in-Some.ensures.within)
 
 pub returns-clause-closed : goal.returns-clause-closed
-returns-clause-closed g c = open-free (slots_of c.args.self.now.core) c.args.self.now.relocations c.args.slot c.in-Some.context c.in-Some.ensures.value.1.relocation
+returns-clause-closed g c = ap relocating (open-free (slots_of c.args.self.now.core) c.args.self.now.core.contexts c.args.slot c.in-Some.context c.in-Some.ensures.value.1)
 
 pub returns-clause-moment : goal.returns-clause-moment
 returns-clause-moment g c = has-come c.begin_relocation.ensures refl

@@ -1,10 +1,12 @@
-use Rattle.std.proofs.Common.{◌<◌, Err, refl, sym, ap, subst, ◌∙◌}
+use Rattle.std.proofs.Common.{◌<◌, Some, Err, refl, sym, ap, subst, ◌∙◌}
 use Rattle.std.proofs.lemmas.Bool.{false≢true}
 use Rattle.std.specs.Prelude.{IfSome}
 use Rattle.fkv_pages.specs.Spelled.{IsEntryIn}
 use Rattle.fkv_partition.specs.Reading.{LoadsOn}
+use Rattle.fkv_partition.specs.Views.{at_stage}
+use Rattle.fkv_partition.specs.declared.relocations.Stage.TheVariants.{Fresh}
 use Rattle.fkv_partition.proofs.ApartLemmas.{err-ok, next-done, ok-all, no-later, has-come}
-use Rattle.fkv_partition.proofs.MoveLemmas.{is-set}
+use Rattle.fkv_partition.proofs.MoveLemmas.{is-set, keyless-here}
 use Rattle.fkv_partition.proofs.ReadLemmas.{awaits-none, awaits-some, awaits-page}
 use Rattle.fkv_partition.proofs.partitions.Partition.resume_load.Goals as goal
 
@@ -27,7 +29,7 @@ returns-then-begin-clause-effect g c =
 
 pub returns-then-begin-clause-event : goal.returns-then-begin-clause-event
 returns-then-begin-clause-event g c =
-    is-set g.R.Receipt.keeps g.F.Key.Ord.cmp c.args.self.now c.args.slot c.args.context c.args.now c.in-Some.ensures.context _ c.set_stage.ensures
+    is-set g.R.Receipt.keeps g.F.Key.Ord.cmp c.args.self.now c.args.slot c.args.context c.args.now c.in-Some.ensures.context (keyless-here c.args.self.now c.args.slot c.args.context c.in-Some.relocation (sym c.in-Some.ensures.value)) (Some (at_stage c.in-Some.relocation Fresh)) c.set_stage.ensures
 
 pub returns-then-is_no_memory-clause-effect : goal.returns-then-is_no_memory-clause-effect
 returns-then-is_no_memory-clause-effect g c =

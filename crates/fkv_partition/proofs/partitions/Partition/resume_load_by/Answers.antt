@@ -1,4 +1,4 @@
-use Rattle.std.proofs.Common.{◌≢◌, ◌<◌, length, refl, sym, ap, subst, ◌∙◌}
+use Rattle.std.proofs.Common.{◌≢◌, ◌<◌, length, Some, refl, sym, ap, subst, ◌∙◌}
 use Rattle.std.specs.Prelude.{IfSome}
 use Rattle.fkv_functions.proofs.KeyOrder.{key_order}
 use Rattle.fkv_records.specs.Places.{page_at}
@@ -7,8 +7,10 @@ use Rattle.fkv_hybrid.specs.Scans.{MayFail}
 use Rattle.fkv_partition.specs.CoreLoading.{idle, came, failed}
 use Rattle.fkv_partition.proofs.LoadLemmas.{counted-why}
 use Rattle.fkv_partition.specs.Reading.{LoadsOn}
+use Rattle.fkv_partition.specs.Views.{at_stage}
+use Rattle.fkv_partition.specs.declared.relocations.Stage.TheVariants.{Fresh}
 use Rattle.fkv_partition.proofs.ApartLemmas.{err-ok, next-done, ok-all, no-later, has-come}
-use Rattle.fkv_partition.proofs.MoveLemmas.{is-set}
+use Rattle.fkv_partition.proofs.MoveLemmas.{is-set, keyless-here}
 use Rattle.fkv_partition.proofs.ReadLemmas.{awaits-none, awaits-some, awaits-page, waits-none-on, waits-not-on, waits-moved-on}
 use Rattle.fkv_partition.proofs.TraceLemmas.{awaited-flushed}
 use Rattle.fkv_partition.proofs.partitions.Partition.resume_load_by.Goals as goal
@@ -42,7 +44,7 @@ returns-then-begin-begins-clause-effect g c =
 
 pub returns-then-begin-begins-clause-event : goal.returns-then-begin-begins-clause-event
 returns-then-begin-begins-clause-event g c =
-    is-set g.R.Receipt.keeps g.F.Key.Ord.cmp c.args.self.now c.args.slot c.args.context c.args.now c.in-Some.ensures.context _ c.set_stage.ensures
+    is-set g.R.Receipt.keeps g.F.Key.Ord.cmp c.args.self.now c.args.slot c.args.context c.args.now c.in-Some.ensures.context (keyless-here c.args.self.now c.args.slot c.args.context c.in-Some.relocation (sym c.in-Some.ensures.value)) (Some (at_stage c.in-Some.relocation Fresh)) c.set_stage.ensures
 
 pub read-requires : goal.read-requires
 read-requires g c =

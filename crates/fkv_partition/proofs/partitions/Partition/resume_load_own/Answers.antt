@@ -1,9 +1,11 @@
-use Rattle.std.proofs.Common.{◌<◌, refl, sym, ap, ◌∙◌}
+use Rattle.std.proofs.Common.{◌<◌, Some, refl, sym, ap, ◌∙◌}
 use Rattle.std.specs.Prelude.{IfSome}
 use Rattle.std.proofs.Common.{subst}
 use Rattle.fkv_partition.specs.Reading.{LoadsOn}
+use Rattle.fkv_partition.specs.Views.{at_stage}
+use Rattle.fkv_partition.specs.declared.relocations.Stage.TheVariants.{Fresh}
 use Rattle.fkv_partition.proofs.ApartLemmas.{err-ok, next-done, ok-all, no-later, has-come}
-use Rattle.fkv_partition.proofs.MoveLemmas.{is-set}
+use Rattle.fkv_partition.proofs.MoveLemmas.{is-set, keyless-here}
 use Rattle.fkv_partition.proofs.ReadLemmas.{awaits-none, awaits-some, awaits-page}
 use Rattle.fkv_partition.proofs.partitions.Partition.resume_load_own.Goals as goal
 
@@ -26,7 +28,7 @@ returns-then-begin-begins-clause-effect g c =
 
 pub returns-then-begin-begins-clause-event : goal.returns-then-begin-begins-clause-event
 returns-then-begin-begins-clause-event g c =
-    is-set g.R.Receipt.keeps g.F.Key.Ord.cmp c.args.self.now c.args.slot c.args.context c.args.now c.in-Some.ensures.context _ c.set_stage.ensures
+    is-set g.R.Receipt.keeps g.F.Key.Ord.cmp c.args.self.now c.args.slot c.args.context c.args.now c.in-Some.ensures.context (keyless-here c.args.self.now c.args.slot c.args.context c.in-Some.relocation (sym c.in-Some.ensures.value)) (Some (at_stage c.in-Some.relocation Fresh)) c.set_stage.ensures
 
 pub returns-in_default-clause-effect : goal.returns-in_default-clause-effect
 returns-in_default-clause-effect g c = LoadsOn.unknown (sym c.in_default.ensures.value) refl refl

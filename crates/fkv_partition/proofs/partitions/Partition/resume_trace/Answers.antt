@@ -11,7 +11,7 @@ use Rattle.fkv_partition.specs.declared.relocations.Stage.TheVariants.{Ready}
 use Rattle.fkv_partition.specs.Stages.{StageStands}
 use Rattle.fkv_functions.proofs.CallLemmas.{with_six}
 use Rattle.fkv_partition.proofs.ApartLemmas.{err-ok, has-come}
-use Rattle.fkv_partition.proofs.MoveLemmas.{is-done, past-place, stands-here, frozen-low}
+use Rattle.fkv_partition.proofs.MoveLemmas.{is-done, past-place, stands-here, frozen-low, keyless-here}
 use Rattle.fkv_partition.proofs.ReadLemmas.{page-within}
 use Rattle.fkv_partition.proofs.TraceLemmas.{page-came, way-flushed, has-page, traces-to, way-dead, way-last, above-place, way-below, lower-flushed, way-further}
 use Rattle.fkv_partition.proofs.partitions.Partition.resume_trace.Goals as goal
@@ -239,7 +239,7 @@ returns-in-Superseded-clause-event g c =
     let l = c.args.loading in
     let at = c.requires.traces in
     let up = past-place v x.target sound.traced (stands-here v c.args.slot c.args.context x a.here s).place in
-    is-done g.R.Receipt.keeps g.F.Key.Ord.cmp v c.args.slot c.args.context c.args.now c.requires.context x.target up.0 c.finish.ensures
+    is-done g.R.Receipt.keeps g.F.Key.Ord.cmp v c.args.slot c.args.context c.args.now c.requires.context (keyless-here v c.args.slot c.args.context x a.here) x.target up.0 c.finish.ensures
 
 pub returns-in-Superseded-clause-cleared : goal.returns-in-Superseded-clause-cleared
 returns-in-Superseded-clause-cleared g c =
