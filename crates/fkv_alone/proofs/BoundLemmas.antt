@@ -31,16 +31,16 @@ use Rattle.fkv_operations.specs.declared.operations.Answer.TheVariants as answer
 use Rattle.fkv_operations.specs.declared.operations.KeyedOp.{KeyedOp}
 use Rattle.fkv_operations.specs.declared.operations.KeyedOp.TheVariants.{Read, Upsert, Rmw, Delete, Merge}
 use Rattle.fkv_lookups.specs.RecordsViews.{RecordsView, class_in, entry_of, found_in, confirmed}
-use Rattle.fkv_lookups.specs.declared.gathered.Gathered.{Gathered}
-use Rattle.fkv_lookups.specs.Lookups.{looked_up, IsGathered}
+use Rattle.fkv_lookups.specs.declared.chain_results.ChainResult.{ChainResult}
+use Rattle.fkv_lookups.specs.Lookups.{looked_up, ComesToInPage}
 use Rattle.fkv_lookups.specs.Meeting.{met_from}
 use Rattle.fkv_lookups.specs.Decisions.{low_of}
 use Rattle.fkv_lookups.specs.DecisionLaws.{load-op, claim-met, none-met, prepare-op}
 use Rattle.fkv_lookups.specs.declared.decisions.LookupResult.TheVariants.{NoEntry}
 use Rattle.fkv_lookups.specs.declared.decisions.Decision.TheVariants.{Claim}
 use Rattle.fkv_partition.specs.declared.contexts.Context.{Context}
-use Rattle.fkv_partition.specs.declared.contexts.Open.{Open}
-use Rattle.fkv_partition.specs.declared.contexts.Open.TheVariants.{OnKey}
+use Rattle.fkv_partition.specs.declared.contexts.OpenWork.{OpenWork}
+use Rattle.fkv_partition.specs.declared.contexts.OpenWork.TheVariants.{OnKey}
 use Rattle.fkv_partition.specs.declared.contexts.Loading.{Loading}
 use Rattle.fkv_partition.specs.declared.contexts.Phase.{Phase}
 use Rattle.fkv_partition.specs.declared.contexts.Phase.TheVariants.{Fresh, Confirm, Prepared, Load}
@@ -87,22 +87,22 @@ reached-low entry cmp k bits low a b r (IsReached.found h n t) e = absurd (cc)
 reached-low entry cmp k bits low a b r (IsReached.on {e = x} h n t rest) e = reached-low entry cmp k bits low x.previous b r rest e
 
 -- and so it does where parts of deltas were gathered
-abbrev position_in : {K V : Type 0} → Result (Gathered K V) Refused → ChainPosition K V
+abbrev position_in : {K V : Type 0} → Result (ChainResult K V) Refused → ChainPosition K V
 position_in (Ok g) = g.position
 position_in (Err e) = Below 0
 
-gathered-low : {K V : Type 0} (join : V → V → V) (entry : ℕ → Entry K V → Type 0) (cmp : K → K → Ordering) (k : K) (bits low a b : ℕ) (parts ps : Option V) (r : Result (Gathered K V) Refused)
-    → IsGathered join entry cmp k bits low a parts r → r ≡ Ok (record { parts = ps; position = Below b }) → b < low
-gathered-low join entry cmp k bits low a b parts ps r (IsGathered.refused h) e = absurd (cc)
-gathered-low {K} {V} join entry cmp k bits low a b parts ps r (IsGathered.below {b = d} h) e =
+gathered-low : {K V : Type 0} (join : V → V → V) (entry : ℕ → Entry K V → Type 0) (cmp : K → K → Ordering) (k : K) (bits low a b : ℕ) (parts ps : Option V) (r : Result (ChainResult K V) Refused)
+    → ComesToInPage join entry cmp k bits low a parts r → r ≡ Ok (record { parts = ps; position = Below b }) → b < low
+gathered-low join entry cmp k bits low a b parts ps r (ComesToInPage.refused h) e = absurd (cc)
+gathered-low {K} {V} join entry cmp k bits low a b parts ps r (ComesToInPage.below {b = d} h) e =
     let place : Below d ≡ Below b = ap position_in e in
     let same : d ≡ b = cc in
     let below : d < low = reached-low entry cmp k bits low a d (Ok (Below d)) h refl in
     omega arith
-gathered-low {K} {V} join entry cmp k bits low a b parts ps r (IsGathered.found {e = x} h whole) e =
+gathered-low {K} {V} join entry cmp k bits low a b parts ps r (ComesToInPage.found {e = x} h whole) e =
     let place : Found x ≡ Below b = ap position_in e in
     absurd (cc)
-gathered-low join entry cmp k bits low a b parts ps r (IsGathered.joins {d = d} h delta rest) e = gathered-low join entry cmp k bits low d.previous b _ ps r rest e
+gathered-low join entry cmp k bits low a b parts ps r (ComesToInPage.joins {d = d} h delta rest) e = gathered-low join entry cmp k bits low d.previous b _ ps r rest e
 
 -- which is no higher than the address that was wanted
 page-low : (bits a : ℕ) → 64 ≤ a → first_place bits (page_at bits a) ≤ a
@@ -149,7 +149,7 @@ module _ {K V I : Type 0} (keeps : Bool) (cmp : K → K → Ordering) (join : V 
       let from : v.records.from ≡ v.records.begin = s.traced.begins ∙ ap (λ b. text_begin b v.records.begin v.records.regions.offsets.closed) kept in
       let low = ld.begun in
       let begin = a.begin in
-      let o = ld.class kept a.begin (omega arith) in
+      let o = (ld.leads kept a.begin).class (omega arith) in
       let at : o.entry.address ≡ l.wanted = eqb-true o.entry.address l.wanted (last-passes (λ e. e.address == l.wanted) v.records.entries o.entry o.here) in
       let disk = ld.on_disk in
       let reaches : nat_le o.entry.address l.wanted ≡ true = grind (arith, nat_tests) in
@@ -451,14 +451,14 @@ near-some code v slot c told n (IsNear.fetches x l r a await word t le) = omega 
 near-some code v slot c told n (IsNear.builds x e ask h q word t le) = le
 
 -- a fresh operation claims nothing
-fresh-slot : {K V I : Type 0} (cs : List (Option (Open K V I))) (x : Context K V I) (i p : ℕ) → x.phase ≡ Fresh → ((q : ℕ) → claim_at cs q ≡ None) → claim_at (slice_set cs i (Some (OnKey x))) p ≡ None
+fresh-slot : {K V I : Type 0} (cs : List (Option (OpenWork K V I))) (x : Context K V I) (i p : ℕ) → x.phase ≡ Fresh → ((q : ℕ) → claim_at cs q ≡ None) → claim_at (slice_set cs i (Some (OnKey x))) p ≡ None
 fresh-slot {K} {V} {I} cs x i p fresh none = at (slice_get (slice_set cs i (Some (OnKey x))) p) refl
   where
-    at : (o : Option (Option (Open K V I))) → slice_get (slice_set cs i (Some (OnKey x))) p ≡ o → claim_of (joined o) ≡ None
+    at : (o : Option (Option (OpenWork K V I))) → slice_get (slice_set cs i (Some (OnKey x))) p ≡ o → claim_of (joined o) ≡ None
     at None e = refl
     at (Some y) e = elim (get-set_cases cs i p (Some (OnKey x)) y e) [
       | inl set ↦ ap claim_of (sym set.1) ∙ ap claim_by fresh
-      | inr was ↦ ap (λ (o : Option (Option (Open K V I))). claim_of (joined o)) (sym was) ∙ none p
+      | inr was ↦ ap (λ (o : Option (Option (OpenWork K V I))). claim_of (joined o)) (sym was) ∙ none p
     ]
 
 -- an operation that was issued, where no other holds a tentative entry

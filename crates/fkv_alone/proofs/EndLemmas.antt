@@ -11,8 +11,8 @@ use Rattle.fkv_index.specs.declared.words.Word.{Word}
 use Rattle.fkv_lookups.specs.RecordsViews.{RecordsView}
 use Rattle.fkv_operations.specs.declared.operations.KeyedOp.{KeyedOp}
 use Rattle.fkv_partition.specs.declared.contexts.Context.{Context}
-use Rattle.fkv_partition.specs.declared.contexts.Open.{Open}
-use Rattle.fkv_partition.specs.declared.contexts.Open.TheVariants.{OnKey}
+use Rattle.fkv_partition.specs.declared.contexts.OpenWork.{OpenWork}
+use Rattle.fkv_partition.specs.declared.contexts.OpenWork.TheVariants.{OnKey}
 use Rattle.fkv_partition.specs.declared.contexts.Phase.TheVariants.{Fresh}
 use Rattle.fkv_partition.specs.declared.contexts.Progress.{Progress}
 use Rattle.fkv_partition.specs.declared.contexts.Progress.TheVariants.{Done, Next, NeedsBuild, NeedsLoad, Waits}
@@ -69,15 +69,15 @@ module _ {K V I : Type 0} (code : K → ℕ) (old new : PartitionView K V I) (sl
     is = h.is ∙ ap (λ (u : PartitionView K V I). with_core old u.core) (sym h.is);
     relocations = λ p.
         ap (λ (u : PartitionView K V I). relocating (joined (slice_get u.core.contexts p))) h.is
-        ∙ shown-set {A = Open K V I} relocating refl old.core.contexts (slot * 8 + c) p (Some (OnKey (record { number = now; op = op; phase = Fresh }))) (ap (λ (o : Option (Open K V I)). relocating o) h.opens.free.1) refl;
+        ∙ shown-set {A = OpenWork K V I} relocating refl old.core.contexts (slot * 8 + c) p (Some (OnKey (record { number = now; op = op; phase = Fresh }))) (ap (λ (o : Option (OpenWork K V I)). relocating o) h.opens.free.1) refl;
   }
 
   -- no relocation stands in its context
   pub issue-none : relocating (joined (slice_get new.core.contexts (slot * 8 + c))) ≡ None
   issue-none =
       ap (λ (u : PartitionView K V I). relocating (joined (slice_get u.core.contexts (slot * 8 + c)))) h.is
-      ∙ shown-set {A = Open K V I} relocating refl old.core.contexts (slot * 8 + c) (slot * 8 + c) (Some (OnKey (record { number = now; op = op; phase = Fresh }))) (ap (λ (o : Option (Open K V I)). relocating o) h.opens.free.1) refl
-      ∙ ap (λ (o : Option (Open K V I)). relocating o) h.opens.free.1
+      ∙ shown-set {A = OpenWork K V I} relocating refl old.core.contexts (slot * 8 + c) (slot * 8 + c) (Some (OnKey (record { number = now; op = op; phase = Fresh }))) (ap (λ (o : Option (OpenWork K V I)). relocating o) h.opens.free.1) refl
+      ∙ ap (λ (o : Option (OpenWork K V I)). relocating o) h.opens.free.1
 
   pub issue-begun : length old.core.contexts ≡ 128 → slot < 16 → IsBegun old new slot c now op
   issue-begun places small =
@@ -98,7 +98,7 @@ module _ {K V I : Type 0} (code : K → ℕ) (old new : PartitionView K V I) (sl
             records = records ∙ ap (λ (ws : List (List Word)). record old.core.records { words = ws }) (sym (ap (λ (r : RecordsView K V). r.words) records));
             begun = (let m : new.core.moment ≡ now = ap (λ (u : CoreView K V I). u.moment) core in omega arith);
             frame = record {
-              others = λ s d other. ap (λ (u : CoreView K V I). asked u s d) core ∙ ap (λ (o : Option (Open K V I)). option_map asked_by (on_key o)) (context-other (slots_of old.core) old.core.contexts slot c s d (Some (OnKey x)) low other);
+              others = λ s d other. ap (λ (u : CoreView K V I). asked u s d) core ∙ ap (λ (o : Option (OpenWork K V I)). option_map asked_by (on_key o)) (context-other (slots_of old.core) old.core.contexts slot c s d (Some (OnKey x)) low other);
               number = ap (λ (u : CoreView K V I). u.number) core;
               count = ap (λ (u : CoreView K V I). u.count) core;
               begin = ap (λ (u : CoreView K V I). u.records.begin) core;

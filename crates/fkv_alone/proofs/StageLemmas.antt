@@ -34,7 +34,7 @@ use Rattle.fkv_partition.specs.CoreInstalling.{Installs}
 use Rattle.fkv_partition.specs.CoreLoading.{AwaitsPage, Loads, LoadsBy, ReadsBy, WaitsFor}
 use Rattle.fkv_partition.specs.Pending.{Pending, pending, pending_of}
 use Rattle.fkv_partition.specs.CoreViews.{CoreView, context_at, with_context, live_of}
-use Rattle.fkv_alone.specs.Stages.{IsOpen, IsReady, IsAsking, IsFetching, IsHeldUp, IsDone, HasCome}
+use Rattle.fkv_alone.specs.Stages.{IsOpen, IsReady, AsksToBuild, IsFetching, IsHeldUp, IsDone, HasCome}
 use Rattle.fkv_alone.specs.Ending.{IsOver, IsStop, Advances}
 use Rattle.fkv_operations.specs.Operations.{op_of, map_after, answer_to}
 use Rattle.fkv_operations.specs.declared.operations.Op.{Op}
@@ -246,7 +246,7 @@ module _ {K V I O R : Type 0} (keeps : Bool) (stands : R → Standing) (cmp : K 
   goes-advances h n (Err why) goes event finds err = (elim (goes-stops h why goes) [ inl e ↦ IsStop.memory e refl | inr e ↦ IsStop.worn e.0 e.1 refl ], inl err)
 
   -- ---- what was built is installed
-  pub installs-told : (ask : Ask K V I) → IsAsking op old v slot c started ask → (p : Progress K V I O R) → Installs cmp f code v w slot c ask now (Ok p) → (IsTrue keeps → Finishes cmp f v w slot c now p)
+  pub installs-told : (ask : Ask K V I) → AsksToBuild op old v slot c started ask → (p : Progress K V I O R) → Installs cmp f code v w slot c ask now (Ok p) → (IsTrue keeps → Finishes cmp f v w slot c now p)
       → HasCome keeps stands cmp join f code op old w slot c started p
   installs-told ask h p (Installs.unknown here is r) event = absurd (cc)
   installs-told ask h p (Installs.not_ready x here q is r) event = absurd (cc)
@@ -277,7 +277,7 @@ module _ {K V I O R : Type 0} (keeps : Bool) (stands : R → Standing) (cmp : K 
       (subst (λ (u : CoreView K V I). LeavesOthers v u slot c now) (sym is) (set-frame v slot c now x here None grown refl refl))
       (λ kept. subst (Finishes cmp f v w slot c now) t (event kept) x here))
 
-  pub installs-stops : (ask : Ask K V I) → IsAsking op old v slot c started ask → (why : Refused) → Installs {O = O} {R = R} cmp f code v w slot c ask now (Err why) → (why ≡ Worn) × (old.records.tail ≡ 2 ^ 48)
+  pub installs-stops : (ask : Ask K V I) → AsksToBuild op old v slot c started ask → (why : Refused) → Installs {O = O} {R = R} cmp f code v w slot c ask now (Err why) → (why ≡ Worn) × (old.records.tail ≡ 2 ^ 48)
   installs-stops ask h why (Installs.unknown here is r) = absurd (some-none h.operation (context_at v slot c) h.open_is.here here)
   installs-stops ask h why (Installs.not_ready x here q is r) =
       let same : h.operation ≡ x = some-same h.operation x (context_at v slot c) h.open_is.here here in
@@ -292,7 +292,7 @@ module _ {K V I O R : Type 0} (keeps : Bool) (stands : R → Standing) (cmp : K 
   installs-stops ask h why (Installs.full x e value here q word u full is r) = absurd (cc)
   installs-stops ask h why (Installs.done x e value here q word u more room is r) = absurd (cc)
 
-  pub installs-advances : (ask : Ask K V I) → IsAsking op old v slot c started ask → (n : ℕ) (result : Result (Progress K V I O R) Refused) → Installs cmp f code v w slot c ask now result
+  pub installs-advances : (ask : Ask K V I) → AsksToBuild op old v slot c started ask → (n : ℕ) (result : Result (Progress K V I O R) Refused) → Installs cmp f code v w slot c ask now result
       → (IsTrue keeps → IfOk result (λ p. Finishes cmp f v w slot c now p)) → OnErr result (w ≡ v)
       → Advances keeps stands cmp join f code op old v w slot c started n n result
   installs-advances ask h n (Ok p) installs event err = (installs-told ask h p installs event, refl)

@@ -48,7 +48,7 @@ pub record IsReady {K V I : Type 0} (op : KeyedOp K V I) (old v : CoreView K V I
   pub ready : (operation.phase ≡ Fresh) ⊎ ((p : Place) × (operation.phase ≡ Confirm p))
 
 -- it asks this to be built
-pub record IsAsking {K V I : Type 0} (op : KeyedOp K V I) (old v : CoreView K V I) (slot c started : ℕ) (ask : Ask K V I)
+pub record AsksToBuild {K V I : Type 0} (op : KeyedOp K V I) (old v : CoreView K V I) (slot c started : ℕ) (ask : Ask K V I)
     : Type 0 where
   pub operation : Context K V I
   pub open_is : IsOpen op old v slot c started operation
@@ -113,7 +113,7 @@ abbrev pub HasCome : {K V I O R : Type 0} → Bool → (R → Standing) → (K �
 HasCome keeps stands cmp join f code op old v slot c started (Done a effect) =
     IsDone keeps cmp f op old v slot c started a effect
 HasCome keeps stands cmp join f code op old v slot c started Next = IsReady op old v slot c started
-HasCome keeps stands cmp join f code op old v slot c started (NeedsBuild ask) = IsAsking op old v slot c started ask
+HasCome keeps stands cmp join f code op old v slot c started (NeedsBuild ask) = AsksToBuild op old v slot c started ask
 HasCome keeps stands cmp join f code op old v slot c started (NeedsLoad r a) =
     IsFetching keeps cmp op old v slot c started (stands r) a
 HasCome keeps stands cmp join f code op old v slot c started (Waits why) =

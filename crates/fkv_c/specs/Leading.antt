@@ -169,9 +169,9 @@ cell_pairs_of (Some (CellPairs p)) = p.entries
 cell_pairs_of other = []
 
 -- the first of these pairs is told, and those behind it are left; or there is none
-abbrev pub IsNext : {V : Type 0} → List (Name × V) → List (Name × V) → Option (Name × V) → Type 0
-IsNext [] new told = (new ≡ []) × (told ≡ None)
-IsNext (p ∷ ps) new told = (new ≡ ps) × (told ≡ Some p)
+abbrev pub TakesFirst : {V : Type 0} → List (Name × V) → List (Name × V) → Option (Name × V) → Type 0
+TakesFirst [] new told = (new ≡ []) × (told ≡ None)
+TakesFirst (p ∷ ps) new told = (new ≡ ps) × (told ≡ Some p)
 
 -- the first of these pairs has the least name
 abbrev pub FirstIsLeast : {V : Type 0} → List (Name × V) → Type 0

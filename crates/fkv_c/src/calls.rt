@@ -3,7 +3,7 @@ ghost use Rattle.std.specs.Prelude.{◌≡◌, None, Some, IfOk, IfErr, OnOk};
 ghost use Rattle.fkv_functions.specs.Plain.{Same};
 ghost use Rattle.fkv_functions.specs.declared.refusals.Refused.TheVariants.{NoMemory};
 ghost use Rattle.fkv_c.specs.Leading.{Store, IsStore, Cursor, cursor_of, kind_of, set_of, store_kind, meaning_of, map_of, cells_of, LeadsAsMuch};
-ghost use Rattle.fkv_c.specs.Leading.{pairs_of, FirstIsLeast, IsMade, IsNext, AreCounts, IsStoreFault, IsNumberFault};
+ghost use Rattle.fkv_c.specs.Leading.{pairs_of, FirstIsLeast, IsMade, TakesFirst, AreCounts, IsStoreFault, IsNumberFault};
 ghost use Rattle.fkv_c.specs.declared.faults.Fault.TheVariants as fault;
 
 use crate::faults::Fault;
@@ -148,7 +148,7 @@ fn live(alloc: Global, handle: &mut Handle) -> Result<Held, Fault>
 
 /// The least pair that a cursor over numbers still has, which it has no more then.
 pub(crate) fn next(alloc: Global, handle: &mut Handle) -> Result<Option<(Name, i128)>, Fault>
-    ensures told { IfOk result (λ pair. IsNext (pairs_of handle.old.held) (pairs_of handle.new.held) pair) }
+    ensures told { IfOk result (λ pair. TakesFirst (pairs_of handle.old.held) (pairs_of handle.new.held) pair) }
     ensures least { OnOk result (FirstIsLeast (pairs_of handle.old.held)) }
     ensures kind { kind_of handle.new.held ≡ kind_of handle.old.held }
     ensures cursor { OnOk result (kind_of handle.old.held ≡ Cursor) }

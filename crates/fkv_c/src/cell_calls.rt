@@ -2,7 +2,7 @@
 ghost use Rattle.std.specs.Prelude.{◌≡◌, IfOk, IfErr, OnOk, Some};
 ghost use Rattle.fkv_functions.specs.Plain.{Same};
 ghost use Rattle.fkv_c.specs.Cells.{blind};
-ghost use Rattle.fkv_c.specs.Leading.{CellStore, CellCursor, kind_of, set_of, map_of, cells_of, cell_pairs_of, FirstIsLeast, IsMade, IsNext, IsCellFault};
+ghost use Rattle.fkv_c.specs.Leading.{CellStore, CellCursor, kind_of, set_of, map_of, cells_of, cell_pairs_of, FirstIsLeast, IsMade, TakesFirst, IsCellFault};
 
 use crate::cells::Cell;
 use crate::faults::Fault;
@@ -39,7 +39,7 @@ fn operate_cells_held(held: &mut Held, op: CellOp) -> Result<Answer<Cell>, Fault
 
 /// The least pair that a cursor over cells still has, which it has no more then.
 fn next_cell_held(held: &mut Held) -> Result<Option<(Name, Cell)>, Fault>
-    ensures told { IfOk result (λ pair. IsNext (cell_pairs_of (Some held.old)) (cell_pairs_of (Some held.new)) pair) }
+    ensures told { IfOk result (λ pair. TakesFirst (cell_pairs_of (Some held.old)) (cell_pairs_of (Some held.new)) pair) }
     ensures least { OnOk result (FirstIsLeast (cell_pairs_of (Some held.old))) }
     ensures kind { kind_of (Some held.new) ≡ kind_of (Some held.old) }
     ensures cursor { OnOk result (kind_of (Some held.old) ≡ CellCursor) }
@@ -78,7 +78,7 @@ pub(crate) fn operate_cells(
 
 /// The least pair that a cursor over cells still has, which it has no more then.
 pub(crate) fn next_cell(alloc: Global, handle: &mut Handle) -> Result<Option<(Name, Cell)>, Fault>
-    ensures told { IfOk result (λ pair. IsNext (cell_pairs_of handle.old.held) (cell_pairs_of handle.new.held) pair) }
+    ensures told { IfOk result (λ pair. TakesFirst (cell_pairs_of handle.old.held) (cell_pairs_of handle.new.held) pair) }
     ensures least { OnOk result (FirstIsLeast (cell_pairs_of handle.old.held)) }
     ensures kind { kind_of handle.new.held ≡ kind_of handle.old.held }
     ensures cursor { OnOk result (kind_of handle.old.held ≡ CellCursor) }

@@ -54,7 +54,7 @@ impl Fixed for Cell {
         Some(Cell { bytes: all })
     }
 
-    fn stands_in(&self, bytes: &[u8]) -> bool {
+    fn bytes_equal(&self, bytes: &[u8]) -> bool {
         bytes == self.bytes.as_slice()
     }
 

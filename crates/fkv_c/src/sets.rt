@@ -5,7 +5,7 @@ ghost use Rattle.fkv_functions.specs.Plain.{Same};
 ghost use Rattle.fkv_functions.specs.Sets.{sums, maxima, capped_sums};
 ghost use Rattle.fkv_local.specs.Storing.{plain, IsRun};
 ghost use Rattle.fkv_c.specs.Leading.{Store, IsStore, Cursor, cursor_of, kind_of, set_of, store_kind, meaning_of, map_of, cells_of, LeadsAsMuch, name_code};
-ghost use Rattle.fkv_c.specs.Leading.{pairs_of, FirstIsLeast, IsMade, IsNext, AreCounts, IsStoreFault, IsNumberFault};
+ghost use Rattle.fkv_c.specs.Leading.{pairs_of, FirstIsLeast, IsMade, TakesFirst, AreCounts, IsStoreFault, IsNumberFault};
 
 use crate::cells::CellFns;
 use crate::counting::run_counts;
@@ -239,7 +239,7 @@ pub(crate) fn live_held(held: &mut Held) -> Result<Held, Fault>
 
 /// The least pair that a cursor over numbers still has, which it has no more then.
 pub(crate) fn next_held(held: &mut Held) -> Result<Option<(Name, i128)>, Fault>
-    ensures told { IfOk result (λ pair. IsNext (pairs_of (Some held.old)) (pairs_of (Some held.new)) pair) }
+    ensures told { IfOk result (λ pair. TakesFirst (pairs_of (Some held.old)) (pairs_of (Some held.new)) pair) }
     ensures least { OnOk result (FirstIsLeast (pairs_of (Some held.old))) }
     ensures kind { kind_of (Some held.new) ≡ kind_of (Some held.old) }
     ensures cursor { OnOk result (kind_of (Some held.old) ≡ Cursor) }

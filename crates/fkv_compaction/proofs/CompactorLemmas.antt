@@ -10,8 +10,8 @@ use Rattle.fkv_operations.specs.Operations.{keyed}
 use Rattle.fkv_operations.specs.declared.operations.KeyedOp.{KeyedOp}
 use Rattle.fkv_operations.specs.declared.operations.Op.TheVariants.{Relocate}
 use Rattle.fkv_partition.specs.CoreContexts.{is_session, joined, on_key, relocating}
-use Rattle.fkv_partition.specs.declared.contexts.Open.{Open}
-use Rattle.fkv_partition.specs.declared.contexts.Open.TheVariants.{OnKey, Relocating}
+use Rattle.fkv_partition.specs.declared.contexts.OpenWork.{OpenWork}
+use Rattle.fkv_partition.specs.declared.contexts.OpenWork.TheVariants.{OnKey, Relocating}
 use Rattle.fkv_partition.specs.CoreEffect as key_effect
 use Rattle.fkv_partition.specs.CoreViews.{CoreView, slots_of, live_of}
 use Rattle.fkv_partition.specs.declared.relocations.Relocation.{Relocation}
@@ -49,7 +49,7 @@ none-up_to v slot c below none d low = elim (cases_lt d c) [
 ]
 
 -- ---- the relocation of a context is given up
-keyless-of : {K V I : Type 0} (o : Option (Open K V I)) → is_some (relocating o) ≡ true → on_key o ≡ None
+keyless-of : {K V I : Type 0} (o : Option (OpenWork K V I)) → is_some (relocating o) ≡ true → on_key o ≡ None
 keyless-of None h = absurd (cc)
 keyless-of (Some (OnKey x)) h = absurd (cc)
 keyless-of (Some (Relocating x)) h = refl

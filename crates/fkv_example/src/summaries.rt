@@ -109,14 +109,14 @@ impl Fixed for Summary {
         )
     }
 
-    fn stands_in(&self, bytes: &[u8]) -> bool {
+    fn bytes_equal(&self, bytes: &[u8]) -> bool {
         let (count, rest) = bytes.split_at(8);
         let (least, rest) = rest.split_at(8);
         let (greatest, sum) = rest.split_at(8);
-        self.count.stands_in(count)
-            && self.least.stands_in(least)
-            && self.greatest.stands_in(greatest)
-            && self.sum.stands_in(sum)
+        self.count.bytes_equal(count)
+            && self.least.bytes_equal(least)
+            && self.greatest.bytes_equal(greatest)
+            && self.sum.bytes_equal(sum)
     }
 
     ghost written = { λ v h. h };

@@ -56,7 +56,7 @@ impl Fixed for u64 {
         Some(word_of(bytes))
     }
 
-    fn stands_in(&self, bytes: &[u8]) -> bool {
+    fn bytes_equal(&self, bytes: &[u8]) -> bool {
         word_of(bytes) == *self
     }
 
@@ -78,7 +78,7 @@ impl Fixed for i64 {
         Some(word_of(bytes).cast_signed())
     }
 
-    fn stands_in(&self, bytes: &[u8]) -> bool {
+    fn bytes_equal(&self, bytes: &[u8]) -> bool {
         word_of(bytes).cast_signed() == *self
     }
 
@@ -106,7 +106,7 @@ impl Fixed for i128 {
         Some(bits.cast_signed())
     }
 
-    fn stands_in(&self, bytes: &[u8]) -> bool {
+    fn bytes_equal(&self, bytes: &[u8]) -> bool {
         self.known();
         match i128::take(bytes) {
             Some(value) => value == *self,

@@ -164,7 +164,7 @@ impl Fixed for Name {
         padded_name(length[0], rest)
     }
 
-    fn stands_in(&self, bytes: &[u8]) -> bool {
+    fn bytes_equal(&self, bytes: &[u8]) -> bool {
         let (length, rest) = bytes.split_at(1);
         length[0] == self.len && is_same(rest, self.bytes.as_slice())
     }

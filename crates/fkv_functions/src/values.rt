@@ -50,7 +50,7 @@ pub trait Fixed: Known {
     }
 
     /// Whether these bytes are those of the value.
-    fn stands_in(&self, bytes: &[u8]) -> bool
+    fn bytes_equal(&self, bytes: &[u8]) -> bool
         requires { length bytes.now ≡ SIZE }
         ensures { IsTrue result ↔ (bytes.now ≡ codec.bytes_of self.now) };
 

@@ -19,8 +19,8 @@ use Rattle.fkv_partition.specs.CoreEnding.{GivesUp}
 use Rattle.fkv_partition.specs.CoreEffect.{asked_by, LeavesOthers, IsGiveUp}
 use Rattle.fkv_partition.specs.CoreViews.{CoreView, slots_of, held_at, context_at, live_of, partition_of}
 use Rattle.fkv_partition.specs.Beginning.{IsFirstFree, IsFree, IssuesOnKey}
-use Rattle.fkv_partition.specs.declared.contexts.Open.{Open}
-use Rattle.fkv_partition.specs.declared.contexts.Open.TheVariants.{OnKey, Relocating}
+use Rattle.fkv_partition.specs.declared.contexts.OpenWork.{OpenWork}
+use Rattle.fkv_partition.specs.declared.contexts.OpenWork.TheVariants.{OnKey, Relocating}
 use Rattle.fkv_partition.specs.Events.{IsPassedOn}
 use Rattle.fkv_partition.specs.Views.{PartitionView}
 use Rattle.fkv_alone.proofs.KeyLemmas.{rest-then}
@@ -44,7 +44,7 @@ inside slots contexts c h low = let t : nat_lt c 8 ≡ true = grind (arith, nat_
 
 module _ {K V I : Type 0} where
   -- what is neither an operation on a key nor a relocation is nothing
-  pub none-held : (o : Option (Open K V I)) → on_key o ≡ None → relocating o ≡ None → o ≡ None
+  pub none-held : (o : Option (OpenWork K V I)) → on_key o ≡ None → relocating o ≡ None → o ≡ None
   none-held None k r = refl
   none-held (Some (OnKey x)) k r = absurd (cc)
   none-held (Some (Relocating x)) k r = absurd (cc)

@@ -19,7 +19,7 @@ use Rattle.fkv_partition.specs.declared.contexts.Wait.TheVariants.{Full}
 use Rattle.fkv_partition.specs.declared.contexts.Progress.{Progress}
 use Rattle.fkv_partition.specs.declared.contexts.Progress.TheVariants.{Done, Next, NeedsLoad, Waits}
 use Rattle.fkv_partition.specs.CoreContexts.{joined, relocating}
-use Rattle.fkv_partition.specs.declared.contexts.Open.TheVariants.{Relocating}
+use Rattle.fkv_partition.specs.declared.contexts.OpenWork.TheVariants.{Relocating}
 use Rattle.fkv_partition.specs.CoreViews.{slots_of}
 use Rattle.fkv_partition.specs.Beginning.{Relocates}
 use Rattle.fkv_partition.specs.Checking.{Ends, Asks, ChecksLiveness, renewed}

@@ -24,7 +24,7 @@ use Rattle.fkv_local.specs.Resting.{IsIdle, StaysIdle, AreNew, AreAtRest}
 use Rattle.fkv_alone.specs.Spoilt.{Spelling}
 use Rattle.fkv_local.specs.Storing.{StoreView, IsRun, IsUpdateRun, Runs, Updates}
 use Rattle.fkv_local.specs.Failures.{Failures, failures_of}
-use Rattle.fkv_local.specs.Clearing.{IsAstray, IsCut, IsAllCut, IsCutAt, AnyIsCut, begin_at}
+use Rattle.fkv_local.specs.Clearing.{IsAstray, WasCut, IsAllCut, IsCutAt, AnyIsCut, begin_at}
 use Rattle.fkv_local.specs.Refusing.{IsWorkRefusal, IsRefusal, IsRefusedBy, IsUncompactedAt, HasEnds, FailedAsBefore, StaysAt}
 use Rattle.fkv_local.proofs.PartLemmas.{view-get, view-length, view-set}
 
@@ -229,10 +229,10 @@ module _ {K V I W P S : Type 0} (view : S → PartitionView K V I) (writer : S �
   begins : begin_at (of_items view writer reader (slice_set items home y) keeps_log tries then) home ≡ Some (view y).core.records.begin
   begins = ap (option_map (λ (v : PartitionView K V I). v.core.records.begin)) (view-get view (slice_set items home y) home y now-there)
 
-  pub home-cut : IsCut (view x) (view y) true → IsCutAt self (of_items view writer reader (slice_set items home y) keeps_log tries then) home
+  pub home-cut : WasCut (view x) (view y) true → IsCutAt self (of_items view writer reader (slice_set items home y) keeps_log tries then) home
   home-cut risen = record { begin = (view x).core.records.begin; begin_now = (view y).core.records.begin; was = begun; is = begins; risen = risen }
 
-  pub home-uncut : IsCut (view x) (view y) false → begin_at (of_items view writer reader (slice_set items home y) keeps_log tries then) home ≡ begin_at self home
+  pub home-uncut : WasCut (view x) (view y) false → begin_at (of_items view writer reader (slice_set items home y) keeps_log tries then) home ≡ begin_at self home
   home-uncut same = begins ∙ ap Some same ∙ sym begun
 
   pub home-all_cut : IsAllCut (view y) → (v : PartitionView K V I) → slice_get (of_items view writer reader (slice_set items home y) keeps_log tries then).parts home ≡ Some v → IsAllCut v
@@ -323,12 +323,12 @@ pub OnOk-weaker : {A P Q : Type 0} (r : Result A Refused) → (P → Q) → OnOk
 OnOk-weaker (Ok a) f h = f h
 OnOk-weaker (Err e) f h = tt
 
-pub cut-told : {K V I C : Type 0} (v w : PartitionView K V I) (r : Result Bool Refused) → (IsCut v w true → C) → IfOk r (IsCut v w) → IfOk r (λ b. IsTrue b → C)
+pub cut-told : {K V I C : Type 0} (v w : PartitionView K V I) (r : Result Bool Refused) → (WasCut v w true → C) → IfOk r (WasCut v w) → IfOk r (λ b. IsTrue b → C)
 cut-told v w (Ok true) f h = λ t. f h
 cut-told v w (Ok false) f h = λ t. absurd (cc)
 cut-told v w (Err e) f h = tt
 
-pub uncut-told : {K V I C : Type 0} (v w : PartitionView K V I) (r : Result Bool Refused) → (IsCut v w false → C) → IfOk r (IsCut v w) → IfOk r (λ b. b ≡ false → C)
+pub uncut-told : {K V I C : Type 0} (v w : PartitionView K V I) (r : Result Bool Refused) → (WasCut v w false → C) → IfOk r (WasCut v w) → IfOk r (λ b. b ≡ false → C)
 uncut-told v w (Ok true) f h = λ t. absurd (cc)
 uncut-told v w (Ok false) f h = λ t. f h
 uncut-told v w (Err e) f h = tt

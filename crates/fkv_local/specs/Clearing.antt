@@ -7,7 +7,7 @@ use Rattle.fkv_device.specs.Standing.{Standing, Joined}
 use Rattle.fkv_texts.specs.declared.entries.Entry.{Entry}
 use Rattle.fkv_texts.specs.declared.entries.ChainPosition.TheVariants.{Below}
 use Rattle.fkv_pages.specs.Loads.{IsHeldBy}
-use Rattle.fkv_lookups.specs.Lookups.{IsGathered}
+use Rattle.fkv_lookups.specs.Lookups.{ComesToInPage}
 use Rattle.fkv_partition.specs.declared.contexts.Progress.{Progress}
 use Rattle.fkv_partition.specs.declared.contexts.Progress.TheVariants.{Done, Next, NeedsBuild, NeedsLoad, Waits}
 use Rattle.fkv_partition.specs.Going.{awaited}
@@ -48,18 +48,18 @@ pub data IsAstray {K V : Type 0} (entry : Spelling K V) (cmp : K → K → Order
       → IsAstray entry cmp page
   unspelled : (join : V → V → V) (bits low a : ℕ) (bytes : List ℕ) (k : K) (parts : Option V) (why : Refused)
       → page_at bits a ≡ page
-      → IsGathered join (entry bits bytes) cmp k bits low a parts (Err why)
+      → ComesToInPage join (entry bits bytes) cmp k bits low a parts (Err why)
       → IsAstray entry cmp page
   bad_link : (join : V → V → V) (bits size low a b : ℕ) (bytes : List ℕ) (k : K) (parts more : Option V)
       → page_at bits a ≡ page
-      → IsGathered join (entry bits bytes) cmp k bits low a parts (Ok (record { parts = more; position = Below b }))
+      → ComesToInPage join (entry bits bytes) cmp k bits low a parts (Ok (record { parts = more; position = Below b }))
       → ¬ IsRecordStart bits size b
       → IsAstray entry cmp page
 
 -- whether the start of a log was cut: Begin has risen, or stays
-abbrev pub IsCut : {K V I : Type 0} → PartitionView K V I → PartitionView K V I → Bool → Type 0
-IsCut old new true = old.core.records.begin < new.core.records.begin
-IsCut old new false = new.core.records.begin ≡ old.core.records.begin
+abbrev pub WasCut : {K V I : Type 0} → PartitionView K V I → PartitionView K V I → Bool → Type 0
+WasCut old new true = old.core.records.begin < new.core.records.begin
+WasCut old new false = new.core.records.begin ≡ old.core.records.begin
 
 -- no more of a log can be cut: no page starts above Begin that is cleared and left memory
 abbrev pub IsAllCut : {K V I : Type 0} → PartitionView K V I → Type 0

@@ -8,7 +8,7 @@ ghost use Rattle.fkv_device.specs.Failing.{ReadFailsBy};
 ghost use Rattle.fkv_device.specs.Standing.{Standing};
 ghost use Rattle.fkv_pages.specs.Loads.{IsHeldBy};
 ghost use Rattle.fkv_pages.specs.Spelled.{IsEntryIn};
-ghost use Rattle.fkv_local.specs.Clearing.{IsWanted, WantsThen, IsKeptBy, IsAstray, IsCut, IsAllCut};
+ghost use Rattle.fkv_local.specs.Clearing.{IsWanted, WantsThen, IsKeptBy, IsAstray, WasCut, IsAllCut};
 ghost use Rattle.fkv_local.specs.Failures.{failures_of, IsBeside};
 ghost use Rattle.fkv_local.specs.Resting.{IsIdle, IsIdleBut, StaysIdle, StaysIdleBut};
 ghost use Rattle.fkv_local.specs.Refusing.{IsWorkRefusal};
@@ -414,7 +414,7 @@ fn cut<F: Mergeable, R: Receipt>(
     requires past { partition.old.core.moment ≤ clock.old }
     ensures stays { StaysIdle R.keeps F.Key.cmp partition.old partition.new }
     ensures same_tail { partition.new.core.records.tail ≡ partition.old.core.records.tail }
-    ensures cut { IfOk result (IsCut partition.old partition.new) }
+    ensures cut { IfOk result (WasCut partition.old partition.new) }
     ensures whole { OnOk result (IsAllCut partition.new) }
     ensures passed { IsPassed partition.new.core.moment clock.old clock.new }
     ensures told { IfErr result (λ e. (e ≡ Refused.Worn) × (2 ^ 64 ≤ clock.new + 1)) }
@@ -442,7 +442,7 @@ pub fn compact<F: Mergeable, D: Disk>(
     requires past { shard.old.part.partition.core.moment ≤ clock.old }
     ensures stays { StaysIdle D.Receipt.keeps F.Key.cmp shard.old.part.partition shard.new.part.partition }
     ensures passed { IsPassed shard.new.part.partition.core.moment clock.old clock.new }
-    ensures cut { IfOk result (IsCut shard.old.part.partition shard.new.part.partition) }
+    ensures cut { IfOk result (WasCut shard.old.part.partition shard.new.part.partition) }
     ensures whole { OnOk result (IsAllCut shard.new.part.partition) }
     ensures steady { OnOk result (failures_of D.Writer.failures D.Reader.failures shard.new.part.writer shard.new.reader
         ≡ failures_of D.Writer.failures D.Reader.failures shard.old.part.writer shard.old.reader) }

@@ -56,8 +56,9 @@ fn run_in_memory<F: Mergeable, D: Disk>(
     }
 }
 
-/// Makes an update that was not done in one call: as [`run_by_events`] does; or, where a page would have to be read, as a merge. One
-/// whose key's last record in memory is a delta is a merge with no look at it, since a page was to be read when that was appended.
+/// Makes an update that was not done in one call: as [`run_by_events`] does; or, where a page would have to be read, as a merge. It is
+/// a merge with no look at its key's value where that is in no record in memory, and where the last one is a delta, since a page was
+/// to be read when that was appended.
 fn merge_for_page<F: Mergeable, D: Disk>(
     terms: &Terms<F>,
     part: &mut Part<F, D>,
@@ -78,7 +79,7 @@ fn merge_for_page<F: Mergeable, D: Disk>(
         (record { writes = D.Writer.failures part.old.writer; reads = reads })
         (record { writes = D.Writer.failures part.new.writer; reads = reads }) e) }
 {
-    if !part.partition.is_at_delta(SLOT, &terms.functions, key) {
+    if !part.partition.may_need_page(SLOT, &terms.functions, key) {
         let rmw = KeyedOp::Rmw(*key, *input);
         match run_in_memory(terms, part, rmw, clock) {
             Ok(Some(answer)) => return Ok(answer),

@@ -19,7 +19,7 @@ use Rattle.fkv_partition.specs.CoreGoing as going
 use Rattle.fkv_partition.specs.CoreSound.{IsSound}
 use Rattle.fkv_partition.specs.CoreContexts.{relocating}
 use Rattle.fkv_partition.specs.CoreViews.{CoreView, live_of, slots_of}
-use Rattle.fkv_partition.specs.declared.contexts.Open.TheVariants.{OnKey}
+use Rattle.fkv_partition.specs.declared.contexts.OpenWork.TheVariants.{OnKey}
 use Rattle.fkv_partition.specs.declared.contexts.Phase.TheVariants.{Fresh}
 use Rattle.fkv_partition.specs.Effect.{Asked}
 use Rattle.fkv_partition.specs.Events as events
@@ -30,7 +30,7 @@ use Rattle.fkv_partition.proofs.AtOnceLemmas.{sound-issued, free-held, free-relo
 use Rattle.fkv_partition.proofs.EffectLemmas.{asked-low}
 use Rattle.fkv_histories.specs.declared.entries.Entry.{Entry}
 use Rattle.fkv_histories.specs.Histories.{is_update_entry, updates}
-use Rattle.fkv_locked.specs.Kept.{seen, place_of, IsKept}
+use Rattle.fkv_locked.specs.Kept.{seen, place_of, IsFaithful}
 use Rattle.fkv_locked.proofs.KeptLemmas.{orderly, kept_done, kept_unmarked, marked_same, marked_other}
 use Rattle.fkv_locked.proofs.TurnLemmas.{issue_keeps}
 
@@ -73,12 +73,12 @@ module _ {K V I O R : Type 0} (cmp : K → K → Ordering) (join : V → V → V
     (d : IsDoneAtOnce stands cmp join f code old new slot key input issued now shown) (keeps : Bool) (sound : IsSound keeps cmp join code old.core) (few : slot < 16) (later : old.core.moment < issued) (after : issued < now)
     (issue_law : (p q : CoreView K V I) → beginning.Issues code p q slot d.context (on_key.Rmw key input) issued → AllPend cmp p q)
     (go_law : (p q : CoreView K V I) → IsSound keeps cmp join code p → going.Goes stands cmp join f code p q slot d.context now (Ok (Done (Value shown) now)) → OthersPend cmp p q slot d.context) where
-  pub at_once_keeps : (es : List (Entry K V I O)) (lows looks : List ℕ) (book : ℕ) → IsKept cmp f (seen cmp old) es lows looks book → length lows ≡ 128
+  pub at_once_keeps : (es : List (Entry K V I O)) (lows looks : List ℕ) (book : ℕ) → IsFaithful cmp f (seen cmp old) es lows looks book → length lows ≡ 128
       → (e : Entry K V I O) → e.op ≡ on_key.Rmw key input → e.answer ≡ Value shown
       → e.low ≡ length (updates es)
       → e.at ≡ length (updates es)
       → e.high ≡ length (updates es)
-      → IsKept cmp f (seen cmp new) (es ++ e ∷ []) lows looks (book + 1)
+      → IsFaithful cmp f (seen cmp new) (es ++ e ∷ []) lows looks (book + 1)
   at_once_keeps es lows looks book k long e op_is told low at high =
       let c = d.context in
       let us = updates es in

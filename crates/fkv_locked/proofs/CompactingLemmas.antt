@@ -29,7 +29,7 @@ use Rattle.fkv_compaction.specs.Compactor.{IsTurn, CompactsNext, CompactsLoad, G
 use Rattle.fkv_compaction.proofs.CompactorLemmas.{gone}
 use Rattle.fkv_histories.specs.declared.entries.Entry.{Entry}
 use Rattle.fkv_locked.specs.Compacting.{IsRelocationProgress}
-use Rattle.fkv_locked.specs.Kept.{seen, IsKept}
+use Rattle.fkv_locked.specs.Kept.{seen, IsFaithful}
 use Rattle.fkv_locked.proofs.KeptLemmas.{op_in, kept_operations}
 
 -- ---- what a relocation's event comes to
@@ -146,19 +146,19 @@ module _ {K V I : Type 0} (old new : PartitionView K V I) (same : (s d : ℕ) �
 
 -- ---- what is kept
 module _ {K V I O : Type 0} (cmp : K → K → Ordering) (f : Meanings K V I O) (old new : PartitionView K V I) (es : List (Entry K V I O)) (lows looks : List ℕ) (book : ℕ)
-    (k : IsKept cmp f (seen cmp old) es lows looks book) where
+    (k : IsFaithful cmp f (seen cmp old) es lows looks book) where
   -- an event of a relocation
-  relocating_keeps : (keeps : Bool) (slot c now : ℕ) → IsTrue keeps → old.core.moment < now → IsRelocating keeps cmp old new slot c now → IsKept cmp f (seen cmp new) es lows looks book
+  relocating_keeps : (keeps : Bool) (slot c now : ℕ) → IsTrue keeps → old.core.moment < now → IsRelocating keeps cmp old new slot c now → IsFaithful cmp f (seen cmp new) es lows looks book
   relocating_keeps keeps slot c now held later r =
       let at = r.moment in
       kept_operations cmp f (seen cmp old) (seen cmp new) (omega arith) es lows looks book (operation_stays old new r.same) (λ s d p h. sym (r.pend held s d) ∙ h) (r.live held) k
 
-  pub turn_keeps : (keeps : Bool) (slot now : ℕ) → IsTrue keeps → old.core.moment < now → IsTurn keeps cmp old new slot now → IsKept cmp f (seen cmp new) es lows looks book
+  pub turn_keeps : (keeps : Bool) (slot now : ℕ) → IsTrue keeps → old.core.moment < now → IsTurn keeps cmp old new slot now → IsFaithful cmp f (seen cmp new) es lows looks book
   turn_keeps keeps slot now held later turn = relocating_keeps keeps slot turn.context now held later turn.event
 
   -- one is given up, or nothing changes
-  fails_keeps : (slot c now : ℕ) → old.core.moment < now → is_some (relocation_at old slot c) ≡ true → (new ≡ old) ⊎ (new ≡ with_relocation old slot c None now) → IsKept cmp f (seen cmp new) es lows looks book
-  fails_keeps slot c now later some (inl n) = subst (λ (v : PartitionView K V I). IsKept cmp f (seen cmp v) es lows looks book) (sym n) k
+  fails_keeps : (slot c now : ℕ) → old.core.moment < now → is_some (relocation_at old slot c) ≡ true → (new ≡ old) ⊎ (new ≡ with_relocation old slot c None now) → IsFaithful cmp f (seen cmp new) es lows looks book
+  fails_keeps slot c now later some (inl n) = subst (λ (v : PartitionView K V I). IsFaithful cmp f (seen cmp v) es lows looks book) (sym n) k
   fails_keeps slot c now later some (inr n) = relocating_keeps true slot c now refl later (subst (λ (v : PartitionView K V I). IsRelocating true cmp old v slot c now) (sym n) (gone cmp old slot c now some))
 
   -- a load, refused or not
@@ -166,14 +166,14 @@ module _ {K V I O : Type 0} (cmp : K → K → Ordering) (f : Meanings K V I O) 
       (result : Result (Progress K V I O R) Refused) → IsTrue keeps → old.core.moment < now
       → CompactsLoad stands spells cmp join f code old new slot came now result
       → IfOk result (λ moved. IsTurn keeps cmp old new slot now)
-      → IsKept cmp f (seen cmp new) es lows looks book
+      → IsFaithful cmp f (seen cmp new) es lows looks book
   load_keeps stands spells join code keeps slot now came (Ok moved) held later does turn = turn_keeps keeps slot now held later turn
-  load_keeps stands spells join code keeps slot now came (Err why) held later (CompactsLoad.unknown none n r) turn = subst (λ (v : PartitionView K V I). IsKept cmp f (seen cmp v) es lows looks book) (sym n) k
+  load_keeps stands spells join code keeps slot now came (Err why) held later (CompactsLoad.unknown none n r) turn = subst (λ (v : PartitionView K V I). IsFaithful cmp f (seen cmp v) es lows looks book) (sym n) k
   load_keeps stands spells join code keeps slot now came (Err why) held later (CompactsLoad.loads c first does) turn =
       fails_keeps slot c now later first.0 (loads_comes stands cmp join f code old new slot c now (Err why) spells came first does).1
 
   -- the log's start is cut: no look-up is to find what it was to find
-  pub truncation_keeps : (keeps : Bool) (page now : ℕ) → IsTrue keeps → old.core.moment < now → IsTruncation keeps cmp old new page now → IsKept cmp f (seen cmp new) es lows looks book
+  pub truncation_keeps : (keeps : Bool) (page now : ℕ) → IsTrue keeps → old.core.moment < now → IsTruncation keeps cmp old new page now → IsFaithful cmp f (seen cmp new) es lows looks book
   truncation_keeps keeps page now held later t =
       let at = t.moment in
       kept_operations cmp f (seen cmp old) (seen cmp new) (omega arith) es lows looks book (λ s d number op h. t.same s d ∙ h)
@@ -186,7 +186,7 @@ module _ {K V I O : Type 0} (cmp : K → K → Ordering) (f : Meanings K V I O) 
       → ((s d : ℕ) (x : Asked K V I) (o : KeyedOp K V I) → asked old s d ≡ Some x → keyed x.op ≡ Some o → asked new s d ≡ Some x)
       → AllPend cmp old.core new.core
       → Same (live_of cmp new.core) (live_of cmp old.core)
-      → IsKept cmp f (seen cmp new) es lows looks book
+      → IsFaithful cmp f (seen cmp new) es lows looks book
   part_keeps keeps slot start end result le parting operations pend live =
       kept_operations cmp f (seen cmp old) (seen cmp new) (parts-later keeps old new slot start end result le parting) es lows looks book
       (λ s d number op h. operations s d (record { number = number; op = op_of op }) op h (keyed-op op))

@@ -7,8 +7,8 @@ use Rattle.fkv_texts.specs.Text.{newest, value_of}
 use Rattle.fkv_index.specs.Words.{address_of}
 use Rattle.fkv_operations.specs.After.{key_of}
 use Rattle.fkv_partition.specs.declared.contexts.Context.{Context}
-use Rattle.fkv_partition.specs.declared.contexts.Open.{Open}
-use Rattle.fkv_partition.specs.declared.contexts.Open.TheVariants.{OnKey, Relocating}
+use Rattle.fkv_partition.specs.declared.contexts.OpenWork.{OpenWork}
+use Rattle.fkv_partition.specs.declared.contexts.OpenWork.TheVariants.{OnKey, Relocating}
 use Rattle.fkv_partition.specs.declared.contexts.Loading.{Loading}
 use Rattle.fkv_partition.specs.declared.contexts.Phase.{Phase}
 use Rattle.fkv_partition.specs.CoreContexts.{joined, is_session, context_in, at_phase, on_key}
@@ -38,7 +38,7 @@ module _ {K V I : Type 0} (cmp : K → K → Ordering) (v : CoreView K V I) (slo
       ap (λ o. pending_of cmp v.records (on_key o)) (set-context (slots_of v) v.contexts slot c (OnKey x) (option_map OnKey y) (held-key (held_at v slot c) h))
       ∙ ap (pending_of cmp v.records) (key-of y)
     where
-      held-key : (o : Option (Open K V I)) → on_key o ≡ Some x → o ≡ Some (OnKey x)
+      held-key : (o : Option (OpenWork K V I)) → on_key o ≡ Some x → o ≡ Some (OnKey x)
       held-key None e = absurd (cc)
       held-key (Some (OnKey z)) e = ap (option_map OnKey) e
       held-key (Some (Relocating z)) e = absurd (cc)

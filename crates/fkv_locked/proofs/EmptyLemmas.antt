@@ -9,7 +9,7 @@ use Rattle.fkv_partition.specs.Views.{PartitionView, empty_partition}
 use Rattle.fkv_partition.proofs.EffectLemmas.{closed-pending}
 use Rattle.fkv_histories.specs.declared.entries.Entry.{Entry}
 use Rattle.fkv_histories.proofs.HistoryLemmas.{legal_empty}
-use Rattle.fkv_locked.specs.Kept.{seen, IsKept}
+use Rattle.fkv_locked.specs.Kept.{seen, IsFaithful}
 
 no-session : (n slot : ℕ) → is_session (replicate n None) slot ≡ false
 no-session zero slot = refl
@@ -25,7 +25,7 @@ pub kept_empty : {K V I O : Type 0} (cmp : K → K → Ordering) (f : Meanings K
     → v ≡ empty_partition merges config size number
     → es ≡ []
     → lows ≡ replicate 128 0
-    → IsKept cmp f (seen cmp v) es lows looks 0
+    → IsFaithful cmp f (seen cmp v) es lows looks 0
 kept_empty {K} {V} {I} cmp f merges config size number v es lows looks v_is es_is lows_is = rw (v_is, es_is, lows_is) (record {
   legal = legal_empty cmp f;
   live = λ q. refl;

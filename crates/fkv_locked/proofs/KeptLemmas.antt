@@ -20,7 +20,7 @@ use Rattle.fkv_partition.proofs.AskedLemmas.{keyed-op}
 use Rattle.fkv_histories.specs.declared.entries.Entry.{Entry}
 use Rattle.fkv_histories.specs.Histories.{is_update_entry, updates, map_of, map_at, IsLegal}
 use Rattle.fkv_histories.proofs.HistoryLemmas.{updates_none, map_at-more, map_at-all, history_map, legal_more}
-use Rattle.fkv_locked.specs.Kept.{Seen, seen, place_of, IsPast, IsKept}
+use Rattle.fkv_locked.specs.Kept.{Seen, seen, place_of, IsPast, IsFaithful}
 
 -- what asks nothing waits for nothing, and a session has eight contexts
 pub record IsOrderly {K V I : Type 0} (s : Seen K V I) : Type 0 where
@@ -66,8 +66,8 @@ pub kept_unmarked : {K V I O : Type 0} (cmp : K → K → Ordering) (f : Meaning
     → (es : List (Entry K V I O)) (lows lows' looks : List ℕ) (book : ℕ)
     → ((i : ℕ) → i ≢ place_of slot c → slice_index lows i ≡ slice_index lows' i)
     → ((i : ℕ) → slice_index lows i ≤ length (updates es))
-    → IsKept cmp f s es lows' looks book
-    → IsKept cmp f s es lows looks book
+    → IsFaithful cmp f s es lows' looks book
+    → IsFaithful cmp f s es lows looks book
 kept_unmarked cmp f s ordered slot c low closed es lows lows' looks book same below k = record {
   legal = k.legal;
   live = k.live;
@@ -106,8 +106,8 @@ module _ {K V I O : Type 0} (cmp : K → K → Ordering) (f : Meanings K V I O) 
   pub kept_quiet : (es : List (Entry K V I O)) (lows looks : List ℕ) (book : ℕ) → ((s d : ℕ) → new.asked s d ≡ old.asked s d)
       → ((s d : ℕ) → new.pending s d ≡ old.pending s d)
       → Same new.live old.live
-      → IsKept cmp f old es lows looks book
-      → IsKept cmp f new es lows looks book
+      → IsFaithful cmp f old es lows looks book
+      → IsFaithful cmp f new es lows looks book
   kept_quiet es lows looks book same pend live k = record {
     legal = k.legal;
     live = λ q. live q ∙ k.live q;
@@ -124,8 +124,8 @@ module _ {K V I O : Type 0} (cmp : K → K → Ordering) (f : Meanings K V I O) 
       → ((s d number : ℕ) (op : KeyedOp K V I) → old.asked s d ≡ Some (record { number = number; op = op_of op }) → new.asked s d ≡ Some (record { number = number; op = op_of op }))
       → ((s d : ℕ) (p : Pending V) → new.pending s d ≡ Some p → old.pending s d ≡ Some p)
       → Same new.live old.live
-      → IsKept cmp f old es lows looks book
-      → IsKept cmp f new es lows looks book
+      → IsFaithful cmp f old es lows looks book
+      → IsFaithful cmp f new es lows looks book
   kept_operations es lows looks book asks pend live k = record {
     legal = k.legal;
     live = λ q. live q ∙ k.live q;
@@ -149,7 +149,7 @@ module _ {K V I O : Type 0} (cmp : K → K → Ordering) (f : Meanings K V I O) 
   module _ (ordered : IsOrderly old) (ordered' : IsOrderly new) (slot c : ℕ) (low : c < 8)
       (asks : (s d : ℕ) → (s ≢ slot) ⊎ (d ≢ c) → new.asked s d ≡ old.asked s d)
       (pends : (s d : ℕ) → (s ≢ slot) ⊎ (d ≢ c) → new.pending s d ≡ old.pending s d)
-      (es : List (Entry K V I O)) (lows looks : List ℕ) (book : ℕ) (k : IsKept cmp f old es lows looks book) where
+      (es : List (Entry K V I O)) (lows looks : List ℕ) (book : ℕ) (k : IsFaithful cmp f old es lows looks book) where
     kept_frame : (es' : List (Entry K V I O)) (lows' looks' : List ℕ) (book' : ℕ) → IsLegal cmp f es'
         → Same new.live (map_of cmp f (updates es'))
         → length (updates es) ≤ length (updates es')
@@ -160,7 +160,7 @@ module _ {K V I O : Type 0} (cmp : K → K → Ordering) (f : Meanings K V I O) 
         → ((p : Pending V) → new.pending slot c ≡ Some p
         → IsPast cmp f new (updates es') slot c p (slice_index lows' (place_of slot c)) (slice_index looks' (place_of slot c)))
         → book' ≡ length es'
-        → IsKept cmp f new es' lows' looks' book'
+        → IsFaithful cmp f new es' lows' looks' book'
     kept_frame es' lows' looks' book' legal live grows ats lows_is looks_is issued past counted = record {
       legal = legal;
       live = live;
@@ -177,7 +177,7 @@ module _ {K V I O : Type 0} (cmp : K → K → Ordering) (f : Meanings K V I O) 
     }
 
     -- one after which the context is to find nothing
-    pub kept_still : new.pending slot c ≡ None → Same new.live old.live → IsKept cmp f new es lows looks book
+    pub kept_still : new.pending slot c ≡ None → Same new.live old.live → IsFaithful cmp f new es lows looks book
     kept_still none live =
         kept_frame es lows looks book k.legal (λ q. live q ∙ k.live q) (omega arith) (λ n le. refl) (λ i n. refl) (λ i n. refl) k.issued
         (λ p h. let bad : None ≡ Some p = sym none ∙ h in absurd (cc))
@@ -185,7 +185,7 @@ module _ {K V I O : Type 0} (cmp : K → K → Ordering) (f : Meanings K V I O) 
 
     -- one that goes on with a look-up in another page
     pub kept_further : new.asked slot c ≡ old.asked slot c → new.pending slot c ≡ old.pending slot c → Same new.live old.live
-        → IsKept cmp f new es lows looks book
+        → IsFaithful cmp f new es lows looks book
     kept_further same pend live =
         kept_frame es lows looks book k.legal (λ q. live q ∙ k.live q) (omega arith) (λ n le. refl) (λ i n. refl) (λ i n. refl) k.issued
         (λ p h.
@@ -200,7 +200,7 @@ module _ {K V I O : Type 0} (cmp : K → K → Ordering) (f : Meanings K V I O) 
         → Same new.live old.live
         → looks' ≡ slice_set looks (place_of slot c) (length (updates es))
         → place_of slot c < length looks
-        → IsKept cmp f new es lows looks' book
+        → IsFaithful cmp f new es lows looks' book
     kept_asks number op now looks' due is finds live set within =
         let us = updates es in
         let here = marked_same looks looks' (place_of slot c) (length us) set within in
@@ -223,14 +223,14 @@ module _ {K V I O : Type 0} (cmp : K → K → Ordering) (f : Meanings K V I O) 
         k.counted
 
     -- one that ends the operation without effect
-    pub kept_closed : new.asked slot c ≡ None → Same new.live old.live → IsKept cmp f new es lows looks book
+    pub kept_closed : new.asked slot c ≡ None → Same new.live old.live → IsFaithful cmp f new es lows looks book
     kept_closed closed live = kept_still (ordered'.closed slot c closed) live
 
     -- an issue
     pub kept_issue : (lows' : List ℕ) → old.asked slot c ≡ None → new.pending slot c ≡ old.pending slot c → Same new.live old.live
         → lows' ≡ slice_set lows (place_of slot c) (length (updates es))
         → place_of slot c < length lows
-        → IsKept cmp f new es lows' looks book
+        → IsFaithful cmp f new es lows' looks book
     kept_issue lows' closed pend live set within =
         let us = updates es in
         let here = marked_same lows lows' (place_of slot c) (length us) set within in
@@ -247,7 +247,7 @@ module _ {K V I O : Type 0} (cmp : K → K → Ordering) (f : Meanings K V I O) 
     kept_entry : (e : Entry K V I O) → new.asked slot c ≡ None
         → IsLegal cmp f (es ++ e ∷ [])
         → Same new.live (map_of cmp f (updates (es ++ e ∷ [])))
-        → IsKept cmp f new (es ++ e ∷ []) lows looks (book + 1)
+        → IsFaithful cmp f new (es ++ e ∷ []) lows looks (book + 1)
     kept_entry e closed legal live =
         let grown : updates (es ++ e ∷ []) ≡ updates es ++ updates (e ∷ []) = filter-append is_update_entry es (e ∷ []) in
         let grows : length (updates es) ≤ length (updates (es ++ e ∷ [])) = omega (arith, ap length grown, length-append (updates es) (updates (e ∷ []))) in
@@ -265,7 +265,7 @@ module _ {K V I O : Type 0} (cmp : K → K → Ordering) (f : Meanings K V I O) 
         → e.at ≡ length (updates es)
         → e.high ≡ length (updates es)
         → e.low ≡ slice_index lows (place_of slot c)
-        → IsKept cmp f new (es ++ e ∷ []) lows looks (book + 1)
+        → IsFaithful cmp f new (es ++ e ∷ []) lows looks (book + 1)
     kept_done e closed live told at high low_is =
         let us = updates es in
         let live_is : old.live ≡ map_of cmp f us = same_map old.live (map_of cmp f us) k.live in
@@ -286,7 +286,7 @@ module _ {K V I O : Type 0} (cmp : K → K → Ordering) (f : Meanings K V I O) 
         → e.at ≡ slice_index looks (place_of slot c)
         → e.high ≡ length (updates es)
         → e.low ≡ slice_index lows (place_of slot c)
-        → IsKept cmp f new (es ++ e ∷ []) lows looks (book + 1)
+        → IsFaithful cmp f new (es ++ e ∷ []) lows looks (book + 1)
     kept_loaded e p number key i closed asks waits live read told at high low_is =
         let us = updates es in
         let past = k.past slot c p waits in
@@ -305,13 +305,13 @@ module _ {K V I O : Type 0} (cmp : K → K → Ordering) (f : Meanings K V I O) 
         (rw (updates_none es e quiet) (λ q. live q ∙ k.live q))
 
 -- a read that is finished at once changes nothing but that its entry is the last
-pub kept_read : {K V I O : Type 0} (cmp : K → K → Ordering) (f : Meanings K V I O) (s : Seen K V I) (es : List (Entry K V I O)) (lows looks : List ℕ) (book : ℕ) → IsKept cmp f s es lows looks book
+pub kept_read : {K V I O : Type 0} (cmp : K → K → Ordering) (f : Meanings K V I O) (s : Seen K V I) (es : List (Entry K V I O)) (lows looks : List ℕ) (book : ℕ) → IsFaithful cmp f s es lows looks book
     → (e : Entry K V I O) (key : K) (i : I) → e.op ≡ Read key i
     → e.answer ≡ shown_of f key i (s.live key)
     → e.low ≡ length (updates es)
     → e.at ≡ length (updates es)
     → e.high ≡ length (updates es)
-    → IsKept cmp f s (es ++ e ∷ []) lows looks (book + 1)
+    → IsFaithful cmp f s (es ++ e ∷ []) lows looks (book + 1)
 kept_read {K} {V} cmp f s es lows looks book k e key i read told low at high =
     let us = updates es in
     let quiet : is_update_entry e ≡ false = ap is_update read in

@@ -29,7 +29,7 @@ use Rattle.fkv_partition.specs.Effect.{Asked, asked, IsEvent, IsLoaded, IsLoad, 
 use Rattle.fkv_partition.specs.Views.{PartitionView}
 use Rattle.fkv_partition.proofs.EffectLemmas.{relocation-asked}
 use Rattle.fkv_partition.proofs.AskedLemmas.{keyed-op}
-use Rattle.fkv_locked.specs.declared.seats.OpenOperation.{OpenOperation}
+use Rattle.fkv_locked.specs.declared.open_operations.OpenOperation.{OpenOperation}
 use Rattle.fkv_locked.specs.Turns.{question_of, HasCome, IsCome}
 use Rattle.fkv_locked.proofs.KeptLemmas.{op-same}
 
@@ -87,29 +87,29 @@ not-relocate op h = let bad : Some op ≡ None = sym (keyed-op op) ∙ ap keyed 
 
 module _ {K V I O R : Type 0} (stands : R → Standing) (entry : ℕ → List ℕ → ℕ → Entry K V → Type 0) (cmp : K → K → Ordering) (join : V → V → V) (f : Meanings K V I O) (code : K → ℕ)
     (old new : PartitionView K V I) (mine : OpenOperation K V I) (came : Result (Joined R) Refused) (now : ℕ)
-    (asks : asked old mine.seat.slot mine.context ≡ Some (question_of mine))
-    (early : (p : Pending V) → pending cmp old.core mine.seat.slot mine.context ≡ Some p → p.moment ≤ old.core.moment)
+    (asks : asked old mine.session.slot mine.context ≡ Some (question_of mine))
+    (early : (p : Pending V) → pending cmp old.core mine.session.slot mine.context ≡ Some p → p.moment ≤ old.core.moment)
     (later : old.core.moment < now) where
-  core-loads : (r : Result (Progress K V I O R) Refused) → Loads stands entry cmp join f code old new mine.seat.slot mine.context came now r
-      → core_loading.Loads stands entry cmp join f old.core new.core mine.seat.slot mine.context came now r
+  core-loads : (r : Result (Progress K V I O R) Refused) → Loads stands entry cmp join f code old new mine.session.slot mine.context came now r
+      → core_loading.Loads stands entry cmp join f old.core new.core mine.session.slot mine.context came now r
   core-loads r (Loads.on_key none does passed) = does
   core-loads r (Loads.relocation x h does) =
-      let both : Some (question_of mine) ≡ Some (record { number = x.number; op = Relocate }) = sym asks ∙ relocation-asked old mine.seat.slot mine.context x h in
+      let both : Some (question_of mine) ≡ Some (record { number = x.number; op = Relocate }) = sym asks ∙ relocation-asked old mine.session.slot mine.context x h in
       let same : question_of mine ≡ record { number = x.number; op = Relocate } = cc in
       let op : op_of mine.op ≡ Relocate = ap (λ (y : Asked K V I). y.op) same in
       absurd (not-relocate mine.op op)
 
-  looked-now : IsLookedUp (pending cmp old.core mine.seat.slot mine.context) now → ⊥
+  looked-now : IsLookedUp (pending cmp old.core mine.session.slot mine.context) now → ⊥
   looked-now l =
       let le = early l.found l.is in
       let at = l.at in
       absurd (omega arith)
 
-  op-is : (x : Asked K V I) → asked old mine.seat.slot mine.context ≡ Some x → x ≡ question_of mine
+  op-is : (x : Asked K V I) → asked old mine.session.slot mine.context ≡ Some x → x ≡ question_of mine
   op-is x was = let both : Some x ≡ Some (question_of mine) = sym was ∙ asks in cc
 
-  loaded-come : (p : Progress K V I O R) → IsLoaded cmp f old new mine.seat.slot mine.context now p
-      → HasCome f mine (asked new mine.seat.slot mine.context) (pending cmp old.core mine.seat.slot mine.context) (pending cmp new.core mine.seat.slot mine.context) p
+  loaded-come : (p : Progress K V I O R) → IsLoaded cmp f old new mine.session.slot mine.context now p
+      → HasCome f mine (asked new mine.session.slot mine.context) (pending cmp old.core mine.session.slot mine.context) (pending cmp new.core mine.session.slot mine.context) p
   loaded-come (Done a effect) l =
       let found = l.effect.1 in
       let read = found.3 in
@@ -120,35 +120,35 @@ module _ {K V I O R : Type 0} (stands : R → Standing) (entry : ℕ → List �
   loaded-come (NeedsLoad r a) l = (l.effect.0 ∙ ap Some (op-is l.question l.was), l.effect.1)
   loaded-come (Waits why) l = absurd l.effect
 
-  event-come : (p : Progress K V I O R) → core_loading.Loads stands entry cmp join f old.core new.core mine.seat.slot mine.context came now (Ok p)
-      → IsEvent cmp f old new mine.seat.slot mine.context now p
-      → Finds cmp old new mine.seat.slot mine.context now p
-      → HasCome f mine (asked new mine.seat.slot mine.context) (pending cmp old.core mine.seat.slot mine.context) (pending cmp new.core mine.seat.slot mine.context) p
+  event-come : (p : Progress K V I O R) → core_loading.Loads stands entry cmp join f old.core new.core mine.session.slot mine.context came now (Ok p)
+      → IsEvent cmp f old new mine.session.slot mine.context now p
+      → Finds cmp old new mine.session.slot mine.context now p
+      → HasCome f mine (asked new mine.session.slot mine.context) (pending cmp old.core mine.session.slot mine.context) (pending cmp new.core mine.session.slot mine.context) p
   event-come (Done a effect) does ev finds =
-      absurd (looked-now (subst (IsLookedUp (pending cmp old.core mine.seat.slot mine.context)) ev.effect.1
-      (loads-done stands entry cmp join f old.core new.core mine.seat.slot mine.context came now a effect does)))
+      absurd (looked-now (subst (IsLookedUp (pending cmp old.core mine.session.slot mine.context)) ev.effect.1
+      (loads-done stands entry cmp join f old.core new.core mine.session.slot mine.context came now a effect does)))
   event-come Next does ev finds = finds
   event-come (NeedsBuild ask) does ev finds = finds
   event-come (NeedsLoad r a) does ev finds =
       let y = op-is finds.question finds.was in
       let asking = finds.asks ∙ (ap (λ (z : Asked K V I). to_find cmp old now (keyed z.op)) y ∙ ap (to_find cmp old now) (keyed-op mine.op)) in
-      absurd (looked-now (loads-further stands entry cmp join f old.core new.core mine.seat.slot mine.context came now r a now does (record { found = _; is = asking; at = refl })))
+      absurd (looked-now (loads-further stands entry cmp join f old.core new.core mine.session.slot mine.context came now r a now does (record { found = _; is = asking; at = refl })))
   event-come (Waits why) does ev finds = finds
 
-  event-live : (p : Progress K V I O R) → core_loading.Loads stands entry cmp join f old.core new.core mine.seat.slot mine.context came now (Ok p)
-      → IsEvent cmp f old new mine.seat.slot mine.context now p
+  event-live : (p : Progress K V I O R) → core_loading.Loads stands entry cmp join f old.core new.core mine.session.slot mine.context came now (Ok p)
+      → IsEvent cmp f old new mine.session.slot mine.context now p
       → Same (live_of cmp new.core) (live_of cmp old.core)
   event-live (Done a effect) does ev =
-      absurd (looked-now (subst (IsLookedUp (pending cmp old.core mine.seat.slot mine.context)) ev.effect.1
-      (loads-done stands entry cmp join f old.core new.core mine.seat.slot mine.context came now a effect does)))
+      absurd (looked-now (subst (IsLookedUp (pending cmp old.core mine.session.slot mine.context)) ev.effect.1
+      (loads-done stands entry cmp join f old.core new.core mine.session.slot mine.context came now a effect does)))
   event-live Next does ev = ev.effect.1
   event-live (NeedsBuild ask) does ev = ev.effect.1
   event-live (NeedsLoad r a) does ev = ev.effect.1
   event-live (Waits why) does ev = ev.effect.1
 
-  pub load_comes : (p : Progress K V I O R) → Loads stands entry cmp join f code old new mine.seat.slot mine.context came now (Ok p)
-      → IsLoad cmp f old new mine.seat.slot mine.context now p
-      → OthersPend cmp old.core new.core mine.seat.slot mine.context
+  pub load_comes : (p : Progress K V I O R) → Loads stands entry cmp join f code old new mine.session.slot mine.context came now (Ok p)
+      → IsLoad cmp f old new mine.session.slot mine.context now p
+      → OthersPend cmp old.core new.core mine.session.slot mine.context
       → IsCome cmp f old new mine p
   load_comes p does (IsLoad.on_key l) others =
       let at = l.frame.moment in

@@ -18,15 +18,15 @@ use Rattle.fkv_partition.proofs.EffectLemmas.{asked-low}
 use Rattle.fkv_partition.proofs.AskedLemmas.{keyed-op}
 use Rattle.fkv_histories.specs.declared.entries.Entry.{Entry}
 use Rattle.fkv_histories.specs.Histories.{updates}
-use Rattle.fkv_locked.specs.declared.seats.OpenOperation.{OpenOperation}
-use Rattle.fkv_locked.specs.Kept.{seen, place_of, IsKept}
+use Rattle.fkv_locked.specs.declared.open_operations.OpenOperation.{OpenOperation}
+use Rattle.fkv_locked.specs.Kept.{seen, place_of, IsFaithful}
 use Rattle.fkv_locked.specs.Turns.{question_of, IsGone, IsCome}
 use Rattle.fkv_locked.proofs.KeptLemmas.{orderly, kept_quiet, kept_still, kept_further, kept_asks, kept_closed, kept_done, kept_loaded, kept_issue}
 
 module _ {K V I O : Type 0} (cmp : K → K → Ordering) (f : Meanings K V I O) (old new : PartitionView K V I) (es : List (Entry K V I O)) (lows looks : List ℕ) (book now : ℕ)
-    (k : IsKept cmp f (seen cmp old) es lows looks book) where
+    (k : IsFaithful cmp f (seen cmp old) es lows looks book) where
   -- an event of no operation
-  pub quiet_keeps : (keeps : Bool) → IsTrue keeps → old.core.moment < now → IsQuiet keeps old new now → AllPend cmp old.core new.core → IsKept cmp f (seen cmp new) es lows looks book
+  pub quiet_keeps : (keeps : Bool) → IsTrue keeps → old.core.moment < now → IsQuiet keeps old new now → AllPend cmp old.core new.core → IsFaithful cmp f (seen cmp new) es lows looks book
   quiet_keeps keeps held later q pend =
       let at = q.moment in
       kept_quiet cmp f (seen cmp old) (seen cmp new) (omega arith) es lows looks book q.same pend (λ x. ap (λ t. live cmp t x) (q.text held)) k
@@ -35,21 +35,21 @@ module _ {K V I O : Type 0} (cmp : K → K → Ordering) (f : Meanings K V I O) 
   pub issue_keeps : (slot c : ℕ) (op : Op K V I) (code : K → ℕ) (lows' : List ℕ) → c < 8 → old.core.moment < now → IsIssue code old new slot c op now → AllPend cmp old.core new.core
       → lows' ≡ slice_set lows (place_of slot c) (length (updates es))
       → place_of slot c < length lows
-      → IsKept cmp f (seen cmp new) es lows' looks book
+      → IsFaithful cmp f (seen cmp new) es lows' looks book
   issue_keeps slot c op code lows' low later e pend set within =
       let at = e.frame.moment in
       kept_issue cmp f (seen cmp old) (seen cmp new) (omega arith) (orderly cmp old) (orderly cmp new) slot c low e.frame.others (λ s d n. pend s d) es lows looks book k
       lows' e.closed (pend slot c) (λ x. ap (λ t. live cmp t x) e.text) set within
 
   -- an operation is given up
-  pub give_up_keeps : (slot c : ℕ) → old.core.moment < now → IsGiveUp old new slot c now → OthersPend cmp old.core new.core slot c → IsKept cmp f (seen cmp new) es lows looks book
+  pub give_up_keeps : (slot c : ℕ) → old.core.moment < now → IsGiveUp old new slot c now → OthersPend cmp old.core new.core slot c → IsFaithful cmp f (seen cmp new) es lows looks book
   give_up_keeps slot c later e others =
       let at = e.frame.moment in
       kept_closed cmp f (seen cmp old) (seen cmp new) (omega arith) (orderly cmp old) (orderly cmp new) slot c (asked-low old slot c e.question e.was) e.frame.others others es lows looks book k
       e.closed (λ x. ap (λ t. live cmp t x) e.text)
 
-  pub failed_keeps : (slot c : ℕ) → old.core.moment < now → (new ≡ old) ⊎ IsGiveUp old new slot c now → OthersPend cmp old.core new.core slot c → IsKept cmp f (seen cmp new) es lows looks book
-  failed_keeps slot c later e others = elim e [ inl same ↦ subst (λ v. IsKept cmp f (seen cmp v) es lows looks book) (sym same) k | inr given ↦ give_up_keeps slot c later given others ]
+  pub failed_keeps : (slot c : ℕ) → old.core.moment < now → (new ≡ old) ⊎ IsGiveUp old new slot c now → OthersPend cmp old.core new.core slot c → IsFaithful cmp f (seen cmp new) es lows looks book
+  failed_keeps slot c later e others = elim e [ inl same ↦ subst (λ v. IsFaithful cmp f (seen cmp v) es lows looks book) (sym same) k | inr given ↦ give_up_keeps slot c later given others ]
 
   -- an operation goes on, and is to find nothing any more
   came_still : (slot c : ℕ) (x : Asked K V I) → pending cmp new.core slot c ≡ None → old.core.moment ≤ new.core.moment
@@ -57,38 +57,38 @@ module _ {K V I O : Type 0} (cmp : K → K → Ordering) (f : Meanings K V I O) 
       → ((s d : ℕ) → (s ≡ slot → ⊥) ⊎ (d ≡ c → ⊥) → asked new s d ≡ asked old s d)
       → OthersPend cmp old.core new.core slot c
       → Same (live_of cmp new.core) (live_of cmp old.core)
-      → IsKept cmp f (seen cmp new) es lows looks book
+      → IsFaithful cmp f (seen cmp new) es lows looks book
   came_still slot c x none later asks rest others lives =
       kept_still cmp f (seen cmp old) (seen cmp new) later (orderly cmp old) (orderly cmp new) slot c (asked-low old slot c x asks)
       rest others es lows looks book k none lives
 
 module _ {K V I O R : Type 0} (cmp : K → K → Ordering) (f : Meanings K V I O) (old new : PartitionView K V I) (es : List (Entry K V I O)) (lows looks : List ℕ) (book now : ℕ)
-    (k : IsKept cmp f (seen cmp old) es lows looks book) (mine : OpenOperation K V I) where
-  pub went_next : IsGone {R = R} cmp f old new mine now Next → IsKept cmp f (seen cmp new) es lows looks book
+    (k : IsFaithful cmp f (seen cmp old) es lows looks book) (mine : OpenOperation K V I) where
+  pub went_next : IsGone {R = R} cmp f old new mine now Next → IsFaithful cmp f (seen cmp new) es lows looks book
   went_next e =
       let at = e.event.frame.moment in
       let later = e.later in
-      kept_still cmp f (seen cmp old) (seen cmp new) (omega arith) (orderly cmp old) (orderly cmp new) mine.seat.slot mine.context (asked-low old mine.seat.slot mine.context (question_of mine) e.asks)
+      kept_still cmp f (seen cmp old) (seen cmp new) (omega arith) (orderly cmp old) (orderly cmp new) mine.session.slot mine.context (asked-low old mine.session.slot mine.context (question_of mine) e.asks)
       e.event.frame.others e.others es lows looks book k e.finds e.event.effect.1
 
-  pub went_build : (ask : Ask K V I) → IsGone {R = R} cmp f old new mine now (NeedsBuild ask) → IsKept cmp f (seen cmp new) es lows looks book
+  pub went_build : (ask : Ask K V I) → IsGone {R = R} cmp f old new mine now (NeedsBuild ask) → IsFaithful cmp f (seen cmp new) es lows looks book
   went_build ask e =
       let at = e.event.frame.moment in
       let later = e.later in
-      kept_still cmp f (seen cmp old) (seen cmp new) (omega arith) (orderly cmp old) (orderly cmp new) mine.seat.slot mine.context (asked-low old mine.seat.slot mine.context (question_of mine) e.asks)
+      kept_still cmp f (seen cmp old) (seen cmp new) (omega arith) (orderly cmp old) (orderly cmp new) mine.session.slot mine.context (asked-low old mine.session.slot mine.context (question_of mine) e.asks)
       e.event.frame.others e.others es lows looks book k e.finds e.event.effect.1
 
-  pub went_wait : (why : Wait) → IsGone {R = R} cmp f old new mine now (Waits why) → IsKept cmp f (seen cmp new) es lows looks book
+  pub went_wait : (why : Wait) → IsGone {R = R} cmp f old new mine now (Waits why) → IsFaithful cmp f (seen cmp new) es lows looks book
   went_wait why e =
       let at = e.event.frame.moment in
       let later = e.later in
-      kept_still cmp f (seen cmp old) (seen cmp new) (omega arith) (orderly cmp old) (orderly cmp new) mine.seat.slot mine.context (asked-low old mine.seat.slot mine.context (question_of mine) e.asks)
+      kept_still cmp f (seen cmp old) (seen cmp new) (omega arith) (orderly cmp old) (orderly cmp new) mine.session.slot mine.context (asked-low old mine.session.slot mine.context (question_of mine) e.asks)
       e.event.frame.others e.others es lows looks book k e.finds e.event.effect.1
 
   pub went_load : (r : R) (a : ℕ) (looks' : List ℕ) → IsGone cmp f old new mine now (NeedsLoad r a)
-      → looks' ≡ slice_set looks (place_of mine.seat.slot mine.context) (length (updates es))
-      → place_of mine.seat.slot mine.context < length looks
-      → IsKept cmp f (seen cmp new) es lows looks' book
+      → looks' ≡ slice_set looks (place_of mine.session.slot mine.context) (length (updates es))
+      → place_of mine.session.slot mine.context < length looks
+      → IsFaithful cmp f (seen cmp new) es lows looks' book
   went_load r a looks' e set within =
       let at = e.event.frame.moment in
       let later = e.later in
@@ -96,10 +96,10 @@ module _ {K V I O R : Type 0} (cmp : K → K → Ordering) (f : Meanings K V I O
       let y = e.finds.question in
       let first : Some x ≡ Some (question_of mine) = sym e.event.was ∙ e.asks in
       let second : Some y ≡ Some (question_of mine) = sym e.finds.was ∙ e.asks in
-      let is : asked new mine.seat.slot mine.context ≡ Some (question_of mine) = e.event.effect.0 ∙ first in
+      let is : asked new mine.session.slot mine.context ≡ Some (question_of mine) = e.event.effect.0 ∙ first in
       let y_is : y ≡ question_of mine = cc in
       let finds = e.finds.asks ∙ (ap (λ (z : Asked K V I). to_find cmp old now (keyed z.op)) y_is ∙ ap (to_find cmp old now) (keyed-op mine.op)) in
-      kept_asks cmp f (seen cmp old) (seen cmp new) (omega arith) (orderly cmp old) (orderly cmp new) mine.seat.slot mine.context (asked-low old mine.seat.slot mine.context (question_of mine) e.asks)
+      kept_asks cmp f (seen cmp old) (seen cmp new) (omega arith) (orderly cmp old) (orderly cmp new) mine.session.slot mine.context (asked-low old mine.session.slot mine.context (question_of mine) e.asks)
       e.event.frame.others e.others es lows looks book k mine.number mine.op now looks' (omega arith) is finds e.event.effect.1 set within
 
   pub went_done : (a : Answer O) (effect : ℕ) (entry : Entry K V I O) (es' : List (Entry K V I O)) → IsGone {R = R} cmp f old new mine now (Done a effect)
@@ -107,9 +107,9 @@ module _ {K V I O R : Type 0} (cmp : K → K → Ordering) (f : Meanings K V I O
       → entry.answer ≡ a
       → entry.at ≡ length (updates es)
       → entry.high ≡ length (updates es)
-      → entry.low ≡ slice_index lows (place_of mine.seat.slot mine.context)
+      → entry.low ≡ slice_index lows (place_of mine.session.slot mine.context)
       → es' ≡ es ++ entry ∷ []
-      → IsKept cmp f (seen cmp new) es' lows looks (book + 1)
+      → IsFaithful cmp f (seen cmp new) es' lows looks (book + 1)
   went_done a effect entry es' e op_is told at high low_is grown =
       let moment = e.event.frame.moment in
       let later = e.later in
@@ -117,37 +117,37 @@ module _ {K V I O R : Type 0} (cmp : K → K → Ordering) (f : Meanings K V I O
       let same : Some x ≡ Some (question_of mine) = sym e.event.was ∙ e.asks in
       let x_is : x ≡ question_of mine = cc in
       let key : keyed x.op ≡ Some entry.op = ap (λ (z : Asked K V I). keyed z.op) x_is ∙ (keyed-op mine.op ∙ ap Some (sym op_is)) in
-      rw grown (kept_done cmp f (seen cmp old) (seen cmp new) (omega arith) (orderly cmp old) (orderly cmp new) mine.seat.slot mine.context (asked-low old mine.seat.slot mine.context (question_of mine) e.asks)
+      rw grown (kept_done cmp f (seen cmp old) (seen cmp new) (omega arith) (orderly cmp old) (orderly cmp new) mine.session.slot mine.context (asked-low old mine.session.slot mine.context (question_of mine) e.asks)
       e.event.frame.others e.others es lows looks book k entry e.event.effect.0
       (subst (λ t. Same (live_of cmp new.core) (after_keyed cmp f (live_of cmp old.core) t)) key e.event.effect.2)
       (told ∙ (e.event.effect.3 ∙ ap (answer_keyed f (live_of cmp old.core)) key)) at high low_is)
 
   -- a page came
-  pub came_next : IsCome {R = R} cmp f old new mine Next → IsKept cmp f (seen cmp new) es lows looks book
-  came_next e = came_still cmp f old new es lows looks book now k mine.seat.slot mine.context (question_of mine) e.effect e.later e.asks e.rest e.others e.live
+  pub came_next : IsCome {R = R} cmp f old new mine Next → IsFaithful cmp f (seen cmp new) es lows looks book
+  came_next e = came_still cmp f old new es lows looks book now k mine.session.slot mine.context (question_of mine) e.effect e.later e.asks e.rest e.others e.live
 
-  pub came_build : (ask : Ask K V I) → IsCome {R = R} cmp f old new mine (NeedsBuild ask) → IsKept cmp f (seen cmp new) es lows looks book
-  came_build ask e = came_still cmp f old new es lows looks book now k mine.seat.slot mine.context (question_of mine) e.effect e.later e.asks e.rest e.others e.live
+  pub came_build : (ask : Ask K V I) → IsCome {R = R} cmp f old new mine (NeedsBuild ask) → IsFaithful cmp f (seen cmp new) es lows looks book
+  came_build ask e = came_still cmp f old new es lows looks book now k mine.session.slot mine.context (question_of mine) e.effect e.later e.asks e.rest e.others e.live
 
-  pub came_wait : (why : Wait) → IsCome {R = R} cmp f old new mine (Waits why) → IsKept cmp f (seen cmp new) es lows looks book
-  came_wait why e = came_still cmp f old new es lows looks book now k mine.seat.slot mine.context (question_of mine) e.effect e.later e.asks e.rest e.others e.live
+  pub came_wait : (why : Wait) → IsCome {R = R} cmp f old new mine (Waits why) → IsFaithful cmp f (seen cmp new) es lows looks book
+  came_wait why e = came_still cmp f old new es lows looks book now k mine.session.slot mine.context (question_of mine) e.effect e.later e.asks e.rest e.others e.live
 
-  pub came_further : (r : R) (a : ℕ) → IsCome cmp f old new mine (NeedsLoad r a) → IsKept cmp f (seen cmp new) es lows looks book
+  pub came_further : (r : R) (a : ℕ) → IsCome cmp f old new mine (NeedsLoad r a) → IsFaithful cmp f (seen cmp new) es lows looks book
   came_further r a e =
-      kept_further cmp f (seen cmp old) (seen cmp new) e.later (orderly cmp old) (orderly cmp new) mine.seat.slot mine.context (asked-low old mine.seat.slot mine.context (question_of mine) e.asks)
+      kept_further cmp f (seen cmp old) (seen cmp new) e.later (orderly cmp old) (orderly cmp new) mine.session.slot mine.context (asked-low old mine.session.slot mine.context (question_of mine) e.asks)
       e.rest e.others es lows looks book k (e.effect.0 ∙ sym e.asks) e.effect.1 e.live
 
   pub came_done : (a : Answer O) (effect : ℕ) (entry : Entry K V I O) (es' : List (Entry K V I O)) → IsCome {R = R} cmp f old new mine (Done a effect)
       → entry.op ≡ mine.op
       → entry.answer ≡ a
-      → entry.at ≡ slice_index looks (place_of mine.seat.slot mine.context)
+      → entry.at ≡ slice_index looks (place_of mine.session.slot mine.context)
       → entry.high ≡ length (updates es)
-      → entry.low ≡ slice_index lows (place_of mine.seat.slot mine.context)
+      → entry.low ≡ slice_index lows (place_of mine.session.slot mine.context)
       → es' ≡ es ++ entry ∷ []
-      → IsKept cmp f (seen cmp new) es' lows looks (book + 1)
+      → IsFaithful cmp f (seen cmp new) es' lows looks (book + 1)
   came_done a effect entry es' e op_is told at high low_is grown =
       let found = e.effect.1 in
       let read = found.2 in
-      rw grown (kept_loaded cmp f (seen cmp old) (seen cmp new) e.later (orderly cmp old) (orderly cmp new) mine.seat.slot mine.context (asked-low old mine.seat.slot mine.context (question_of mine) e.asks)
+      rw grown (kept_loaded cmp f (seen cmp old) (seen cmp new) e.later (orderly cmp old) (orderly cmp new) mine.session.slot mine.context (asked-low old mine.session.slot mine.context (question_of mine) e.asks)
       e.rest e.others es lows looks book k entry found.0 mine.number read.0 read.1 e.effect.0
       (e.asks ∙ ap (λ o. Some (record { number = mine.number; op = op_of o })) (sym op_is)) found.1 e.live (op_is ∙ read.2) (told ∙ read.3) at high low_is)

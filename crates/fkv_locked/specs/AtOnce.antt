@@ -7,7 +7,7 @@ use Rattle.fkv_operations.specs.declared.operations.KeyedOp.{KeyedOp}
 use Rattle.fkv_operations.specs.declared.operations.Answer.{Answer}
 use Rattle.fkv_histories.specs.Histories.{is_update_entry}
 use Rattle.fkv_histories.specs.declared.entries.Entry.{Entry}
-use Rattle.fkv_locked.specs.declared.seats.SessionId.{SessionId}
+use Rattle.fkv_locked.specs.declared.open_operations.SessionId.{SessionId}
 use Rattle.fkv_locked.specs.Locks.{LockedView}
 
 -- what is refused of it before its partition is asked: there are fewer updates than the caller was told of; or there is no
@@ -21,8 +21,8 @@ IsUnfit count book clock told other = ⊥
 module _ {K V I O : Type 0} where
   -- its entry: it is issued at the next moment, when as many updates stand as when it is finished
   abbrev pub entry_at_once : LockedView K V I O → SessionId → KeyedOp K V I → Answer O → Entry K V I O
-  entry_at_once l seat op answer = record {
-    session = seat.session;
+  entry_at_once l session op answer = record {
+    session = session.number;
     number = l.clock + 1;
     op = op;
     answer = answer;

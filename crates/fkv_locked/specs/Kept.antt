@@ -43,7 +43,7 @@ module _ {K V I O : Type 0} (cmp : K → K → Ordering) (f : Meanings K V I O) 
 
   -- the history is legal, its updates make the live map, each context knows how many updates stood at its issue and at its
   -- last look-up, and the book counts the entries
-  pub record IsKept (s : Seen K V I) (es : List (Entry K V I O)) (lows looks : List ℕ) (book : ℕ) : Type 0 where
+  pub record IsFaithful (s : Seen K V I) (es : List (Entry K V I O)) (lows looks : List ℕ) (book : ℕ) : Type 0 where
     pub legal : IsLegal cmp f es
     pub live : Same s.live (map_of cmp f (updates es))
     pub issued : (i : ℕ) → slice_index lows i ≤ length (updates es)

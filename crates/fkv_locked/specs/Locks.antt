@@ -6,7 +6,7 @@ use Rattle.fkv_partition.specs.Effect.{IsGiveUp}
 use Rattle.fkv_partition.specs.Views.{PartitionView}
 use Rattle.fkv_histories.specs.declared.entries.Entry.{Entry}
 use Rattle.fkv_locked.specs.Kept.{place_of}
-use Rattle.fkv_locked.specs.declared.seats.OpenOperation.{OpenOperation}
+use Rattle.fkv_locked.specs.declared.open_operations.OpenOperation.{OpenOperation}
 use Rattle.fkv_locked.specs.Turns.{Noted}
 
 -- the partition; the entries that its history keeps, and how many updates were added to it; how many updates stood at the
@@ -47,7 +47,7 @@ module _ {K V I O : Type 0} where
 
   -- where this operation looks now: so many updates are kept to have stood at the last look-up of its context
   abbrev pub looks_now : LockedView K V I O → OpenOperation K V I → List ℕ
-  looks_now l mine = slice_set l.looks (place_of mine.seat.slot mine.context) l.count
+  looks_now l mine = slice_set l.looks (place_of mine.session.slot mine.context) l.count
 
   -- a session is entered
   abbrev pub with_session : LockedView K V I O → PartitionView K V I → LockedView K V I O
@@ -60,5 +60,5 @@ module _ {K V I O : Type 0} where
   -- a page did not come, or is damaged: a moment has passed, and the operation is ended without effect, or goes on waiting
   pub record IsLoadRefused (old new : LockedView K V I O) (mine : OpenOperation K V I) : Type 0 where
     pub ended : (new.partition ≡ old.partition)
-        ⊎ IsGiveUp old.partition new.partition mine.seat.slot mine.context (old.clock + 1)
+        ⊎ IsGiveUp old.partition new.partition mine.session.slot mine.context (old.clock + 1)
     pub rest : new ≡ with_partition old new.partition

@@ -2,7 +2,7 @@
 use Rattle.std.specs.Prelude.{◌≡◌, ◌<◌, ℕ, Some, None, slice_index, slice_set}
 use Rattle.fkv_partition.specs.Effect.{asked}
 use Rattle.fkv_locked.specs.Kept.{place_of}
-use Rattle.fkv_locked.specs.declared.seats.OpenOperation.{OpenOperation}
+use Rattle.fkv_locked.specs.declared.open_operations.OpenOperation.{OpenOperation}
 use Rattle.fkv_locked.specs.Locks.{LockedView}
 use Rattle.fkv_locked.specs.Turns.{question_of}
 
@@ -18,11 +18,11 @@ module _ {K V I O : Type 0} where
 
   -- a caller's operation is open in its context
   abbrev pub IsOpen : OpenOperation K V I → LockedView K V I O → Type 0
-  IsOpen mine l = asked l.partition mine.seat.slot mine.context ≡ Some (question_of mine)
+  IsOpen mine l = asked l.partition mine.session.slot mine.context ≡ Some (question_of mine)
 
   -- the mark of its context
   abbrev pub mark_of : OpenOperation K V I → LockedView K V I O → ℕ
-  mark_of mine l = slice_index l.lows (place_of mine.seat.slot mine.context)
+  mark_of mine l = slice_index l.lows (place_of mine.session.slot mine.context)
 
   -- events of whatever kind follow one another, before each of which a caller's operation was open
   pub data IsOpenFrom (mine : OpenOperation K V I) (start : LockedView K V I O) : LockedView K V I O → Type 0 where

@@ -18,7 +18,7 @@ use Rattle.fkv_partition.specs.Views.{PartitionView}
 use Rattle.fkv_histories.specs.declared.entries.Entry.{Entry}
 use Rattle.fkv_histories.specs.Histories.{is_update_entry}
 use Rattle.fkv_locked.specs.Kept.{place_of}
-use Rattle.fkv_locked.specs.declared.seats.OpenOperation.{OpenOperation}
+use Rattle.fkv_locked.specs.declared.open_operations.OpenOperation.{OpenOperation}
 use Rattle.fkv_locked.specs.declared.turns.Turn.{Turn}
 use Rattle.fkv_locked.specs.declared.turns.Turn.TheVariants.{Done, Next, NeedsBuild, NeedsLoad, Waits}
 
@@ -63,7 +63,7 @@ pub record Noted (K V I O : Type 0) : Type 0 where
 module _ {K V I O : Type 0} where
   -- an entry of this operation, whose place is not before what its caller was told
   pub record IsOf (mine : OpenOperation K V I) (e : Entry K V I O) : Type 0 where
-    pub session_is : e.session ≡ mine.seat.session
+    pub session_is : e.session ≡ mine.session.number
     pub number_is : e.number ≡ mine.number
     pub op_is : e.op ≡ mine.op
     pub fresh : mine.told ≤ e.at
@@ -73,7 +73,7 @@ module _ {K V I O : Type 0} where
   -- its context says, and as many at its completion as there are. Nothing else changes
   pub record Adds (keeps : Bool) (at : ℕ) (old new : Noted K V I O) (mine : OpenOperation K V I) (e : Entry K V I O) : Type 0 where
     pub of : IsOf mine e
-    pub low_is : e.low ≡ slice_index old.lows (place_of mine.seat.slot mine.context)
+    pub low_is : e.low ≡ slice_index old.lows (place_of mine.session.slot mine.context)
     pub at_is : e.at ≡ at
     pub high_is : e.high ≡ old.count
     pub entries_is : keeps ≡ true → new.entries ≡ old.entries ++ e ∷ []
@@ -112,11 +112,11 @@ module _ {K V I O R : Type 0} where
   -- an event of a caller's operation, as its partition tells it
   pub record IsGone (cmp : K → K → Ordering) (f : Meanings K V I O) (old new : PartitionView K V I) (mine : OpenOperation K V I)
       (now : ℕ) (p : Progress K V I O R) : Type 0 where
-    pub asks : asked old mine.seat.slot mine.context ≡ Some (question_of mine)
+    pub asks : asked old mine.session.slot mine.context ≡ Some (question_of mine)
     pub later : old.core.moment < now
-    pub event : IsEvent cmp f old new mine.seat.slot mine.context now p
-    pub finds : Finds cmp old new mine.seat.slot mine.context now p
-    pub others : OthersPend cmp old.core new.core mine.seat.slot mine.context
+    pub event : IsEvent cmp f old new mine.session.slot mine.context now p
+    pub finds : Finds cmp old new mine.session.slot mine.context now p
+    pub others : OthersPend cmp old.core new.core mine.session.slot mine.context
 
   -- what a page that came makes of an operation on a key, for a history: a read is done as its look-up was to find; a look-up
   -- goes on; or nothing is to be found any more
@@ -132,10 +132,10 @@ module _ {K V I O R : Type 0} where
   -- a page came for a caller's operation
   pub record IsCome (cmp : K → K → Ordering) (f : Meanings K V I O) (old new : PartitionView K V I) (mine : OpenOperation K V I)
       (p : Progress K V I O R) : Type 0 where
-    pub asks : asked old mine.seat.slot mine.context ≡ Some (question_of mine)
+    pub asks : asked old mine.session.slot mine.context ≡ Some (question_of mine)
     pub later : old.core.moment ≤ new.core.moment
-    pub effect : HasCome f mine (asked new mine.seat.slot mine.context) (pending cmp old.core mine.seat.slot mine.context)
-        (pending cmp new.core mine.seat.slot mine.context) p
+    pub effect : HasCome f mine (asked new mine.session.slot mine.context) (pending cmp old.core mine.session.slot mine.context)
+        (pending cmp new.core mine.session.slot mine.context) p
     pub live : Same (live_of cmp new.core) (live_of cmp old.core)
-    pub rest : (s d : ℕ) → (s ≢ mine.seat.slot) ⊎ (d ≢ mine.context) → asked new s d ≡ asked old s d
-    pub others : OthersPend cmp old.core new.core mine.seat.slot mine.context
+    pub rest : (s d : ℕ) → (s ≢ mine.session.slot) ⊎ (d ≢ mine.context) → asked new s d ≡ asked old s d
+    pub others : OthersPend cmp old.core new.core mine.session.slot mine.context

@@ -1,17 +1,17 @@
 //! Operations of callers that are issued and finished in one call: most updates of a feed are such, and most reads.
-ghost use Rattle.std.specs.Prelude.{◌≡◌, ◌+◌, ◌-◌, ◌^◌, ◌<◌, ◌≤◌, true, None, Ok, IfOk, IfErr, IfSome, OnOk, OnErr};
+ghost use Rattle.std.specs.Prelude.{◌≡◌, ◌+◌, ◌-◌, ◌^◌, ◌<◌, ◌≤◌, ◌↔◌, true, None, Ok, IsTrue, IfOk, IfErr, IfSome, OnOk, OnErr};
 ghost use Rattle.fkv_operations.specs.declared.operations.Answer.{Answer};
 ghost use Rattle.fkv_operations.specs.declared.operations.Answer.TheVariants.{Value};
 ghost use Rattle.fkv_operations.specs.declared.operations.KeyedOp.TheVariants.{Read, Rmw};
 ghost use Rattle.fkv_partition.specs.AtOnce.{IsAtHand, IsDoneAtOnce, IsReadAtOnce};
 ghost use Rattle.fkv_partition.specs.CoreAtOnce.{AsksForPage};
 ghost use Rattle.fkv_partition.specs.CoreBeginning.{IsEntered};
-ghost use Rattle.fkv_partition.specs.CoreViews.{partition_of};
+ghost use Rattle.fkv_partition.specs.CoreViews.{MayNeedPage, partition_of};
 ghost use Rattle.fkv_locked.specs.AtOnce.{IsUnfit, IsNoted, entry_at_once};
 
 use crate::finished::{FinishedOf, finish};
 use crate::locked::Locked;
-use crate::seats::SessionId;
+use crate::open_operations::SessionId;
 use fkv_device::Receipt;
 use fkv_functions::{Mergeable, Refused, What};
 use fkv_histories::{Entry, Recorder};
@@ -73,21 +73,21 @@ impl<F: Mergeable, R: Receipt, H: Recorder<F>> Locked<F, R, H> {
     /// number, or the clock has no two; `NoMemory`.
     pub fn try_update_in_place(
         &mut self,
-        seat: SessionId,
+        session: SessionId,
         key: &F::Key,
         input: &F::Input,
         told: u64,
         functions: &F,
     ) -> Result<Option<FinishedOf<F>>, Refused>
         ensures done { IfOk result (λ done. IfSome done (λ e. (shown : F.Output)
-            × (e ≡ entry_at_once self.old seat (Rmw key.now input.now) (Value shown))
+            × (e ≡ entry_at_once self.old session (Rmw key.now input.now) (Value shown))
             × IsDoneAtOnce R.stands F.Key.cmp F.parts.joined F.meaning F.code
-            self.old.partition self.new.partition seat.slot key.now
+            self.old.partition self.new.partition session.slot key.now
             input.now (self.old.clock + 1) (self.old.clock + 2) shown)) }
         ensures after { IfOk result (λ done. IfSome done (IsNoted H.keeps self.old self.new)) }
         ensures fresh { IfOk result (λ done. IfSome done (λ e. (told ≤ e.at) × (e.at < 2 ^ 64 - 1))) }
         ensures left { result ≡ Ok None → (held : F.Value)
-            → IsAtHand F.Key.cmp F.parts.joined F.code self.old.partition seat.slot key.now held
+            → IsAtHand F.Key.cmp F.parts.joined F.code self.old.partition session.slot key.now held
             → F.meaning.next key.now held input.now ≡ None }
         ensures none { result ≡ Ok None → self.new ≡ self.old }
         ensures refused { IfErr result (IsUnfit self.old.count self.old.book self.old.clock told) }
@@ -109,13 +109,18 @@ impl<F: Mergeable, R: Receipt, H: Recorder<F>> Locked<F, R, H> {
         let AtOnce { at, now } = ready;
         let issued = now - 1;
         let Some(shown) = partition.try_update_in_place(
-            seat.slot, key, input, functions, issued, now,
+            session.slot,
+            key,
+            input,
+            functions,
+            issued,
+            now,
         ) else {
             return Ok(None);
         };
         *clock = Clock::starting(now);
         let entry = Entry {
-            session: seat.session,
+            session: session.number,
             number: issued,
             op: KeyedOp::Rmw(*key, *input),
             answer: Answer::Value(shown),
@@ -126,6 +131,14 @@ impl<F: Mergeable, R: Receipt, H: Recorder<F>> Locked<F, R, H> {
         Ok(Some(finish::<F, H>(history, book, entry)))
     }
 
+    /// Whether the last record of a key that a session of a caller reads in memory, if any, has no value of the key: as
+    /// [`fkv_partition::Partition::may_need_page`] tells.
+    pub fn may_need_page(&self, session: SessionId, key: &F::Key, functions: &F) -> bool
+        ensures { IsTrue result ↔ MayNeedPage F.Key.cmp F.code self.now.partition.core session.slot key.now }
+    {
+        self.partition.may_need_page(session.slot, functions, key)
+    }
+
     /// Issues a read of a key in a session of a caller, which was told of so many updates, and finishes it, where no page has to
     /// be read for it: what [`Locked::issue`] and [`Locked::go`] answer then, at two moments, but the partition is left as it is,
     /// and no mark changes. Answers its entry, which is noted, or `None` where the slot is that of no session, the key belongs to
@@ -133,21 +146,21 @@ impl<F: Mergeable, R: Receipt, H: Recorder<F>> Locked<F, R, H> {
     /// and then nothing changes.
     pub fn try_read_in_memory(
         &mut self,
-        seat: SessionId,
+        session: SessionId,
         key: &F::Key,
         input: &F::Input,
         told: u64,
         functions: &F,
     ) -> Result<Option<FinishedOf<F>>, Refused>
         ensures done { IfOk result (λ done. IfSome done (λ e. (answer : Answer F.Output)
-            × (e ≡ entry_at_once self.old seat (Read key.now input.now) answer)
-            × IsReadAtOnce F.Key.cmp F.parts.joined F.meaning F.code self.old.partition seat.slot key.now input.now answer)) }
+            × (e ≡ entry_at_once self.old session (Read key.now input.now) answer)
+            × IsReadAtOnce F.Key.cmp F.parts.joined F.meaning F.code self.old.partition session.slot key.now input.now answer)) }
         ensures after { IfOk result (λ done. IfSome done (IsNoted H.keeps self.old self.new)) }
         ensures still { self.new.partition ≡ self.old.partition }
         ensures fresh { IfOk result (λ done. IfSome done (λ e. (told ≤ e.at) × (e.at < 2 ^ 64 - 1))) }
-        ensures left { result ≡ Ok None → IsEntered self.old.partition.core seat.slot
+        ensures left { result ≡ Ok None → IsEntered self.old.partition.core session.slot
             → partition_of self.old.partition.core.count (F.code key.now) ≡ self.old.partition.core.number
-            → AsksForPage F.Key.cmp F.parts.joined F.meaning F.code self.old.partition.core seat.slot key.now input.now }
+            → AsksForPage F.Key.cmp F.parts.joined F.meaning F.code self.old.partition.core session.slot key.now input.now }
         ensures none { result ≡ Ok None → self.new ≡ self.old }
         ensures refused { IfErr result (IsUnfit self.old.count self.old.book self.old.clock told) }
         ensures unchanged { OnErr result (self.new ≡ self.old) }
@@ -163,13 +176,13 @@ impl<F: Mergeable, R: Receipt, H: Recorder<F>> Locked<F, R, H> {
             Err(refused) => return Err(refused),
             Ok(ready) => ready,
         };
-        let Some(answer) = partition.try_read_in_memory(seat.slot, key, input, functions) else {
+        let Some(answer) = partition.try_read_in_memory(session.slot, key, input, functions) else {
             return Ok(None);
         };
         let AtOnce { at, now } = ready;
         *clock = Clock::starting(now);
         let entry = Entry {
-            session: seat.session,
+            session: session.number,
             number: now - 1,
             op: KeyedOp::Read(*key, *input),
             answer,

@@ -14,7 +14,7 @@ ghost use Rattle.fkv_locked.specs.Locks.{IsTimed, with_partition};
 ghost use Rattle.fkv_locked.specs.Compacting.{IsRelocationProgress, IsRelocationRefused};
 
 use crate::locked::{Locked, next_moment};
-use crate::seats::SessionId;
+use crate::open_operations::SessionId;
 use fkv_compaction::Compactor;
 use fkv_device::{Loaded, Receipt};
 use fkv_functions::{Mergeable, Refused};
@@ -57,7 +57,7 @@ impl<F: Mergeable, R: Receipt, H: Recorder<F>> Locked<F, R, H> {
         // no caller's session has this number, and the event asks for none
         self.refresh(SessionId {
             slot: compactor.slot(),
-            session: 0,
+            number: 0,
         })
     }
 

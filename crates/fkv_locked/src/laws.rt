@@ -1,7 +1,7 @@
 //! What holds of events under a lock, one after the other. Each law is what a function without a body ensures.
 ghost use Rattle.std.specs.Prelude.{◌≡◌, ℕ, Bool};
 ghost use Rattle.fkv_histories.specs.declared.entries.Entry.{Entry};
-ghost use Rattle.fkv_locked.specs.declared.seats.OpenOperation.{OpenOperation};
+ghost use Rattle.fkv_locked.specs.declared.open_operations.OpenOperation.{OpenOperation};
 ghost use Rattle.fkv_locked.specs.Locks.{LockedView, noted};
 ghost use Rattle.fkv_locked.specs.Marks.{IsOpenFrom, mark_of};
 ghost use Rattle.fkv_locked.specs.Turns.{Adds};

@@ -15,15 +15,15 @@ pub mod laws;
 pub mod locked;
 mod marks;
 pub mod offsets;
+pub mod open_operations;
 pub mod operations;
 pub mod owns;
 pub mod pages;
-pub mod seats;
 pub mod sessions;
 pub mod turns;
 
 pub use finished::{Finished, FinishedOf};
 pub use locked::{Locked, Part};
+pub use open_operations::{OpenOperation, OpenOperationOf, SessionId};
 pub use owns::Owns;
-pub use seats::{OpenOperation, OpenOperationOf, SessionId};
 pub use turns::{Turn, TurnOf};

@@ -2,7 +2,7 @@
 ghost use Rattle.std.specs.Prelude.{◌≡◌, ◌+◌, ◌-◌, ◌^◌, true, None, IsTrue, IfSome};
 ghost use Rattle.fkv_partition.specs.CoreSound.{IsSound};
 ghost use Rattle.fkv_partition.specs.Sound.{IsCompacting};
-ghost use Rattle.fkv_locked.specs.Kept.{seen, IsKept, IsEnded};
+ghost use Rattle.fkv_locked.specs.Kept.{seen, IsFaithful, IsEnded};
 
 use fkv_device::Receipt;
 use fkv_functions::Mergeable;
@@ -29,7 +29,7 @@ pub struct Locked<F: Mergeable, R: Receipt, H: Recorder<F>> {
 impl<F: Mergeable, R: Receipt, H: Recorder<F>> Model for Locked<F, R, H> {
     ghost use Rattle.std.specs.Prelude.{◌≡◌, ◌≤◌, true, IsTrue, length};
     ghost use Rattle.fkv_locked.specs.Locks.{LockedView};
-    ghost use Rattle.fkv_locked.specs.Kept.{seen, IsKept};
+    ghost use Rattle.fkv_locked.specs.Kept.{seen, IsFaithful};
 
     ghost Value = { LockedView F.Key F.Value F.Input F.Output };
 
@@ -48,7 +48,7 @@ impl<F: Mergeable, R: Receipt, H: Recorder<F>> Model for Locked<F, R, H> {
         × (length l.lows.items ≡ 128)
         × (length l.looks.items ≡ 128)
         × (H.keeps ≡ true → IsTrue R.keeps
-        → IsKept F.Key.cmp F.meaning (seen F.Key.cmp l.partition) (H.entries l.history) l.lows.items l.looks.items
+        → IsFaithful F.Key.cmp F.meaning (seen F.Key.cmp l.partition) (H.entries l.history) l.lows.items l.looks.items
         l.book) };
 }
 
@@ -73,7 +73,7 @@ impl<F: Mergeable, R: Receipt, H: Recorder<F>> Locked<F, R, H> {
     pub fn known(&self)
         ensures core { IsSound R.keeps F.Key.cmp F.parts.joined F.code self.now.partition.core }
         ensures compacting { IsCompacting R.keeps F.Key.cmp F.parts.joined F.code self.now.partition }
-        ensures kept { H.keeps ≡ true → IsTrue R.keeps → IsKept F.Key.cmp F.meaning (seen F.Key.cmp self.now.partition)
+        ensures kept { H.keeps ≡ true → IsTrue R.keeps → IsFaithful F.Key.cmp F.meaning (seen F.Key.cmp self.now.partition)
             self.now.entries self.now.lows self.now.looks self.now.book }
     {
         self.partition.known();

@@ -11,7 +11,7 @@ ghost use Rattle.fkv_locked.specs.Turns.{question_of, IsUnheard, IsUnready, IsLo
 
 use crate::locked::{Locked, next_moment};
 use crate::marks::{mark_at, set_mark};
-use crate::seats::{OpenOperation, OpenOperationOf, SessionId};
+use crate::open_operations::{OpenOperation, OpenOperationOf, SessionId};
 use crate::turns::{TurnOf, make_ready, note, note_loaded};
 use fkv_device::{Loaded, Receipt};
 use fkv_functions::{Built, Mergeable, Refused, What};
@@ -22,9 +22,9 @@ use fkv_partition::Partition;
 /// Whether a caller's operation is open in its context.
 fn is_open<F: Mergeable, R: Receipt>(partition: &Partition<F, R>, mine: &OpenOperationOf<F>) -> bool
     ensures { IsTrue result
-        ↔ (asked partition.now mine.now.seat.slot mine.now.context ≡ Some (question_of mine.now)) }
+        ↔ (asked partition.now mine.now.session.slot mine.now.context ≡ Some (question_of mine.now)) }
 {
-    match partition.asked(mine.seat.slot, mine.context) {
+    match partition.asked(mine.session.slot, mine.context) {
         Err(_unknown) => false,
         Ok((number, op)) => number == mine.number && is_same_op::<F>(&op, &mine.op.op()),
     }
@@ -36,23 +36,23 @@ impl<F: Mergeable, R: Receipt, H: Recorder<F>> Locked<F, R, H> {
     /// [`fkv_partition::Partition::issue`] refuses.
     pub fn issue(
         &mut self,
-        seat: SessionId,
+        session: SessionId,
         op: KeyedOpOf<F>,
         told: u64,
         functions: &F,
     ) -> Result<OpenOperationOf<F>, Refused>
         ensures issues { IfOk result (λ mine.
-            Issues F.code self.old.partition self.new.partition seat.slot (op_of op) (self.old.clock + 1) (Ok mine.context)) }
+            Issues F.code self.old.partition self.new.partition session.slot (op_of op) (self.old.clock + 1) (Ok mine.context)) }
         ensures mine { IfOk result (λ mine. mine
-            ≡ record { seat = seat; context = mine.context; number = self.old.clock + 1; op = op; told = told }) }
+            ≡ record { session = session; context = mine.context; number = self.old.clock + 1; op = op; told = told }) }
         ensures fresh { IfOk result (λ _. told ≤ self.old.count) }
         ensures after { IfOk result (λ mine.
-            self.new ≡ with_issue self.old self.new.partition seat.slot mine.context) }
+            self.new ≡ with_issue self.old self.new.partition session.slot mine.context) }
         ensures opens { IfOk result (λ mine. IsOpen mine self.new) }
         ensures marks { OnOk result (Marks self.old self.new) }
         ensures mark { IfOk result (λ mine. mark_of mine self.new ≡ self.old.count) }
         ensures refused { IfErr result (λ why. IsUnheard self.old.count self.old.clock told why
-            ⊎ Issues F.code self.old.partition self.new.partition seat.slot (op_of op) (self.old.clock + 1) (Err why)) }
+            ⊎ Issues F.code self.old.partition self.new.partition session.slot (op_of op) (self.old.clock + 1) (Err why)) }
         ensures unchanged { OnErr result (self.new ≡ self.old) }
     {
         let held = self.history.updates();
@@ -66,13 +66,13 @@ impl<F: Mergeable, R: Receipt, H: Recorder<F>> Locked<F, R, H> {
         let Some(now) = next_moment(&self.clock) else {
             return Err(Refused::Worn);
         };
-        match self.partition.issue(seat.slot, op.op(), functions, now) {
+        match self.partition.issue(session.slot, op.op(), functions, now) {
             Err(refused) => Err(refused),
             Ok(context) => {
-                set_mark(&mut self.lows, seat.slot, context, held);
+                set_mark(&mut self.lows, session.slot, context, held);
                 self.clock = Clock::starting(now);
                 Ok(OpenOperation {
-                    seat,
+                    session,
                     context,
                     number: now,
                     op,
@@ -89,16 +89,16 @@ impl<F: Mergeable, R: Receipt, H: Recorder<F>> Locked<F, R, H> {
     pub fn go(&mut self, mine: &OpenOperationOf<F>, functions: &F) -> Result<TurnOf<F, R>, Refused>
         ensures effect { IfOk result (λ turn. (p : _) × Goes R.stands F.Key.cmp F.parts.joined F.meaning F.code
             self.old.partition
-            self.new.partition mine.now.seat.slot mine.now.context (self.old.clock + 1) (Ok p) × IsToldBy p turn) }
+            self.new.partition mine.now.session.slot mine.now.context (self.old.clock + 1) (Ok p) × IsToldBy p turn) }
         ensures open { OnOk result (IsOpen mine.now self.old) }
         ensures turns { IfOk result (Turns H.keeps self.old.count (looks_now self.old mine.now) (noted self.old)
             (noted self.new) mine.now) }
         ensures after { OnOk result (self.new ≡ with_turn self.old self.new) }
         ensures refused { IfErr result (λ why.
-            IsUnready (asked self.old.partition mine.now.seat.slot mine.now.context) self.old.count self.old.book
+            IsUnready (asked self.old.partition mine.now.session.slot mine.now.context) self.old.count self.old.book
             self.old.clock mine.now why
             ⊎ Goes R.stands F.Key.cmp F.parts.joined F.meaning F.code
-            self.old.partition self.new.partition mine.now.seat.slot mine.now.context (self.old.clock + 1) (Err why)) }
+            self.old.partition self.new.partition mine.now.session.slot mine.now.context (self.old.clock + 1) (Err why)) }
         ensures unchanged { OnErr result (self.new ≡ self.old) }
     {
         let Locked {
@@ -114,7 +114,7 @@ impl<F: Mergeable, R: Receipt, H: Recorder<F>> Locked<F, R, H> {
             Err(refused) => return Err(refused),
             Ok(now) => now,
         };
-        let progress = match partition.go(mine.seat.slot, mine.context, functions, now) {
+        let progress = match partition.go(mine.session.slot, mine.context, functions, now) {
             Err(refused) => return Err(refused),
             Ok(progress) => progress,
         };
@@ -131,15 +131,15 @@ impl<F: Mergeable, R: Receipt, H: Recorder<F>> Locked<F, R, H> {
         functions: &F,
     ) -> Result<TurnOf<F, R>, Refused>
         ensures effect { IfOk result (λ turn. (p : _) × Installs F.Key.cmp F.meaning F.code self.old.partition
-            self.new.partition mine.now.seat.slot mine.now.context built (self.old.clock + 1) (Ok p) × IsToldBy p turn) }
+            self.new.partition mine.now.session.slot mine.now.context built (self.old.clock + 1) (Ok p) × IsToldBy p turn) }
         ensures open { OnOk result (IsOpen mine.now self.old) }
         ensures turns { IfOk result (Turns H.keeps self.old.count (looks_now self.old mine.now) (noted self.old)
             (noted self.new) mine.now) }
         ensures after { OnOk result (self.new ≡ with_turn self.old self.new) }
         ensures refused { IfErr result (λ why.
-            IsUnready (asked self.old.partition mine.now.seat.slot mine.now.context) self.old.count self.old.book
+            IsUnready (asked self.old.partition mine.now.session.slot mine.now.context) self.old.count self.old.book
             self.old.clock mine.now why
-            ⊎ Installs {R = R} F.Key.cmp F.meaning F.code self.old.partition self.new.partition mine.now.seat.slot
+            ⊎ Installs {R = R} F.Key.cmp F.meaning F.code self.old.partition self.new.partition mine.now.session.slot
             mine.now.context built (self.old.clock + 1) (Err why)) }
         ensures unchanged { OnErr result (self.new ≡ self.old) }
     {
@@ -157,7 +157,7 @@ impl<F: Mergeable, R: Receipt, H: Recorder<F>> Locked<F, R, H> {
             Ok(now) => now,
         };
         let progress = match partition.install(
-            mine.seat.slot,
+            mine.session.slot,
             mine.context,
             built,
             functions,
@@ -182,19 +182,19 @@ impl<F: Mergeable, R: Receipt, H: Recorder<F>> Locked<F, R, H> {
     ) -> Result<TurnOf<F, R>, Refused>
         ensures effect { IfOk result (λ turn. (p : _)
             × Loads R.stands (IsEntryIn F.Key.codec F.Value.codec) F.Key.cmp F.parts.joined F.meaning F.code
-            self.old.partition self.new.partition mine.now.seat.slot mine.now.context came (self.old.clock + 1) (Ok p)
+            self.old.partition self.new.partition mine.now.session.slot mine.now.context came (self.old.clock + 1) (Ok p)
             × IsToldBy p turn) }
         ensures open { OnOk result (IsOpen mine.now self.old) }
         ensures turns { IfOk result (Turns H.keeps
-            (slice_index self.old.looks (place_of mine.now.seat.slot mine.now.context)) self.old.looks (noted self.old)
+            (slice_index self.old.looks (place_of mine.now.session.slot mine.now.context)) self.old.looks (noted self.old)
             (noted self.new) mine.now) }
         ensures after { OnOk result (self.new ≡ with_turn self.old self.new) }
         ensures refused { IfErr result (λ why.
-            IsUnready (asked self.old.partition mine.now.seat.slot mine.now.context) self.old.count self.old.book
+            IsUnready (asked self.old.partition mine.now.session.slot mine.now.context) self.old.count self.old.book
             self.old.clock mine.now why
-            ⊎ IsLookedEarly (slice_index self.old.looks (place_of mine.now.seat.slot mine.now.context)) mine.now why
+            ⊎ IsLookedEarly (slice_index self.old.looks (place_of mine.now.session.slot mine.now.context)) mine.now why
             ⊎ Loads R.stands (IsEntryIn F.Key.codec F.Value.codec) F.Key.cmp F.parts.joined F.meaning F.code
-            self.old.partition self.new.partition mine.now.seat.slot
+            self.old.partition self.new.partition mine.now.session.slot
             mine.now.context came (self.old.clock + 1) (Err why)) }
         ensures left { IfErr result (λ _. (self.new ≡ self.old) ⊎ IsLoadRefused self.old self.new mine.now) }
     {
@@ -211,7 +211,7 @@ impl<F: Mergeable, R: Receipt, H: Recorder<F>> Locked<F, R, H> {
             Err(refused) => return Err(refused),
             Ok(now) => now,
         };
-        let look = mark_at(looks, mine.seat.slot, mine.context);
+        let look = mark_at(looks, mine.session.slot, mine.context);
         if look < mine.told || look == u64::MAX {
             return Err(Refused::Stranger {
                 what: What::Pass,
@@ -221,7 +221,7 @@ impl<F: Mergeable, R: Receipt, H: Recorder<F>> Locked<F, R, H> {
         }
         partition.known();
         *clock = Clock::starting(now);
-        let progress = match partition.load(mine.seat.slot, mine.context, came, functions, now) {
+        let progress = match partition.load(mine.session.slot, mine.context, came, functions, now) {
             Err(refused) => return Err(refused),
             Ok(progress) => progress,
         };
@@ -231,15 +231,15 @@ impl<F: Mergeable, R: Receipt, H: Recorder<F>> Locked<F, R, H> {
     /// Gives an operation of a caller up: it ends without effect. Refused, in this order, and then nothing changes: `Unknown`
     /// where something else is open in its context, or nothing; `Worn` where there is no next moment.
     pub fn give_up(&mut self, mine: &OpenOperationOf<F>) -> Result<(), Refused>
-        ensures effect { OnOk result (GivesUp self.old.partition self.new.partition mine.now.seat.slot mine.now.context
+        ensures effect { OnOk result (GivesUp self.old.partition self.new.partition mine.now.session.slot mine.now.context
             (self.old.clock + 1) (Ok tt)) }
         ensures open { OnOk result (IsOpen mine.now self.old) }
         ensures after { OnOk result (self.new ≡ with_partition self.old self.new.partition) }
         ensures refused { IfErr result (λ why.
             ((why ≡ Refused.Unknown)
-            × (asked self.old.partition mine.now.seat.slot mine.now.context ≢ Some (question_of mine.now)))
+            × (asked self.old.partition mine.now.session.slot mine.now.context ≢ Some (question_of mine.now)))
             ⊎ ((why ≡ Refused.Worn) × (self.old.clock ≡ 2 ^ 64 - 1))
-            ⊎ GivesUp self.old.partition self.new.partition mine.now.seat.slot mine.now.context (self.old.clock + 1)
+            ⊎ GivesUp self.old.partition self.new.partition mine.now.session.slot mine.now.context (self.old.clock + 1)
             (Err why)) }
         ensures unchanged { OnErr result (self.new ≡ self.old) }
     {
@@ -249,7 +249,7 @@ impl<F: Mergeable, R: Receipt, H: Recorder<F>> Locked<F, R, H> {
         let Some(now) = next_moment(&self.clock) else {
             return Err(Refused::Worn);
         };
-        match self.partition.give_up(mine.seat.slot, mine.context, now) {
+        match self.partition.give_up(mine.session.slot, mine.context, now) {
             Err(refused) => Err(refused),
             Ok(()) => {
                 self.clock = Clock::starting(now);

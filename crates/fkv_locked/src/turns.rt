@@ -3,12 +3,12 @@ ghost use Rattle.std.specs.Prelude.{◌≡◌, ℕ, ◌+◌, ◌-◌, ◌^◌, �
 ghost use Rattle.fkv_operations.specs.Operations.{op_of};
 ghost use Rattle.fkv_partition.specs.Effect.{asked};
 ghost use Rattle.fkv_partition.specs.Views.{PartitionView};
-ghost use Rattle.fkv_locked.specs.Kept.{seen, place_of, IsKept};
+ghost use Rattle.fkv_locked.specs.Kept.{seen, place_of, IsFaithful};
 ghost use Rattle.fkv_locked.specs.Turns.{question_of, IsUnready, Turns, IsToldBy, IsGone, IsCome};
 
 use crate::finished::{Finished, finish};
 use crate::marks::{mark_at, set_mark};
-use crate::seats::OpenOperationOf;
+use crate::open_operations::OpenOperationOf;
 use fkv_device::Receipt;
 use fkv_functions::{Ask, Functions, Mergeable, Refused, What};
 use fkv_histories::{Entry, Recorder};
@@ -53,15 +53,15 @@ pub(crate) fn make_ready<F: Mergeable, R: Receipt, H: Recorder<F>>(
     ensures entries { H.entries history.new ≡ H.entries history.old }
     ensures count { H.count history.new ≡ H.count history.old }
     ensures spare { OnOk result (1 ≤ H.spare history.new) }
-    ensures asks { OnOk result (asked partition.now mine.now.seat.slot mine.now.context ≡ Some (question_of mine.now)) }
-    ensures within { OnOk result ((mine.now.seat.slot < 16) × (mine.now.context < 8)) }
+    ensures asks { OnOk result (asked partition.now mine.now.session.slot mine.now.context ≡ Some (question_of mine.now)) }
+    ensures within { OnOk result ((mine.now.session.slot < 16) × (mine.now.context < 8)) }
     ensures now { IfOk result (λ now. now ≡ clock.now + 1) }
     ensures room { OnOk result ((H.count history.old < 2 ^ 64 - 1) × (book < 2 ^ 64 - 1)) }
     ensures told { OnOk result (mine.now.told ≤ H.count history.old) }
-    ensures only { IfErr result (IsUnready (asked partition.now mine.now.seat.slot mine.now.context)
+    ensures only { IfErr result (IsUnready (asked partition.now mine.now.session.slot mine.now.context)
         (H.count history.old) book clock.now mine.now) }
 {
-    let Ok((number, op)) = partition.asked(mine.seat.slot, mine.context) else {
+    let Ok((number, op)) = partition.asked(mine.session.slot, mine.context) else {
         return Err(Refused::Unknown);
     };
     if number != mine.number || !is_same_op::<F>(&op, &mine.op.op()) {
@@ -100,16 +100,16 @@ pub(crate) fn note<F: Mergeable, R: Receipt, H: Recorder<F>>(
     requires spare { 1 ≤ H.spare history.old }
     requires room { (H.count history.old < 2 ^ 64 - 1) × (book.old < 2 ^ 64 - 1) }
     requires told { mine.now.told ≤ H.count history.old }
-    requires within { (mine.now.seat.slot < 16) × (mine.now.context < 8) }
+    requires within { (mine.now.session.slot < 16) × (mine.now.context < 8) }
     requires marks { (length lows.now.items ≡ 128) × (length looks.old.items ≡ 128) }
     ensures kept { H.keeps ≡ true → (old new : PartitionView F.Key F.Value F.Input) (now : ℕ)
         → IsGone {R = R} F.Key.cmp F.meaning old new mine.now now progress
-        → IsKept F.Key.cmp F.meaning (seen F.Key.cmp old) (H.entries history.old) lows.now.items looks.old.items book.old
-        → IsKept F.Key.cmp F.meaning (seen F.Key.cmp new) (H.entries history.new) lows.now.items looks.new.items
+        → IsFaithful F.Key.cmp F.meaning (seen F.Key.cmp old) (H.entries history.old) lows.now.items looks.old.items book.old
+        → IsFaithful F.Key.cmp F.meaning (seen F.Key.cmp new) (H.entries history.new) lows.now.items looks.new.items
         book.new }
     ensures marks { length looks.new.items ≡ 128 }
     ensures turns { Turns H.keeps (H.count history.old)
-        (slice_set looks.old.items (place_of mine.now.seat.slot mine.now.context) (H.count history.old))
+        (slice_set looks.old.items (place_of mine.now.session.slot mine.now.context) (H.count history.old))
         (record {
           entries = H.entries history.old;
           count = H.count history.old;
@@ -132,16 +132,16 @@ pub(crate) fn note<F: Mergeable, R: Receipt, H: Recorder<F>>(
         Progress::NeedsBuild(ask) => Turn::NeedsBuild(ask),
         Progress::Waits(why) => Turn::Waits(why),
         Progress::NeedsLoad(receipt, address) => {
-            set_mark(looks, mine.seat.slot, mine.context, at);
+            set_mark(looks, mine.session.slot, mine.context, at);
             Turn::NeedsLoad(receipt, address)
         }
         Progress::Done(answer, _effect) => {
             let entry = Entry {
-                session: mine.seat.session,
+                session: mine.session.number,
                 number: mine.number,
                 op: mine.op,
                 answer,
-                low: mark_at(lows, mine.seat.slot, mine.context),
+                low: mark_at(lows, mine.session.slot, mine.context),
                 at,
                 high: at,
             };
@@ -163,13 +163,13 @@ pub(crate) fn note_loaded<F: Mergeable, R: Receipt, H: Recorder<F>>(
     requires spare { 1 ≤ H.spare history.old }
     requires room { (H.count history.old < 2 ^ 64 - 1) × (book.old < 2 ^ 64 - 1) × (look < 2 ^ 64 - 1) }
     requires told { mine.now.told ≤ look }
-    requires within { (mine.now.seat.slot < 16) × (mine.now.context < 8) }
+    requires within { (mine.now.session.slot < 16) × (mine.now.context < 8) }
     requires marks { length lows.now.items ≡ 128 }
     ensures kept { H.keeps ≡ true → (old new : PartitionView F.Key F.Value F.Input) (looks : List ℕ)
-        → look ≡ slice_index looks (place_of mine.now.seat.slot mine.now.context)
+        → look ≡ slice_index looks (place_of mine.now.session.slot mine.now.context)
         → IsCome {R = R} F.Key.cmp F.meaning old new mine.now progress
-        → IsKept F.Key.cmp F.meaning (seen F.Key.cmp old) (H.entries history.old) lows.now.items looks book.old
-        → IsKept F.Key.cmp F.meaning (seen F.Key.cmp new) (H.entries history.new) lows.now.items looks book.new }
+        → IsFaithful F.Key.cmp F.meaning (seen F.Key.cmp old) (H.entries history.old) lows.now.items looks book.old
+        → IsFaithful F.Key.cmp F.meaning (seen F.Key.cmp new) (H.entries history.new) lows.now.items looks book.new }
     ensures turns { (looks : List ℕ) → Turns H.keeps look looks
         (record {
           entries = H.entries history.old;
@@ -195,11 +195,11 @@ pub(crate) fn note_loaded<F: Mergeable, R: Receipt, H: Recorder<F>>(
         Progress::NeedsLoad(receipt, address) => Turn::NeedsLoad(receipt, address),
         Progress::Done(answer, _effect) => {
             let entry = Entry {
-                session: mine.seat.session,
+                session: mine.session.number,
                 number: mine.number,
                 op: mine.op,
                 answer,
-                low: mark_at(lows, mine.seat.slot, mine.context),
+                low: mark_at(lows, mine.session.slot, mine.context),
                 at: look,
                 high,
             };

@@ -29,13 +29,13 @@ use Rattle.fkv_texts.proofs.StoodLemmas.{AreAlike, alike_back, alike-laid_out, a
 use Rattle.fkv_texts.proofs.ValueLemmas.{newest-fold}
 use Rattle.fkv_texts.specs.declared.entries.ChainPosition.{ChainPosition}
 use Rattle.fkv_texts.specs.declared.entries.ChainPosition.TheVariants.{Found, Below}
-use Rattle.fkv_lookups.specs.declared.gathered.Gathered.{Gathered}
-use Rattle.fkv_lookups.specs.Lookups.GoesOn.{found, below, joins}
+use Rattle.fkv_lookups.specs.declared.chain_results.ChainResult.{ChainResult}
+use Rattle.fkv_lookups.specs.Lookups.ComesTo.{found, below, joins}
 use Rattle.fkv_texts.proofs.TextLemmas.{entry_at-in, one_address}
 use Rattle.fkv_operations.specs.Classes.{same_class}
 use Rattle.fkv_operations.proofs.ClassLemmas.{class_test}
 use Rattle.fkv_lookups.specs.RecordsViews.{RecordsView, class_in, entry_of}
-use Rattle.fkv_lookups.specs.Lookups.{falling_from, first_up, IsOfClass, GoesOn, end_of, at_of, IsFirst}
+use Rattle.fkv_lookups.specs.Lookups.{falling_from, newest_above, IsOfClass, ComesTo, end_of, at_of, StartsAt}
 use Rattle.fkv_lookups.proofs.TracedLemmas.{leads_of}
 use Rattle.fkv_lookups.specs.Traced.{IsTraced, IsStood}
 
@@ -70,11 +70,11 @@ raw-traced {code = code} cmp join v is t =
 
 -- ---- what is gathered over records
 -- where the key's parts and its first record that is no delta are these, and the records lead here
-abbrev pub at_end : {K V : Type 0} → ℕ → Option V × Option (Entry K V) → Gathered K V
+abbrev pub at_end : {K V : Type 0} → ℕ → Option V × Option (Entry K V) → ChainResult K V
 at_end b g = record { parts = g.0; position = reached g.1 b }
 
 -- from an address through records, with the parts of the key's records above
-abbrev pub over : {K V : Type 0} → (K → K → Ordering) → (V → V → V) → K → Option V → ℕ → List (Entry K V) → Gathered K V
+abbrev pub over : {K V : Type 0} → (K → K → Ordering) → (V → V → V) → K → Option V → ℕ → List (Entry K V) → ChainResult K V
 over cmp join k parts a es = at_end (leads_to a es) (gathered join (filter (has_key cmp k) es) parts)
 
 -- and the first record of the key alone
@@ -109,17 +109,17 @@ module _ {K V : Type 0} (cmp : K → K → Ordering) (join : V → V → V) (k :
       by_delta true rest = rest
       by_delta false rest = h
 
-  pub chain_first : (low : ℕ) (text : List (Entry K V)) → AreValued text → (a : ℕ) (es : List (Entry K V)) → IsChainFrom low text a es → IsFirst (first_on cmp k a es) (over cmp join k None a es)
+  pub chain_first : (low : ℕ) (text : List (Entry K V)) → AreValued text → (a : ℕ) (es : List (Entry K V)) → IsChainFrom low text a es → StartsAt (first_on cmp k a es) (over cmp join k None a es)
   chain_first low text valued a es (ends less) = refl
   chain_first low text valued a es (goes {e = e} {es = ds} high here is on) = by_key (has_key cmp k e) refl (chain_first low text valued e.previous ds on)
     where
-      by_key : (b : Bool) → has_key cmp k e ≡ b → IsFirst (first_on cmp k e.previous ds) (over cmp join k None e.previous ds) → IsFirst (first_on cmp k a (e ∷ ds)) (over cmp join k None a (e ∷ ds))
-      by_key false own rest = subst (IsFirst (first_on cmp k a (e ∷ ds))) (sym (passes cmp join k None a e ds own)) (rw own rest)
+      by_key : (b : Bool) → has_key cmp k e ≡ b → StartsAt (first_on cmp k e.previous ds) (over cmp join k None e.previous ds) → StartsAt (first_on cmp k a (e ∷ ds)) (over cmp join k None a (e ∷ ds))
+      by_key false own rest = subst (StartsAt (first_on cmp k a (e ∷ ds))) (sym (passes cmp join k None a e ds own)) (rw own rest)
       by_key true own rest =
           let first : first_on cmp k a (e ∷ ds) ≡ Found e = rw own refl in
-          subst (λ p. IsFirst p (over cmp join k None a (e ∷ ds))) (sym first) (
+          subst (λ p. StartsAt p (over cmp join k None a (e ∷ ds))) (sym first) (
             λ whole. stops cmp join k None a e ds own whole,
-            λ delta. subst (λ (r : Gathered K V). IsSome r.parts) (sym (collects cmp join k None a e ds own delta))
+            λ delta. subst (λ (r : ChainResult K V). IsSome r.parts) (sym (collects cmp join k None a e ds own delta))
                 (some-gathered (filter (has_key cmp k) ds) (onto join e.value None) (some-part e.value (valued here.place e here.here delta))),
           )
         where
@@ -153,18 +153,18 @@ newest_below cmp code v k order t a low = last_where-none (λ e. nat_le e.addres
     let no : nat_le e.address a ≡ false = grind (arith, nat_tests) in
     rw no refl)
 
--- what is newest, step by step: what `GoesOn` says of the first record of the key alone
-pub data FirstGoesOn {K V : Type 0} (cmp : K → K → Ordering) (code : K → ℕ) (v : RecordsView K V) (k : K) (low : ℕ) : ℕ → ChainPosition K V → Type 0 where
+-- what is newest, step by step: what `ComesTo` says of the first record of the key alone
+pub data FirstComesTo {K V : Type 0} (cmp : K → K → Ordering) (code : K → ℕ) (v : RecordsView K V) (k : K) (low : ℕ) : ℕ → ChainPosition K V → Type 0 where
   first_found : {a : ℕ} {e : Entry K V}
       → newest cmp v.entries k a ≡ Some e
       → entry_at v.entries e.address ≡ Some e
       → low ≤ e.address
-      → FirstGoesOn cmp code v k low a (Found e)
+      → FirstComesTo cmp code v k low a (Found e)
   first_below : {a b : ℕ}
       → b < low
       → newest cmp v.entries k a ≡ newest cmp v.entries k b
       → (v.from ≤ b → IsOfClass code v k b)
-      → FirstGoesOn cmp code v k low a (Below b)
+      → FirstComesTo cmp code v k low a (Below b)
 
 module _ {K V : Type 0} {keeps : Bool} (cmp : K → K → Ordering) (code : K → ℕ) (v : RecordsView K V) (k : K) (order : IsKeyOrder cmp) (t : IsTraced keeps code (raw v)) where
   -- ---- along the records of a class
@@ -276,12 +276,12 @@ module _ {K V : Type 0} {keeps : Bool} (cmp : K → K → Ordering) (code : K �
       by false h es is = rw h is
 
   -- ---- the first record of the key
-  first_further : (low a b : ℕ) (r : ChainPosition K V) → newest cmp v.entries k a ≡ newest cmp v.entries k b → FirstGoesOn cmp code v k low b r → FirstGoesOn cmp code v k low a r
+  first_further : (low a b : ℕ) (r : ChainPosition K V) → newest cmp v.entries k a ≡ newest cmp v.entries k b → FirstComesTo cmp code v k low b r → FirstComesTo cmp code v k low a r
   first_further low a b r same (first_found is stands high) = first_found (same ∙ is) stands high
   first_further low a b r same (first_below low_b is class) = first_below low_b (same ∙ is) class
 
-  further : (join : V → V → V) (low a b : ℕ) (parts : Option V) (r : Gathered K V) → newest cmp v.entries k a ≡ newest cmp v.entries k b → GoesOn cmp join code v k low b parts r
-      → GoesOn cmp join code v k low a parts r
+  further : (join : V → V → V) (low a b : ℕ) (parts : Option V) (r : ChainResult K V) → newest cmp v.entries k a ≡ newest cmp v.entries k b → ComesTo cmp join code v k low b parts r
+      → ComesTo cmp join code v k low a parts r
   further join low a b parts r same (found is stands high whole) = found (same ∙ is) stands high whole
   further join low a b parts r same (below low_b is class) = below low_b (same ∙ is) class
   further join low a b parts r same (joins is high delta rest) = joins (same ∙ is) high delta rest
@@ -307,20 +307,20 @@ module _ {K V : Type 0} {keeps : Bool} (cmp : K → K → Ordering) (code : K �
       newest_here a h.class h.begun b (ap (has_key cmp k) h.own ∙ own)
       ∙ ap (λ (x : Entry K V). cond b (Some x) (newest cmp v.entries k x.previous)) h.own
 
-  pub first_goes_on : (low : ℕ) → v.from ≤ low → (a : ℕ) (es : List (Entry K V)) → IsChainFrom low v.entries a es → (v.from ≤ a → IsOfClass code v k a) → FirstGoesOn cmp code v k low a (first_on cmp k a es)
+  pub first_goes_on : (low : ℕ) → v.from ≤ low → (a : ℕ) (es : List (Entry K V)) → IsChainFrom low v.entries a es → (v.from ≤ a → IsOfClass code v k a) → FirstComesTo cmp code v k low a (first_on cmp k a es)
   first_goes_on low up a es (ends less) class = first_below less refl class
   first_goes_on low up a es (goes {e = e} {es = ds} high here is on) class =
       let h = here_at low a e up high here is class in
       by_key h (has_key cmp k e) refl (first_goes_on low up e.previous ds on (here_next a e h))
     where
-      by_key : IsHere a e → (b : Bool) → has_key cmp k e ≡ b → FirstGoesOn cmp code v k low e.previous (first_on cmp k e.previous ds) → FirstGoesOn cmp code v k low a (first_on cmp k a (e ∷ ds))
+      by_key : IsHere a e → (b : Bool) → has_key cmp k e ≡ b → FirstComesTo cmp code v k low e.previous (first_on cmp k e.previous ds) → FirstComesTo cmp code v k low a (first_on cmp k a (e ∷ ds))
       by_key h true own rest =
           rw own (first_found (here_newest a e h true own) (entry_at-in v.entries t.rising e here e.address refl) (subst (λ (n : ℕ). low ≤ n) (sym is) high))
       by_key h false own rest = rw own (first_further low a e.previous (first_on cmp k e.previous ds) (here_newest a e h false own) rest)
 
   -- ---- and what is gathered from there
   pub gathers_on : (join : V → V → V) (low : ℕ) → v.from ≤ low → (a : ℕ) (es : List (Entry K V)) → IsChainFrom low v.entries a es → (v.from ≤ a → IsOfClass code v k a) → (parts : Option V)
-      → GoesOn cmp join code v k low a parts (over cmp join k parts a es)
+      → ComesTo cmp join code v k low a parts (over cmp join k parts a es)
   gathers_on join low up a es (ends less) class parts = below less refl class
   gathers_on join low up a es (goes {e = e} {es = ds} high here is on) class parts =
       let h = here_at low a e up high here is class in
@@ -329,19 +329,19 @@ module _ {K V : Type 0} {keeps : Bool} (cmp : K → K → Ordering) (code : K �
       level : low ≤ e.address
       level = subst (λ (n : ℕ). low ≤ n) (sym is) high
 
-      by_key : IsHere a e → (b d : Bool) → has_key cmp k e ≡ b → e.delta ≡ d → ((c : Option V) → GoesOn cmp join code v k low e.previous c (over cmp join k c e.previous ds))
-          → GoesOn cmp join code v k low a parts (over cmp join k parts a (e ∷ ds))
+      by_key : IsHere a e → (b d : Bool) → has_key cmp k e ≡ b → e.delta ≡ d → ((c : Option V) → ComesTo cmp join code v k low e.previous c (over cmp join k c e.previous ds))
+          → ComesTo cmp join code v k low a parts (over cmp join k parts a (e ∷ ds))
       by_key h false d own delta rest =
-          subst (GoesOn cmp join code v k low a parts) (sym (passes cmp join k parts a e ds own)) (further join low a e.previous parts (over cmp join k parts e.previous ds) (here_newest a e h false own) (rest parts))
+          subst (ComesTo cmp join code v k low a parts) (sym (passes cmp join k parts a e ds own)) (further join low a e.previous parts (over cmp join k parts e.previous ds) (here_newest a e h false own) (rest parts))
       by_key h true false own delta rest =
-          subst (GoesOn cmp join code v k low a parts) (sym (stops cmp join k parts a e ds own delta)) (found (here_newest a e h true own) (entry_at-in v.entries t.rising e here e.address refl) level delta)
+          subst (ComesTo cmp join code v k low a parts) (sym (stops cmp join k parts a e ds own delta)) (found (here_newest a e h true own) (entry_at-in v.entries t.rising e here e.address refl) level delta)
       by_key h true true own delta rest =
-          subst (GoesOn cmp join code v k low a parts) (sym (collects cmp join k parts a e ds own delta)) (joins (here_newest a e h true own) level delta (rest (onto join e.value parts)))
+          subst (ComesTo cmp join code v k low a parts) (sym (collects cmp join k parts a e ds own delta)) (joins (here_newest a e h true own) level delta (rest (onto join e.value parts)))
 
   -- one page, or memory, tells how the way goes on
   pub step_tells : (low : ℕ) → v.from ≤ low → (a : ℕ) → (v.from ≤ a → IsOfClass code v k a) → {E : Type 0} (result : Result (ChainPosition K V) E)
       → ((es : List (Entry K V)) → IsChainFrom low v.entries a es → result ≡ Ok (first_on cmp k a es))
-      → (r : ChainPosition K V) × (result ≡ Ok r) × FirstGoesOn cmp code v k low a r
+      → (r : ChainPosition K V) × (result ≡ Ok r) × FirstComesTo cmp code v k low a r
   step_tells low up a class result reads =
       let chain = chain_down low up a class in
       (first_on cmp k a chain.0, reads chain.0 chain.1, first_goes_on low up a chain.0 chain.1 class)
@@ -356,7 +356,7 @@ module _ {K V : Type 0} {keeps : Bool} (cmp : K → K → Ordering) (code : K �
       (meets class same_class low class_test above (cut-rising low v.entries t.rising) (cut-from low v.entries) (cut-chained class same_class v.from low v.entries t.rising up t.chained) (class k) a
       (cut-leads class same_class v.from low v.entries t.rising up (class k) a leads))
 
-  pub first_is : (low a : ℕ) → first_up cmp code v low k a ≡ first_on cmp k a (falling_from code v low k)
+  pub first_is : (low a : ℕ) → newest_above cmp code v low k a ≡ first_on cmp k a (falling_from code v low k)
   first_is low a = ap (λ o. reached o (leads_to a (falling_from code v low k))) (sym (finds (class_in code v) same_class low cmp order class_test k (text_from low v.entries)))
 
   -- ---- from a delta of the key
@@ -421,7 +421,7 @@ module _ {K V : Type 0} {keeps : Bool} (cmp : K → K → Ordering) (code : K �
           omega arith
 
   -- ---- the records on the way are deltas, but the one at the end
-  pub between_tells : (join : V → V → V) (low a : ℕ) (parts : Option V) (r : Gathered K V) → GoesOn cmp join code v k low a parts r
+  pub between_tells : (join : V → V → V) (low a : ℕ) (parts : Option V) (r : ChainResult K V) → ComesTo cmp join code v k low a parts r
       → (e : Entry K V) → IsIn v.entries e → has_key cmp k e ≡ true → e.address ≤ a → at_of r.position < e.address → e.delta ≡ true
   between_tells join low a parts r (found {e = d} is stands high whole) e m own up above = absurd (let most = newest_high a d is e m own up in omega arith)
   between_tells join low a parts r (below {b = b} less is class) e m own up above = absurd (let most = newest_low a b is e m own up in omega arith)
@@ -505,7 +505,7 @@ module _ {K V : Type 0} {keeps : Bool} (cmp : K → K → Ordering) (join : V �
       one_part : gathered join (d ∷ []) parts ≡ (onto join d.value parts, None)
       one_part = rw delta refl
 
-  pub values_tell : (low a : ℕ) (parts : Option V) (r : Gathered K V) → GoesOn cmp join code v k low a parts r → onto join (value a) parts ≡ onto join (end_of cmp v k r.position) r.parts
+  pub values_tell : (low a : ℕ) (parts : Option V) (r : ChainResult K V) → ComesTo cmp join code v k low a parts r → onto join (value a) parts ≡ onto join (end_of cmp v k r.position) r.parts
   values_tell low a parts r (found {e = e} is stands high whole) =
       ap (λ u. onto join u parts) (stood_value a ∙ whole-last join cmp v.entries (λ x. nat_le x.address a && has_key cmp k x) (λ x u. refl) e is whole)
   values_tell low a parts r (below {b = b} less is class) = ap (λ u. onto join u parts) (newest_value a b is)

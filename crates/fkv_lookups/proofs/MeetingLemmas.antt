@@ -26,9 +26,9 @@ use Rattle.fkv_lookups.specs.declared.decisions.LookupResult.{LookupResult}
 use Rattle.fkv_lookups.specs.declared.decisions.LookupResult.TheVariants.{NoEntry, NoValue, ReadOnly, Fuzzy, Mutable, OnDisk}
 use Rattle.fkv_lookups.specs.Decisions.{low_of, met_by, IsHeld}
 use Rattle.fkv_lookups.specs.DecisionLaws.{held-met, mutable-met, fuzzy-met, frozen-met, absent-met, disk-met, IsMetIn}
-use Rattle.fkv_lookups.specs.declared.gathered.Gathered.{Gathered}
-use Rattle.fkv_lookups.specs.Lookups.{falling_from, first_up, looked_up, IsOfClass, GoesOn, end_of, at_of, IsFirst}
-use Rattle.fkv_lookups.specs.Lookups.GoesOn.{found, below, joins}
+use Rattle.fkv_lookups.specs.declared.chain_results.ChainResult.{ChainResult}
+use Rattle.fkv_lookups.specs.Lookups.{falling_from, newest_above, looked_up, IsOfClass, ComesTo, end_of, at_of, StartsAt}
+use Rattle.fkv_lookups.specs.Lookups.ComesTo.{found, below, joins}
 use Rattle.fkv_lookups.specs.Meeting.{met_from, met_at, IsMetAt, IsWanted}
 use Rattle.fkv_lookups.specs.RecordsViews.{RecordsView, class_in, entry_of}
 use Rattle.fkv_lookups.specs.Traced.{IsTraced, IsStood}
@@ -69,19 +69,19 @@ module _ {K V : Type 0} {keeps : Bool} (cmp : K → K → Ordering) (join : V �
   traced = raw-traced cmp join v s.is t
 
   -- what a look-up comes to
-  pub tells : (low : ℕ) → v.from ≤ low → (a : ℕ) → entry_of v (class_in code v k) ≡ Some a → GoesOn cmp join code v k low a None (looked_up cmp join code v low k a)
+  pub tells : (low : ℕ) → v.from ≤ low → (a : ℕ) → entry_of v (class_in code v k) ≡ Some a → ComesTo cmp join code v k low a None (looked_up cmp join code v low k a)
   tells low up a entry =
       gathers_on cmp code v k order traced join low up a (falling_from code v low k) (up_chain cmp code v k order traced low up a entry) (leads_class cmp code v k order traced a entry) None
 
   -- and what its first record says of that
-  pub first_tells : (low : ℕ) → v.from ≤ low → (a : ℕ) → entry_of v (class_in code v k) ≡ Some a → IsFirst (first_up cmp code v low k a) (looked_up cmp join code v low k a)
+  pub first_tells : (low : ℕ) → v.from ≤ low → (a : ℕ) → entry_of v (class_in code v k) ≡ Some a → StartsAt (newest_above cmp code v low k a) (looked_up cmp join code v low k a)
   first_tells low up a entry =
-      subst (λ p. IsFirst p (looked_up cmp join code v low k a)) (sym (first_is cmp code v k order traced low a))
+      subst (λ p. StartsAt p (looked_up cmp join code v low k a)) (sym (first_is cmp code v k order traced low a))
       (chain_first cmp join k low v.entries s.valued a (falling_from code v low k) (up_chain cmp code v k order traced low up a entry))
 
   -- ---- how it goes on
   -- where parts were met, it has some in the end
-  goes-some : (low a : ℕ) (parts : Option V) (r : Gathered K V) → GoesOn cmp join code v k low a parts r → IsSome parts → IsSome r.parts
+  goes-some : (low a : ℕ) (parts : Option V) (r : ChainResult K V) → ComesTo cmp join code v k low a parts r → IsSome parts → IsSome r.parts
   goes-some low a parts r (found is stands high whole) some = some
   goes-some low a parts r (below less is class) some = some
   goes-some low a parts r (joins {d = d} is high delta rest) some = goes-some low d.previous (onto join d.value parts) r rest (some-onto cmp join k d.value parts some)
@@ -91,7 +91,7 @@ module _ {K V : Type 0} {keeps : Bool} (cmp : K → K → Ordering) (join : V �
   IsAlone low a (Found e) = (newest cmp v.entries k a ≡ Some e) × (e.delta ≡ false)
   IsAlone low a (Below b) = newest cmp v.entries k a ≡ newest cmp v.entries k b
 
-  alone : (low a : ℕ) (r : Gathered K V) → GoesOn cmp join code v k low a None r → r.parts ≡ None → (p : ChainPosition K V) → r.position ≡ p → IsAlone low a p
+  alone : (low a : ℕ) (r : ChainResult K V) → ComesTo cmp join code v k low a None r → r.parts ≡ None → (p : ChainPosition K V) → r.position ≡ p → IsAlone low a p
   alone low a r (found {e = e} is stands high whole) none p at = subst (IsAlone low a) at (is, whole)
   alone low a r (below {b = b} less is class) none p at = subst (IsAlone low a) at is
   alone low a r (joins {d = d} is high delta rest) none p at = absurd (
@@ -105,7 +105,7 @@ module _ {K V : Type 0} {keeps : Bool} (cmp : K → K → Ordering) (join : V �
       some-onto-none o h = subst IsSome (sym (onto-none join o)) h
 
   -- with parts, the newest is a delta
-  joined : (low a : ℕ) (r : Gathered K V) → GoesOn cmp join code v k low a None r → (p : V) → r.parts ≡ Some p → (d : Entry K V) × (newest cmp v.entries k a ≡ Some d) × (d.delta ≡ true)
+  joined : (low a : ℕ) (r : ChainResult K V) → ComesTo cmp join code v k low a None r → (p : V) → r.parts ≡ Some p → (d : Entry K V) × (newest cmp v.entries k a ≡ Some d) × (d.delta ≡ true)
   joined low a r (found is stands high whole) p some = absurd (cc)
   joined low a r (below less is class) p some = absurd (cc)
   joined low a r (joins {d = d} is high delta rest) p some = (d, is, delta)
@@ -115,7 +115,7 @@ module _ {K V : Type 0} {keeps : Bool} (cmp : K → K → Ordering) (join : V �
     pub under : b < low
     pub class : v.from ≤ b → IsOfClass code v k b
 
-  below_at : (low a : ℕ) (parts : Option V) (r : Gathered K V) → GoesOn cmp join code v k low a parts r → (b : ℕ) → r.position ≡ Below b → IsBelowAt low b
+  below_at : (low a : ℕ) (parts : Option V) (r : ChainResult K V) → ComesTo cmp join code v k low a parts r → (b : ℕ) → r.position ≡ Below b → IsBelowAt low b
   below_at low a parts r (found is stands high whole) b same = absurd (cc)
   below_at low a parts r (below {b = d} under is class) b same =
       let one : d ≡ b = cc in
@@ -146,7 +146,7 @@ module _ {K V : Type 0} {keeps : Bool} (cmp : K → K → Ordering) (join : V �
     pub whole : e.delta ≡ false
 
   -- where it is no delta it stands so in the text
-  found_at : (low a : ℕ) (r : Gathered K V) → GoesOn cmp join code v k low a None r → entry_of v (class_in code v k) ≡ Some a → r.parts ≡ None → (e : Entry K V) → r.position ≡ Found e → IsFoundAt e
+  found_at : (low a : ℕ) (r : ChainResult K V) → ComesTo cmp join code v k low a None r → entry_of v (class_in code v k) ≡ Some a → r.parts ≡ None → (e : Entry K V) → r.position ≡ Found e → IsFoundAt e
   found_at low a r g entry none e at =
       let p = λ (x : Entry K V). nat_le x.address a && has_key cmp k x in
       let one = alone low a r g none (Found e) at in
@@ -157,20 +157,20 @@ module _ {K V : Type 0} {keeps : Bool} (cmp : K → K → Ordering) (join : V �
       record { last = last; stands = entry_at-in v.text t.rising e (last_where-in (has_key cmp k) v.text e last) e.address refl; whole = one.1 }
 
   -- none stands where the look-up came below Begin
-  none_at : (low a : ℕ) (r : Gathered K V) → GoesOn cmp join code v k low a None r → entry_of v (class_in code v k) ≡ Some a → r.parts ≡ None → (b : ℕ) → r.position ≡ Below b → b < v.begin → last_of cmp v.text k ≡ None
+  none_at : (low a : ℕ) (r : ChainResult K V) → ComesTo cmp join code v k low a None r → entry_of v (class_in code v k) ≡ Some a → r.parts ≡ None → (b : ℕ) → r.position ≡ Below b → b < v.begin → last_of cmp v.text k ≡ None
   none_at low a r g entry none b at under =
       let one = alone low a r g none (Below b) at in
       let from = from_first t in
       last_stands a entry None (one ∙ newest_below cmp code (raw v) k order traced b (omega arith))
 
   -- a delta is still
-  still_delta : (low a : ℕ) (r : Gathered K V) → GoesOn cmp join code v k low a None r → entry_of v (class_in code v k) ≡ Some a → (p : V) → r.parts ≡ Some p → (safe : ℕ) → IsStill safe (last_of cmp v.text k)
+  still_delta : (low a : ℕ) (r : ChainResult K V) → ComesTo cmp join code v k low a None r → entry_of v (class_in code v k) ≡ Some a → (p : V) → r.parts ≡ Some p → (safe : ℕ) → IsStill safe (last_of cmp v.text k)
   still_delta low a r g entry p some safe =
       let d = joined low a r g p some in
       subst (IsStill safe) (sym (last_stands a entry (Some d.0) d.1)) (inr (inl d.2))
 
   -- and so is what stands below an address that is frozen
-  still_below : (low a : ℕ) (r : Gathered K V) → GoesOn cmp join code v k low a None r → entry_of v (class_in code v k) ≡ Some a → r.parts ≡ None → (b : ℕ) → r.position ≡ Below b → (safe : ℕ) → b < safe
+  still_below : (low a : ℕ) (r : ChainResult K V) → ComesTo cmp join code v k low a None r → entry_of v (class_in code v k) ≡ Some a → r.parts ≡ None → (b : ℕ) → r.position ≡ Below b → (safe : ℕ) → b < safe
       → IsStill safe (last_of cmp v.text k)
   still_below low a r g entry none b at safe under = by_newest (newest cmp v.entries k a) refl
     where
@@ -226,7 +226,7 @@ module _ {K V : Type 0} {keeps : Bool} (cmp : K → K → Ordering) (join : V �
 
     -- a value is met in the region of the key's last record
     met-in : (o : Option ℕ) → entry_of v (class_in code v k) ≡ o → (m : LookupResult V) → met_from cmp join code v (view_at v.regions.views slot) k o ≡ m → (w : V) (g : Region)
-        → ((a : ℕ) (r : Gathered K V) → met_by join (Some a) v.begin (view_at v.regions.views slot) r ≡ m → IsMetIn join v.begin (view_at v.regions.views slot) r w g)
+        → ((a : ℕ) (r : ChainResult K V) → met_by join (Some a) v.begin (view_at v.regions.views slot) r ≡ m → IsMetIn join v.begin (view_at v.regions.views slot) r w g)
         → (NoEntry ≡ m → ⊥)
         → IsMetAt cmp join code v (view_at v.regions.views slot) k w g
     met-in None entry m is w g there none = absurd (none is)
@@ -269,7 +269,7 @@ module _ {K V : Type 0} {keeps : Bool} (cmp : K → K → Ordering) (join : V �
               entry = rw entry refl;
             }
           where
-            by_parts : (r : Gathered K V) → GoesOn cmp join code v k (low_of v.begin (view_at v.regions.views slot)) a None r → entry_of v (class_in code v k) ≡ Some a → r.position ≡ Below b
+            by_parts : (r : ChainResult K V) → ComesTo cmp join code v k (low_of v.begin (view_at v.regions.views slot)) a None r → entry_of v (class_in code v k) ≡ Some a → r.position ≡ Below b
                 → (o : Option V) → r.parts ≡ o → (safe : ℕ) → b < safe → IsStill safe (last_of cmp v.text k)
             by_parts r g entry at None none safe under = still_below (low_of v.begin (view_at v.regions.views slot)) a r g entry none b at safe under
             by_parts r g entry at (Some p) some safe under = still_delta (low_of v.begin (view_at v.regions.views slot)) a r g entry p some safe

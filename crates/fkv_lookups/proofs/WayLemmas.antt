@@ -18,14 +18,14 @@ use Rattle.fkv_pages.specs.Spelled.{IsEntryIn}
 use Rattle.fkv_pages.specs.Loads.{IsReached, first_place}
 use Rattle.fkv_pages.proofs.ReadLemmas.{entry_falls}
 use Rattle.fkv_pages.specs.Loads.IsReached.{below as reached_below, none as reached_none, found as reached_found, on as reached_on}
-use Rattle.fkv_lookups.specs.declared.gathered.Gathered.{Gathered}
+use Rattle.fkv_lookups.specs.declared.chain_results.ChainResult.{ChainResult}
 use Rattle.fkv_lookups.specs.RecordsViews.{RecordsView, class_in, entry_of}
 use Rattle.fkv_lookups.specs.Traced.{IsTraced}
-use Rattle.fkv_lookups.specs.Lookups.{falling_from, first_up, looked_up, at_of, IsOfClass, GoesOn, IsGathered}
-use Rattle.fkv_lookups.specs.Lookups.GoesOn.{found as goes_found, below as goes_below, joins as goes_joins}
-use Rattle.fkv_lookups.specs.Lookups.IsGathered.{refused as gathered_refused, below as gathered_below, found as gathered_found, joins as gathered_joins}
-use Rattle.fkv_lookups.proofs.LookupLemmas.{raw, raw-traced, page_up, over, first_on, passes, stops, collects, up_chain, first_is, record_falls, newest_next, step_tells, FirstGoesOn}
-use Rattle.fkv_lookups.proofs.LookupLemmas.FirstGoesOn.{first_found, first_below}
+use Rattle.fkv_lookups.specs.Lookups.{falling_from, newest_above, looked_up, at_of, IsOfClass, ComesTo, ComesToInPage}
+use Rattle.fkv_lookups.specs.Lookups.ComesTo.{found as goes_found, below as goes_below, joins as goes_joins}
+use Rattle.fkv_lookups.specs.Lookups.ComesToInPage.{refused as gathered_refused, below as gathered_below, found as gathered_found, joins as gathered_joins}
+use Rattle.fkv_lookups.proofs.LookupLemmas.{raw, raw-traced, page_up, over, first_on, passes, stops, collects, up_chain, first_is, record_falls, newest_next, step_tells, FirstComesTo}
+use Rattle.fkv_lookups.proofs.LookupLemmas.FirstComesTo.{first_found, first_below}
 
 -- ---- in memory
 -- from the address of a class's entry: it stands at a chain, whose first record of the key it knows, and what it gathers
@@ -128,7 +128,7 @@ module _ {K V : Type 0} {keeps : Bool} (cmp : K → K → Ordering) (join : V �
       omega (arith, falls, down, there, here)
 
   -- where it begins
-  pub way-begins : (first : ChainPosition K V) → v.from ≤ low → entry_of v (class_in code v k) ≡ Some entry → first ≡ first_up cmp code v low k entry → IsOnWay cmp join code v k low entry None first
+  pub way-begins : (first : ChainPosition K V) → v.from ≤ low → entry_of v (class_in code v k) ≡ Some entry → first ≡ newest_above cmp code v low k entry → IsOnWay cmp join code v k low entry None first
   way-begins first up leads is = record {
     at = entry;
     rest = falling_from code v low k;
@@ -147,41 +147,41 @@ pub kept-told : {K V : Type 0} {keeps : Bool} (cmp : K → K → Ordering) (join
     → (v.from ≤ a → IsOfClass code v k a)
     → {E : Type 0} (result : Result (ChainPosition K V) E)
     → ((es : List (Entry K V)) → IsChainFrom low v.entries a es → result ≡ Ok (first_on cmp k a es))
-    → (r : ChainPosition K V) × (result ≡ Ok r) × FirstGoesOn cmp code v k low a r
+    → (r : ChainPosition K V) × (result ≡ Ok r) × FirstComesTo cmp code v k low a r
 kept-told cmp join code v k order t is low from kept begun floor a class result reads =
     step_tells cmp code v k order (raw-traced cmp join v is t) low (page_up v low from t kept begun floor) a class result reads
 
 -- what is told from here is told from the first address
 pub record IsKeptOn {K V : Type 0} (cmp : K → K → Ordering) (join : V → V → V) (code : K → ℕ) (v : RecordsView K V) (k : K) (low from : ℕ) (before parts : Option V) (position : ChainPosition K V) : Type 0 where
   pub at : ℕ
-  pub goes : FirstGoesOn cmp code v k low at position
-  pub same : (r : Gathered K V) → GoesOn cmp join code v k low at parts r → GoesOn cmp join code v k low from before r
+  pub goes : FirstComesTo cmp code v k low at position
+  pub same : (r : ChainResult K V) → ComesTo cmp join code v k low at parts r → ComesTo cmp join code v k low from before r
 
 module _ {K V : Type 0} (cmp : K → K → Ordering) (join : V → V → V) (code : K → ℕ) (v : RecordsView K V) (k : K) (low from : ℕ) (before : Option V) where
-  first-met : (a : ℕ) (p : ChainPosition K V) → FirstGoesOn cmp code v k low a p → (d : Entry K V) → p ≡ Found d
+  first-met : (a : ℕ) (p : ChainPosition K V) → FirstComesTo cmp code v k low a p → (d : Entry K V) → p ≡ Found d
       → (newest cmp v.entries k a ≡ Some d) × (entry_at v.entries d.address ≡ Some d) × (low ≤ d.address)
   first-met a p (first_found {e = e} is stands high) d same =
       let one : e ≡ d = cc in
       subst (λ (x : Entry K V). (newest cmp v.entries k a ≡ Some x) × (entry_at v.entries x.address ≡ Some x) × (low ≤ x.address)) one (is, stands, high)
   first-met a p (first_below less is class) d same = absurd (cc)
 
-  pub kept-begins : (position : ChainPosition K V) → FirstGoesOn cmp code v k low from position → IsKeptOn cmp join code v k low from before before position
+  pub kept-begins : (position : ChainPosition K V) → FirstComesTo cmp code v k low from position → IsKeptOn cmp join code v k low from before before position
   kept-begins position told = record { at = from; goes = told; same = λ r g. g }
 
   module _ (parts : Option V) (position : ChainPosition K V) (w : IsKeptOn cmp join code v k low from before parts position) where
     pub kept-class : {keeps : Bool} → IsKeyOrder cmp → IsTraced keeps code (raw v) → (d : Entry K V) → position ≡ Found d → v.from ≤ d.previous → IsOfClass code v k d.previous
     kept-class order t d is = newest_next cmp code v k order t w.at d (first-met w.at position w.goes d is).0
 
-    pub kept-on : (d : Entry K V) → position ≡ Found d → d.delta ≡ true → (next : ChainPosition K V) → FirstGoesOn cmp code v k low d.previous next
+    pub kept-on : (d : Entry K V) → position ≡ Found d → d.delta ≡ true → (next : ChainPosition K V) → FirstComesTo cmp code v k low d.previous next
         → IsKeptOn cmp join code v k low from before (onto join d.value parts) next
     kept-on d is delta next told =
         let m = first-met w.at position w.goes d is in
         record { at = d.previous; goes = told; same = λ r g. w.same r (goes_joins m.0 m.2 delta g) }
 
-    pub kept-end : ((d : Entry K V) → position ≡ Found d → d.delta ≡ false) → GoesOn cmp join code v k low from before (record { parts = parts; position = position })
+    pub kept-end : ((d : Entry K V) → position ≡ Found d → d.delta ≡ false) → ComesTo cmp join code v k low from before (record { parts = parts; position = position })
     kept-end none = w.same (record { parts = parts; position = position }) (by_first w.at position w.goes none)
       where
-        by_first : (a : ℕ) (p : ChainPosition K V) → FirstGoesOn cmp code v k low a p → ((d : Entry K V) → p ≡ Found d → d.delta ≡ false) → GoesOn cmp join code v k low a parts (record { parts = parts; position = p })
+        by_first : (a : ℕ) (p : ChainPosition K V) → FirstComesTo cmp code v k low a p → ((d : Entry K V) → p ≡ Found d → d.delta ≡ false) → ComesTo cmp join code v k low a parts (record { parts = parts; position = p })
         by_first a p (first_found {e = e} is stands high) none = goes_found is stands high (none e refl)
         by_first a p (first_below less is class) none = goes_below less is class
 
@@ -190,7 +190,7 @@ pub record IsReadOn {K V : Type 0} (join : V → V → V) (entry : ℕ → Entry
   pub at : ℕ
   pub under : at ≤ from
   pub reached : IsReached entry cmp k bits low at (Ok position)
-  pub same : (r : Result (Gathered K V) Refused) → IsGathered join entry cmp k bits low at parts r → IsGathered join entry cmp k bits low from before r
+  pub same : (r : Result (ChainResult K V) Refused) → ComesToInPage join entry cmp k bits low at parts r → ComesToInPage join entry cmp k bits low from before r
 
 module _ {K V : Type 0} {ksize vsize : ℕ} (join : V → V → V) (key : Codec K ksize) (value : Codec V vsize) (bits : ℕ) (shape : IsShape bits (size_of ksize vsize)) (bytes : List ℕ)
     (cmp : K → K → Ordering) (k : K) (low from : ℕ) (before : Option V) where
@@ -249,13 +249,13 @@ module _ {K V : Type 0} {ksize vsize : ℕ} (join : V → V → V) (key : Codec 
         let low = read-low in
         record { at = d.previous; under = omega arith; reached = reached; same = λ r g. w.same r (gathered_joins met delta g) }
 
-    pub read-refused : d.delta ≡ true → (why : Refused) → IsReached entry cmp k bits low d.previous (Err why) → IsGathered join entry cmp k bits low from before (Err why)
+    pub read-refused : d.delta ≡ true → (why : Refused) → IsReached entry cmp k bits low d.previous (Err why) → ComesToInPage join entry cmp k bits low from before (Err why)
     read-refused delta why reached = w.same (Err why) (gathered_joins met delta (gathered_refused reached))
 
   pub read-end : (parts : Option V) (position : ChainPosition K V) → IsReadOn join entry cmp k bits low from before parts position → ((d : Entry K V) → position ≡ Found d → d.delta ≡ false)
-      → IsGathered join entry cmp k bits low from before (Ok (record { parts = parts; position = position }))
+      → ComesToInPage join entry cmp k bits low from before (Ok (record { parts = parts; position = position }))
   read-end parts position w none = w.same (Ok (record { parts = parts; position = position })) (by_position position w.reached none)
     where
-      by_position : (p : ChainPosition K V) → IsReached entry cmp k bits low w.at (Ok p) → ((d : Entry K V) → p ≡ Found d → d.delta ≡ false) → IsGathered join entry cmp k bits low w.at parts (Ok (record { parts = parts; position = p }))
+      by_position : (p : ChainPosition K V) → IsReached entry cmp k bits low w.at (Ok p) → ((d : Entry K V) → p ≡ Found d → d.delta ≡ false) → ComesToInPage join entry cmp k bits low w.at parts (Ok (record { parts = parts; position = p }))
       by_position (Found d) reached none = gathered_found reached (none d refl)
       by_position (Below b) reached none = gathered_below reached

@@ -15,7 +15,7 @@ use Rattle.fkv_regions.specs.declared.offsets.Region.TheVariants as region
 use Rattle.fkv_regions.specs.Offsets.{region_of}
 use Rattle.fkv_operations.specs.After.{key_of, is_merge, after, after_update, answer, shown_of, told_of}
 use Rattle.fkv_texts.specs.Deltas.{onto}
-use Rattle.fkv_lookups.specs.declared.gathered.Gathered.{Gathered}
+use Rattle.fkv_lookups.specs.declared.chain_results.ChainResult.{ChainResult}
 use Rattle.fkv_lookups.specs.declared.payloads.Payload.{Payload}
 use Rattle.fkv_lookups.specs.Payloads.{standing}
 use Rattle.fkv_lookups.specs.Decisions.{met_in, met_last, met_on, met_by, joined_to, held_of, IsHeld, replaced, parted, merged, decision}
@@ -237,13 +237,13 @@ module _ {K V I O : Type 0} (f : Meanings K V I O) where
   wait-met op met d = (subst (IsDecided op met) d (is-decided op met)).1
 
   -- without an entry nothing is written but an entry
-  pub append-entry : (op : KeyedOp K V I) (join : V → V → V) (entry : Option ℕ) (begin : ℕ) (view : View) (came : Gathered K V) (v : Payload V) (a : Answer O)
+  pub append-entry : (op : KeyedOp K V I) (join : V → V → V) (entry : Option ℕ) (begin : ℕ) (view : View) (came : ChainResult K V) (v : Payload V) (a : Answer O)
       → decision f op (met_by join entry begin view came) ≡ Append v a
       → IsSome entry
   append-entry op join None begin view came v a d = absurd (subst (IsDecided op NoEntry) d (is-decided op NoEntry) refl)
   append-entry op join (Some e) begin view came v a d = refl
 
-  pub prepare-entry : (op : KeyedOp K V I) (join : V → V → V) (entry : Option ℕ) (begin : ℕ) (view : View) (came : Gathered K V) (s : Option V) (i : I)
+  pub prepare-entry : (op : KeyedOp K V I) (join : V → V → V) (entry : Option ℕ) (begin : ℕ) (view : View) (came : ChainResult K V) (s : Option V) (i : I)
       → decision f op (met_by join entry begin view came) ≡ Prepare s i
       → IsSome entry
   prepare-entry op join None begin view came s i d = elim (prepare-met op NoEntry s i d) [
@@ -327,7 +327,7 @@ onto-none join (Some v) = refl
 module _ {K V : Type 0} (join : V → V → V) (begin : ℕ) (view : View) where
   -- what is met says what the key holds, where the look-up tells: it comes to the last record of the key that is no delta,
   -- and below Begin there is none
-  pub held-met : (entry : Option ℕ) (came : Gathered K V) (o : Option V)
+  pub held-met : (entry : Option ℕ) (came : ChainResult K V) (o : Option V)
       → (entry ≡ None → o ≡ None)
       → ((e : Entry K V) → came.position ≡ Found e → o ≡ onto join e.value came.parts)
       → ((b : ℕ) → came.position ≡ Below b → b < begin → o ≡ came.parts)
@@ -353,7 +353,7 @@ module _ {K V : Type 0} (join : V → V → V) (begin : ℕ) (view : View) where
           by_begin false h = tt
 
   -- where there is no entry, and only there, none is met
-  pub none-met : (entry : Option ℕ) (came : Gathered K V) → met_by join entry begin view came ≡ NoEntry → entry ≡ None
+  pub none-met : (entry : Option ℕ) (came : ChainResult K V) → met_by join entry begin view came ≡ NoEntry → entry ≡ None
   none-met None came h = refl
   none-met (Some a) came h = absurd (on came.parts came.position h)
     where
@@ -376,13 +376,13 @@ module _ {K V : Type 0} (join : V → V → V) (begin : ℕ) (view : View) where
           by_begin false h = cc
 
   -- what lies on disk is where the look-up led, at or above Begin, with the parts that it collected
-  pub record IsMetOnDisk (entry : Option ℕ) (came : Gathered K V) (b : ℕ) (c : Option V) : Type 0 where
+  pub record IsMetOnDisk (entry : Option ℕ) (came : ChainResult K V) (b : ℕ) (c : Option V) : Type 0 where
     pub is : came.position ≡ Below b
     pub parts : came.parts ≡ c
     pub high : begin ≤ b
     pub some : IsSome entry
 
-  pub disk-met : (entry : Option ℕ) (came : Gathered K V) (b : ℕ) (parts : Option V)
+  pub disk-met : (entry : Option ℕ) (came : ChainResult K V) (b : ℕ) (parts : Option V)
       → met_by join entry begin view came ≡ OnDisk b parts
       → IsMetOnDisk entry came b parts
   disk-met None came b parts h = absurd (cc)
@@ -417,7 +417,7 @@ module _ {K V : Type 0} (join : V → V → V) (begin : ℕ) (view : View) where
           (ap Below l.0, l.1, l.2)
 
   -- a value is met in the region of the record that the look-up comes to, which is no delta, with no parts above
-  pub record IsMetIn (came : Gathered K V) (w : V) (g : Region) : Type 0 where
+  pub record IsMetIn (came : ChainResult K V) (w : V) (g : Region) : Type 0 where
     pub entry : Entry K V
     pub parts : came.parts ≡ None
     pub is : came.position ≡ Found entry
@@ -425,7 +425,7 @@ module _ {K V : Type 0} (join : V → V → V) (begin : ℕ) (view : View) where
     pub region : region_of view entry.address ≡ g
 
   -- or it was joined from the parts above, and from what the key had where the look-up ends
-  pub record IsMetJoined (came : Gathered K V) (w : V) : Type 0 where
+  pub record IsMetJoined (came : ChainResult K V) (w : V) : Type 0 where
     pub part : V
     pub parts : came.parts ≡ Some part
     pub on : ((e : Entry K V) × (came.position ≡ Found e) × (w ≡ joined_to join e.value part))
@@ -436,7 +436,7 @@ module _ {K V : Type 0} (join : V → V → V) (begin : ℕ) (view : View) where
       → ((w : V) → NoEntry ≡ met w → ⊥)
       → ((w : V) → NoValue ≡ met w → ⊥)
       → ((b : ℕ) (c : Option V) (w : V) → OnDisk b c ≡ met w → ⊥)
-      → (entry : Option ℕ) (came : Gathered K V) (w : V)
+      → (entry : Option ℕ) (came : ChainResult K V) (w : V)
       → met_by join entry begin view came ≡ met w
       → ((g : Region) × P g × IsMetIn came w g) ⊎ ((p : V) × (came.parts ≡ Some p) × (met_on join begin view (Some p) came.position ≡ met w))
   in-region met is no_entry no_value no_disk None came w h = absurd (no_entry w h)
@@ -474,7 +474,7 @@ module _ {K V : Type 0} (join : V → V → V) (begin : ℕ) (view : View) where
       by_begin true h = no_value p h
       by_begin false h = no_disk b (Some p) h
 
-  pub mutable-met : (entry : Option ℕ) (came : Gathered K V) (w : V)
+  pub mutable-met : (entry : Option ℕ) (came : ChainResult K V) (w : V)
       → met_by join entry begin view came ≡ Mutable w
       → IsMetIn came w region.Mutable
   mutable-met entry came w h =
@@ -483,7 +483,7 @@ module _ {K V : Type 0} (join : V → V → V) (begin : ℕ) (view : View) where
         | inr p ↦ absurd (no-region p.0 came.position (Mutable w) (λ w e. cc) (λ b c e. cc) p.2)
       ]
 
-  pub fuzzy-met : (entry : Option ℕ) (came : Gathered K V) (w : V)
+  pub fuzzy-met : (entry : Option ℕ) (came : ChainResult K V) (w : V)
       → met_by join entry begin view came ≡ Fuzzy w
       → IsMetIn came w region.Fuzzy
   fuzzy-met entry came w h =
@@ -492,7 +492,7 @@ module _ {K V : Type 0} (join : V → V → V) (begin : ℕ) (view : View) where
         | inr p ↦ absurd (no-region p.0 came.position (Fuzzy w) (λ w e. cc) (λ b c e. cc) p.2)
       ]
 
-  pub frozen-met : (entry : Option ℕ) (came : Gathered K V) (w : V)
+  pub frozen-met : (entry : Option ℕ) (came : ChainResult K V) (w : V)
       → met_by join entry begin view came ≡ ReadOnly w
       → ((g : Region) × ((g ≡ region.ReadOnly) ⊎ (g ≡ region.OnDisk)) × IsMetIn came w g) ⊎ IsMetJoined came w
   frozen-met entry came w h =
@@ -511,7 +511,7 @@ module _ {K V : Type 0} (join : V → V → V) (begin : ℕ) (view : View) where
           by_begin false is h = absurd (cc)
 
   -- where there is no value, the look-up came to a tombstone, or below Begin, with no parts above
-  pub absent-met : (entry : Option ℕ) (came : Gathered K V)
+  pub absent-met : (entry : Option ℕ) (came : ChainResult K V)
       → met_by join entry begin view came ≡ NoValue
       → (came.parts ≡ None) × (((e : Entry K V) × (came.position ≡ Found e) × (e.value ≡ None)) ⊎ ((b : ℕ) × (came.position ≡ Below b) × (b < begin)))
   absent-met None came h = absurd (cc)

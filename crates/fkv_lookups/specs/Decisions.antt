@@ -11,7 +11,7 @@ use Rattle.fkv_operations.specs.After.{shown_of}
 use Rattle.fkv_operations.specs.declared.operations.KeyedOp.{KeyedOp}
 use Rattle.fkv_operations.specs.declared.operations.KeyedOp.TheVariants.{Read, Upsert, Rmw, Delete, Merge}
 use Rattle.fkv_operations.specs.declared.operations.Answer.TheVariants.{Value, Stored, Deleted, Declined}
-use Rattle.fkv_lookups.specs.declared.gathered.Gathered.{Gathered}
+use Rattle.fkv_lookups.specs.declared.chain_results.ChainResult.{ChainResult}
 use Rattle.fkv_lookups.specs.declared.payloads.Payload.TheVariants.{Whole, Part}
 use Rattle.fkv_lookups.specs.declared.decisions.LookupResult.{LookupResult}
 use Rattle.fkv_lookups.specs.declared.decisions.LookupResult.TheVariants.{NoEntry, NoValue, ReadOnly, Fuzzy, Mutable, OnDisk}
@@ -50,7 +50,7 @@ met_on join begin view None (Below b) = cond (nat_lt b begin) NoValue (OnDisk b 
 met_on join begin view (Some p) (Below b) = cond (nat_lt b begin) (ReadOnly p) (OnDisk b (Some p))
 
 -- and by the address to which the entry of the key's class leads
-abbrev pub met_by : {K V : Type 0} → (V → V → V) → Option ℕ → ℕ → View → Gathered K V → LookupResult V
+abbrev pub met_by : {K V : Type 0} → (V → V → V) → Option ℕ → ℕ → View → ChainResult K V → LookupResult V
 met_by join None begin view came = NoEntry
 met_by join (Some a) begin view came = met_on join begin view came.parts came.position
 

@@ -5,7 +5,7 @@ ghost use Rattle.fkv_texts.specs.declared.entries.ChainPosition.{ChainPosition};
 ghost use Rattle.fkv_operations.specs.After.{is_merge};
 ghost use Rattle.fkv_lookups.specs.Decisions.{low_of, met_by, met_in, decision, held_of};
 
-use crate::gathered::{Gathered, joined_to};
+use crate::chain_results::{ChainResult, joined_to};
 use crate::payloads::Payload;
 use fkv_functions::{Functions, Mergeable};
 use fkv_operations::plainly::shown;
@@ -57,7 +57,7 @@ pub fn met_by<F: Mergeable>(
     entry: Option<Address>,
     begin: Address,
     view: &View,
-    came: &Gathered<F::Key, F::Value>,
+    came: &ChainResult<F::Key, F::Value>,
 ) -> LookupResult<F::Value>
     ensures { result ≡ met_by F.parts.joined entry begin view.now came.now }
 {

@@ -16,9 +16,9 @@ ghost use Rattle.fkv_operations.specs.declared.entries.IndexEntry.{IndexEntry};
 ghost use Rattle.fkv_operations.specs.KeptWords.{IsLed};
 ghost use Rattle.fkv_lookups.specs.declared.decisions.LookupResult.TheVariants.{NoValue, ReadOnly, Fuzzy, Mutable, OnDisk};
 ghost use Rattle.fkv_lookups.specs.Decisions.{IsHeld};
-ghost use Rattle.fkv_lookups.specs.declared.gathered.Gathered.{Gathered};
+ghost use Rattle.fkv_lookups.specs.declared.chain_results.ChainResult.{ChainResult};
 ghost use Rattle.fkv_lookups.specs.declared.payloads.Payload.{Payload};
-ghost use Rattle.fkv_lookups.specs.Lookups.{first_up, looked_up, IsOfClass, GoesOn, IsFirst, end_of, at_of};
+ghost use Rattle.fkv_lookups.specs.Lookups.{newest_above, looked_up, IsOfClass, ComesTo, StartsAt, end_of, at_of};
 ghost use Rattle.fkv_lookups.specs.Meeting.{met_at, IsMetAt, IsWanted};
 ghost use Rattle.fkv_lookups.specs.RecordsViews.{RecordsView, class_in, indexed, entry_of, IsEntryOf, IsReplaceable, with_value, with_written};
 ghost use Rattle.fkv_lookups.specs.Traced.{IsTraced, IsStood};
@@ -86,22 +86,22 @@ pub fn lookups_tell<K, V>()
         → IsKeyOrder cmp → IsTraced keeps code v → IsStood cmp join v
         → v.from ≤ low
         → entry_of v (class_in code v k) ≡ Some a
-        → GoesOn cmp join code v k low a None (looked_up cmp join code v low k a) }
+        → ComesTo cmp join code v k low a None (looked_up cmp join code v low k a) }
     // what the key has at the address, joined with the parts from above, is what it has at the end, joined with all of them
     ensures values { (keeps : Bool) (cmp : K → K → Ordering) (join : V → V → V) (code : K → ℕ) (v : RecordsView K V) (k : K) (low a : ℕ)
-        (parts : Option V) (r : Gathered K V)
+        (parts : Option V) (r : ChainResult K V)
         → IsKeyOrder cmp → IsTraced keeps code v → IsStood cmp join v
         → v.from ≤ low
         → (v.from ≤ a → IsOfClass code v k a)
-        → GoesOn cmp join code v k low a parts r
+        → ComesTo cmp join code v k low a parts r
         → onto join (value_of (newest cmp v.text k a)) parts ≡ onto join (end_of cmp v k r.position) r.parts }
     // the key's records on the way are deltas, but the one at the end
     ensures between { (keeps : Bool) (cmp : K → K → Ordering) (join : V → V → V) (code : K → ℕ) (v : RecordsView K V) (k : K) (low a : ℕ)
-        (parts : Option V) (r : Gathered K V)
+        (parts : Option V) (r : ChainResult K V)
         → IsKeyOrder cmp → IsTraced keeps code v → IsStood cmp join v
         → v.from ≤ low
         → (v.from ≤ a → IsOfClass code v k a)
-        → GoesOn cmp join code v k low a parts r
+        → ComesTo cmp join code v k low a parts r
         → (e : Entry K V) → IsIn v.entries e → has_key cmp k e ≡ true → e.address ≤ a
         → (at_of r.position < e.address) → e.delta ≡ true }
     // where the last record of the key that is read is no delta, it is what the look-up comes to; else parts are collected
@@ -109,7 +109,7 @@ pub fn lookups_tell<K, V>()
         → IsKeyOrder cmp → IsTraced keeps code v → IsStood cmp join v
         → entry_of v (class_in code v k) ≡ Some a
         → v.from ≤ low
-        → IsFirst (first_up cmp code v low k a) (looked_up cmp join code v low k a) }
+        → StartsAt (newest_above cmp code v low k a) (looked_up cmp join code v low k a) }
 {}
 
 /// What a session meets says of the last record of a key, however old the session's view.

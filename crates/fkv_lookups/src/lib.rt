@@ -2,16 +2,16 @@
 //! for what a look-up meets: in memory, by regions, or on a device.
 #![tactic(auto)]
 
+pub mod chain_results;
 pub mod clearing;
 pub mod decisions;
 mod entries;
-pub mod gathered;
 pub mod laws;
 mod maps;
 pub mod payloads;
 pub mod records;
 
+pub use chain_results::ChainResult;
 pub use decisions::{Decision, DecisionOf, LookupResult, decide, low_of, met_by};
-pub use gathered::Gathered;
 pub use payloads::Payload;
 pub use records::Records;

@@ -24,12 +24,12 @@ ghost use Rattle.fkv_operations.specs.Classes.{IsClass};
 ghost use Rattle.fkv_lookups.specs.RecordsViews.{empty_records, log_of, class_in, entry_of, found_in, IsEntryOf, with_written, Claims, confirmed, released, IsFull};
 ghost use Rattle.fkv_lookups.specs.RecordsViews.{ChangesAt};
 ghost use Rattle.fkv_lookups.specs.Traced.{IsTraced, IsStood};
-ghost use Rattle.fkv_lookups.specs.Lookups.{first_up, looked_up};
+ghost use Rattle.fkv_lookups.specs.Lookups.{newest_above, looked_up};
 ghost use Rattle.fkv_lookups.specs.Payloads.{standing};
 ghost use Rattle.fkv_texts.specs.Text.{live};
 
+use crate::chain_results::{ChainResult, delta_at, onto};
 use crate::entries::move_entry;
-use crate::gathered::{Gathered, delta_at, onto};
 use crate::payloads::Payload;
 use fkv_device::Receipt;
 use fkv_functions::{Mergeable, Refused};
@@ -128,7 +128,7 @@ impl<F: Mergeable, R: Receipt> Records<F, R> {
     }
 
     /// The address to which the final entry of a class leads.
-    pub fn leads(&self, class: &Class) -> Option<Address>
+    pub fn entry_address(&self, class: &Class) -> Option<Address>
         requires { IsClass self.now.bucket_bits class.now }
         ensures { result ≡ entry_of self.now class.now }
     {
@@ -150,7 +150,7 @@ impl<F: Mergeable, R: Receipt> Records<F, R> {
     /// addresses from there on; or where those lead below, the key having no record above. Pages below that address are
     /// not looked at.
     #[inline(always)]
-    pub fn first(
+    pub fn newest_in_memory(
         &self,
         entry: Address,
         key: &F::Key,
@@ -159,7 +159,7 @@ impl<F: Mergeable, R: Receipt> Records<F, R> {
         requires entry { entry_of self.now (class_in F.code self.now key.now) ≡ Some entry }
         requires in_frames { self.now.regions.offsets.closed ≤ low }
         requires begin { self.now.begin ≤ low }
-        ensures { result ≡ first_up F.Key.cmp F.code self.now low key.now entry }
+        ensures { result ≡ newest_above F.Key.cmp F.code self.now low key.now entry }
     {
         chains::<F::Key, F::Value, Class>();
         self.log.pages().first_on_chain(key, entry, low)
@@ -174,9 +174,9 @@ impl<F: Mergeable, R: Receipt> Records<F, R> {
         first: ChainPosition<F::Key, F::Value>,
         key: &F::Key,
         low: Address,
-    ) -> Gathered<F::Key, F::Value>
+    ) -> ChainResult<F::Key, F::Value>
         requires entry { entry_of self.now (class_in F.code self.now key.now) ≡ Some entry }
-        requires first { first ≡ first_up F.Key.cmp F.code self.now low key.now entry }
+        requires first { first ≡ newest_above F.Key.cmp F.code self.now low key.now entry }
         requires in_frames { self.now.regions.offsets.closed ≤ low }
         requires begin { self.now.begin ≤ low }
         ensures { result ≡ looked_up F.Key.cmp F.parts.joined F.code self.now low key.now entry }
@@ -187,7 +187,7 @@ impl<F: Mergeable, R: Receipt> Records<F, R> {
             parts = onto(functions, last.value, parts);
             position = self.log.pages().first_on_chain(key, last.previous, low);
         }
-        Gathered { parts, position }
+        ChainResult { parts, position }
     }
 
     /// Makes a tentative entry for a class, at the first empty place of its bucket, and answers its place. Look-ups

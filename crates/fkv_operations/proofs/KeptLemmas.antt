@@ -11,8 +11,8 @@ use Rattle.fkv_index.specs.Places.{word_at}
 use Rattle.fkv_operations.specs.declared.classes.Class.{Class}
 use Rattle.fkv_operations.specs.declared.entries.IndexEntry.{IndexEntry}
 use Rattle.fkv_operations.specs.Still.{IsStill}
-use Rattle.fkv_operations.specs.KeptWords.{IndexedText, IsFound, IsLed, IsCut, AreNext, after_last}
-use Rattle.fkv_operations.specs.KeptWords.IsCut.{dropped, passed}
+use Rattle.fkv_operations.specs.KeptWords.{IndexedText, IsFound, IsLed, LosesByCut, ReuseNoAddress, after_last}
+use Rattle.fkv_operations.specs.KeptWords.LosesByCut.{dropped, passed}
 
 -- what is still stays so while more is frozen
 pub still-raised : {K V : Type 0} (a b : ℕ) (o : Option (Entry K V)) → a ≤ b → IsStill a o → IsStill b o
@@ -30,7 +30,7 @@ module _ {K V : Type 0} (cmp : K → K → Ordering) (class : K → Class) where
       rw no refl)
 
   -- what is lost of a key's last record was a tombstone
-  cut-value : (v u : IndexedText K V) (k : K) (e : IndexEntry) → IsLed cmp class v → IsFound class v k e → IsCut cmp v u k (address_of e.word) → (newest cmp u.text k (address_of e.word) ≡ None) × (value_of (newest cmp v.text k (address_of e.word)) ≡ None)
+  cut-value : (v u : IndexedText K V) (k : K) (e : IndexEntry) → IsLed cmp class v → IsFound class v k e → LosesByCut cmp v u k (address_of e.word) → (newest cmp u.text k (address_of e.word) ≡ None) × (value_of (newest cmp v.text k (address_of e.word)) ≡ None)
   cut-value v u k e l found (dropped d was none gone) = (gone, ap value_of was ∙ none)
   cut-value v u k e l found (passed d was other) = absurd (other (sym (l.leads k e found) ∙ was))
 
@@ -39,7 +39,7 @@ module _ {K V : Type 0} (cmp : K → K → Ordering) (class : K → Class) where
 
   module _ (k : K) (e : IndexEntry) (somewhere : 64 ≤ address_of e.word) where
     -- what stands after the events stood before
-    stood : (v : IndexedText K V) (vs : List (IndexedText K V)) → AreNext cmp class v vs → IsTrue (is_final e.word) → address_of e.word < v.tail → word_at (after_last v vs).words e.place ≡ e.word → word_at v.words e.place ≡ e.word
+    stood : (v : IndexedText K V) (vs : List (IndexedText K V)) → ReuseNoAddress cmp class v vs → IsTrue (is_final e.word) → address_of e.word < v.tail → word_at (after_last v vs).words e.place ≡ e.word → word_at v.words e.place ≡ e.word
     stood v [] next final low here = here
     stood v (u ∷ us) (n, l, next) final low here =
         let up = n.tail in
@@ -50,7 +50,7 @@ module _ {K V : Type 0} (cmp : K → K → Ordering) (class : K → Class) where
         ]
 
     -- the value of the key's newest record from where the entry leads
-    stays : (v : IndexedText K V) (vs : List (IndexedText K V)) → IsLed cmp class v → AreNext cmp class v vs → IsFound class v k e → IsStill v.frozen (newest cmp v.text k (address_of e.word)) → word_at (after_last v vs).words e.place ≡ e.word
+    stays : (v : IndexedText K V) (vs : List (IndexedText K V)) → IsLed cmp class v → ReuseNoAddress cmp class v vs → IsFound class v k e → IsStill v.frozen (newest cmp v.text k (address_of e.word)) → word_at (after_last v vs).words e.place ≡ e.word
         → value_of (newest cmp (after_last v vs).text k (address_of e.word)) ≡ value_of (newest cmp v.text k (address_of e.word))
     stays v [] l next found still here = refl
     stays v (u ∷ us) l (n, m, next) found still here =
@@ -63,7 +63,7 @@ module _ {K V : Type 0} (cmp : K → K → Ordering) (class : K → Class) where
           | inr cut ↦ (let lost = cut-value v u k e l found cut in stays u us m next again (subst (IsStill u.frozen) (sym lost.0) tt) here ∙ ap value_of lost.0 ∙ sym lost.1)
         ]
 
-  pub kept-sound : (v : IndexedText K V) (vs : List (IndexedText K V)) (k : K) (e : IndexEntry) → IsLed cmp class v → AreNext cmp class v vs → IsFound class v k e → IsStill v.frozen (last_of cmp v.text k) → IsFound class (after_last v vs) k e → live cmp (after_last v vs).text k ≡ live cmp v.text k
+  pub kept-sound : (v : IndexedText K V) (vs : List (IndexedText K V)) (k : K) (e : IndexEntry) → IsLed cmp class v → ReuseNoAddress cmp class v vs → IsFound class v k e → IsStill v.frozen (last_of cmp v.text k) → IsFound class (after_last v vs) k e → live cmp (after_last v vs).text k ≡ live cmp v.text k
   kept-sound v vs k e l next found still again = elim (cases_lt (address_of e.word) 64) [
     | inl none ↦ ap value_of (nowhere-none (after_last v vs) k e led again (let first = led.first in omega arith) ∙ sym (nowhere-none v k e l found (let first = l.first in omega arith)))
     | inr some ↦ ap value_of (sym (led.leads k e again))
@@ -71,7 +71,7 @@ module _ {K V : Type 0} (cmp : K → K → Ordering) (class : K → Class) where
         ∙ ap value_of (l.leads k e found)
   ]
     where
-      last-led : (u : IndexedText K V) (us : List (IndexedText K V)) → IsLed cmp class u → AreNext cmp class u us → IsLed cmp class (after_last u us)
+      last-led : (u : IndexedText K V) (us : List (IndexedText K V)) → IsLed cmp class u → ReuseNoAddress cmp class u us → IsLed cmp class (after_last u us)
       last-led u [] m n = m
       last-led u (w ∷ ws) m (n, h, more) = last-led w ws h more
 

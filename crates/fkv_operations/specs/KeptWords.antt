@@ -38,24 +38,24 @@ pub record IsLed {K V : Type 0} (cmp : K → K → Ordering) (class : K → Clas
 
 -- what the newest record of a key at or below an address loses as the log's start is cut: a tombstone is gone; or it was
 -- not the key's last, and is gone or stands for less
-pub data IsCut {K V : Type 0} (cmp : K → K → Ordering) (old new : IndexedText K V) (k : K) (a : ℕ) : Type 0 where
+pub data LosesByCut {K V : Type 0} (cmp : K → K → Ordering) (old new : IndexedText K V) (k : K) (a : ℕ) : Type 0 where
   dropped : (e : Entry K V)
       → newest cmp old.text k a ≡ Some e
       → e.value ≡ None
       → newest cmp new.text k a ≡ None
-      → IsCut cmp old new k a
-  passed : (e : Entry K V) → newest cmp old.text k a ≡ Some e → last_of cmp old.text k ≢ Some e → IsCut cmp old new k a
+      → LosesByCut cmp old new k a
+  passed : (e : Entry K V) → newest cmp old.text k a ≡ Some e → last_of cmp old.text k ≢ Some e → LosesByCut cmp old new k a
 
 -- one event: what stood at addresses that were taken, and is not changed in place, stays or is cut; and an entry that is
 -- written leads nowhere, or to an address that was not taken
-pub record IsNext {K V : Type 0} (cmp : K → K → Ordering) (old new : IndexedText K V) : Type 0 where
+pub record ReusesNoAddress {K V : Type 0} (cmp : K → K → Ordering) (old new : IndexedText K V) : Type 0 where
   pub begin : old.begin ≤ new.begin
   pub frozen : old.frozen ≤ new.frozen
   pub tail : old.tail ≤ new.tail
   pub records : (k : K) (a : ℕ)
       → a < old.tail
       → IsStill old.frozen (newest cmp old.text k a)
-      → (newest cmp new.text k a ≡ newest cmp old.text k a) ⊎ IsCut cmp old new k a
+      → (newest cmp new.text k a ≡ newest cmp old.text k a) ⊎ LosesByCut cmp old new k a
   pub places : (p : Place) → IsPlace old.words p → IsPlace new.words p
   pub words : (p : Place) (w : Word)
       → IsTrue (is_final w)
@@ -63,9 +63,9 @@ pub record IsNext {K V : Type 0} (cmp : K → K → Ordering) (old new : Indexed
       → (word_at old.words p ≡ w) ⊎ (address_of w < 64) ⊎ (old.tail ≤ address_of w)
 
 -- events one after another, the index leading after each
-abbrev pub AreNext : {K V : Type 0} → (K → K → Ordering) → (K → Class) → IndexedText K V → List (IndexedText K V) → Type 0
-AreNext cmp class v [] = Unit {0}
-AreNext cmp class v (w ∷ ws) = IsNext cmp v w × IsLed cmp class w × AreNext cmp class w ws
+abbrev pub ReuseNoAddress : {K V : Type 0} → (K → K → Ordering) → (K → Class) → IndexedText K V → List (IndexedText K V) → Type 0
+ReuseNoAddress cmp class v [] = Unit {0}
+ReuseNoAddress cmp class v (w ∷ ws) = ReusesNoAddress cmp v w × IsLed cmp class w × ReuseNoAddress cmp class w ws
 
 -- what stands after the last of them
 abbrev pub after_last : {A : Type 0} → A → List A → A

@@ -27,7 +27,7 @@ pub(crate) fn entry_in<K: Fixed, V: Fixed>(
         → result ≡ Ok e }
     ensures damaged { IfErr result (λ refused. refused ≡ Refused.Damaged (page_at shape.page_bits address)) }
 {
-    if !shape.is_place(address) {
+    if !shape.is_record_start(address) {
         return Err(Refused::Damaged {
             page: shape.page_of(address),
         });

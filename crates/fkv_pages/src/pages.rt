@@ -166,7 +166,7 @@ impl<K: Fixed, V: Fixed, R: Receipt> Pages<K, V, R> {
         if address >= self.tail {
             return false;
         }
-        self.shape.is_place(address)
+        self.shape.is_record_start(address)
     }
 
     /// The entry at an address that is not closed, where one stands ([`Pages::has_entry`]).

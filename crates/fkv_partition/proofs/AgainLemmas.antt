@@ -1,9 +1,9 @@
 -- What appending the record of a place again leaves: the live map, what operations are to find, and a record that is superseded.
-use Rattle.std.proofs.Common.{◌≡◌, inl, inr, ◌&&◌, ◌==◌, ◌+◌, ◌*◌, ◌<◌, ℕ, Bool, cond, nat_lt, IsTrue, List, Option, Some, None, option_map, slice_get, slice_set, refl, sym, ap, ◌∙◌, arith, false}
-use Rattle.std.proofs.lemmas.Bool.{cases_eq, eqb-true}
+use Rattle.std.proofs.Common.{◌≡◌, inl, inr, ◌==◌, ◌+◌, ◌*◌, ◌<◌, ℕ, Bool, cond, IsTrue, Option, Some, None, option_map, slice_get, refl, sym, ap, ◌∙◌, arith, false}
+use Rattle.std.proofs.lemmas.Bool.{eqb-true}
 use Rattle.std.specs.declared.cmp.Ordering.{Ordering}
 use Rattle.fkv_functions.specs.Plain.{IsKeyOrder}
-use Rattle.fkv_functions.proofs.ListLemmas.{get-set_cases, get-set_other}
+use Rattle.fkv_functions.proofs.ListLemmas.{get-set_cases}
 use Rattle.fkv_texts.specs.declared.entries.Entry.{Entry}
 use Rattle.fkv_texts.specs.Text.{entry_at, newest, live, value_of}
 use Rattle.fkv_texts.proofs.LastWhere.{last_where-found}
@@ -32,8 +32,8 @@ use Rattle.fkv_partition.specs.CoreViews.{CoreView, slots_of, context_at, with_a
 use Rattle.fkv_partition.specs.Writes.{IsWrite}
 use Rattle.fkv_partition.proofs.AskedLemmas.{context-other, keyless-claims, shown-stays}
 use Rattle.fkv_partition.proofs.EventLemmas.{stands-at}
-use Rattle.fkv_partition.specs.declared.contexts.Open.{Open}
-use Rattle.fkv_partition.specs.declared.contexts.Open.TheVariants.{Relocating}
+use Rattle.fkv_partition.specs.declared.contexts.OpenWork.{OpenWork}
+use Rattle.fkv_partition.specs.declared.contexts.OpenWork.TheVariants.{Relocating}
 use Rattle.fkv_partition.specs.declared.relocations.Relocation.{Relocation}
 use Rattle.fkv_partition.specs.declared.relocations.Stage.{Stage}
 use Rattle.fkv_partition.specs.declared.relocations.Stage.TheVariants.{Fresh, Reading, Tracing, Ready}
@@ -80,7 +80,7 @@ module _ {K V I : Type 0} {keeps : Bool} (cmp : K → K → Ordering) (join : V 
   unclaimed = keyless-claims (joined (slice_get v.core.contexts (slot * 8 + c))) (keyless-here v slot c x h)
 
   contexts-same : (a d : ℕ) (e : IndexEntry) (key : K) (value : Option V) → context_at (with_appended v.core slot c e key value now) a d ≡ context_at v.core a d
-  contexts-same a d e key value = shown-stays {A = Open K V I} on_key refl (slots_of v.core) v.core.contexts slot c a d None (keyless-here v slot c x h) refl
+  contexts-same a d e key value = shown-stays {A = OpenWork K V I} on_key refl (slots_of v.core) v.core.contexts slot c a d None (keyless-here v slot c x h) refl
 
   all-pend : IsSound keeps cmp join code v.core → (e : IndexEntry) (key : K) (value : Option V) → AllPend cmp v.core (with_appended v.core slot c e key value now)
   all-pend p e key value a d = ap (pending_of cmp (with_record v.core.records e key value)) (contexts-same a d e key value) ∙ by_context (context_at v.core a d) refl

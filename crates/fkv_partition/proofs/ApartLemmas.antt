@@ -33,6 +33,10 @@ err-as {x = x} {y = y} h = let same : x ≡ y = cc in ap Err same
 pub some-at : {A P : Type 0} {o : Option A} {x : A} → o ≡ Some x → IfSome o (λ _. P) → P
 some-at {P = P} is h = subst (λ o. IfSome o (λ _. P)) is h
 
+pub some-all : {A P : Type 0} (o : Option A) → P → IfSome o (λ _. P)
+some-all None p = tt
+some-all (Some x) p = p
+
 pub ok-all : {T E P : Type 0} (r : Result T E) → P → IfOk r (λ _. P)
 ok-all (Ok x) p = p
 ok-all (Err e) p = tt

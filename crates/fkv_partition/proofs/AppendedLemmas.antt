@@ -7,7 +7,7 @@ use Rattle.fkv_lookups.specs.Payloads.{standing}
 use Rattle.fkv_lookups.specs.RecordsViews.{RecordsView, with_written, ChangesAt}
 use Rattle.fkv_lookups.specs.Traced.{IsTraced, IsStood}
 use Rattle.fkv_partition.specs.declared.changes.Write.{Write}
-use Rattle.fkv_partition.specs.declared.contexts.Open.{Open}
+use Rattle.fkv_partition.specs.declared.contexts.OpenWork.{OpenWork}
 use Rattle.fkv_partition.specs.CoreContexts.{claim_at}
 use Rattle.fkv_partition.specs.CoreSound.{IsSound}
 use Rattle.fkv_partition.specs.CoreViews.{CoreView, live_of, with_payload}
@@ -36,7 +36,7 @@ module _ {K V I : Type 0} (inside v : CoreView K V I) (same : inside ≡ v) wher
   full-is now r stays = ap (λ (w : RecordsView K V). record inside { records = w; moment = now }) stays ∙ ap (λ (u : CoreView K V I). record u { moment = now }) same
 
   -- or the records have one more, and the context is free
-  module _ (cmp : K → K → Ordering) (join : V → V → V) (slot c now : ℕ) (write : Write K V) (r : RecordsView K V) (contexts : List (Option (Open K V I)))
+  module _ (cmp : K → K → Ordering) (join : V → V → V) (slot c now : ℕ) (write : Write K V) (r : RecordsView K V) (contexts : List (Option (OpenWork K V I)))
       (made : r ≡ with_written inside.records write.entry write.key write.payload (standing join (live_of cmp inside write.key) write.payload)) (freed : contexts ≡ slice_set inside.contexts (slot * 8 + c) None) where
     pub appended-is : record inside { records = r; contexts = contexts; moment = now } ≡ with_payload v slot c write.entry write.key write.payload (standing join (live_of cmp v write.key) write.payload) now
     appended-is =

@@ -14,8 +14,8 @@ use Rattle.fkv_operations.specs.declared.operations.Answer.{Answer}
 use Rattle.fkv_operations.specs.declared.operations.KeyedOp.{KeyedOp}
 use Rattle.fkv_operations.specs.declared.operations.KeyedOp.TheVariants.{Read, Upsert, Rmw, Delete, Merge}
 use Rattle.fkv_partition.specs.declared.contexts.Context.{Context}
-use Rattle.fkv_partition.specs.declared.contexts.Open.{Open}
-use Rattle.fkv_partition.specs.declared.contexts.Open.TheVariants.{OnKey, Relocating}
+use Rattle.fkv_partition.specs.declared.contexts.OpenWork.{OpenWork}
+use Rattle.fkv_partition.specs.declared.contexts.OpenWork.TheVariants.{OnKey, Relocating}
 use Rattle.fkv_partition.specs.declared.relocations.Relocation.{Relocation}
 use Rattle.fkv_partition.specs.CoreContexts.{joined, is_session, context_in, on_key, relocating, claim_of}
 use Rattle.fkv_partition.specs.CoreViews.{CoreView, slots_of, held_at, context_at, with_context, free_slot, open_context}
@@ -88,12 +88,12 @@ context-other slots contexts slot c s d y low other = by_cases (nat_lt d 8) refl
     by_cases false t = rw (t, and-false (is_session slots s)) refl
 
 -- ---- an operation on a key, or a relocation
-pub key-is : {K V I : Type 0} (o : Option (Open K V I)) (x : Context K V I) → on_key o ≡ Some x → o ≡ Some (OnKey x)
+pub key-is : {K V I : Type 0} (o : Option (OpenWork K V I)) (x : Context K V I) → on_key o ≡ Some x → o ≡ Some (OnKey x)
 key-is None x h = absurd (cc)
 key-is (Some (OnKey y)) x h = let same : y ≡ x = cc in ap (λ z. Some (OnKey z)) same
 key-is (Some (Relocating y)) x h = absurd (cc)
 
-pub relocation-is : {K V I : Type 0} (o : Option (Open K V I)) (x : Relocation K V) → relocating o ≡ Some x → o ≡ Some (Relocating x)
+pub relocation-is : {K V I : Type 0} (o : Option (OpenWork K V I)) (x : Relocation K V) → relocating o ≡ Some x → o ≡ Some (Relocating x)
 relocation-is None x h = absurd (cc)
 relocation-is (Some (OnKey y)) x h = absurd (cc)
 relocation-is (Some (Relocating y)) x h = let same : y ≡ x = cc in ap (λ z. Some (Relocating z)) same
@@ -115,15 +115,15 @@ relocation-keyless None = refl
 relocation-keyless (Some x) = refl
 
 -- no operation on a key claims no entry
-pub keyless-claims : {K V I : Type 0} (o : Option (Open K V I)) → on_key o ≡ None → claim_of o ≡ None
+pub keyless-claims : {K V I : Type 0} (o : Option (OpenWork K V I)) → on_key o ≡ None → claim_of o ≡ None
 keyless-claims None h = refl
 keyless-claims (Some (OnKey x)) h = absurd (cc)
 keyless-claims (Some (Relocating x)) h = refl
 
-pub key_at : {K V I : Type 0} (slots : List (Option ℕ)) (contexts : List (Option (Open K V I))) (slot c : ℕ) (x : Context K V I) → on_key (context_in slots contexts slot c) ≡ Some x → IsOpenAt slots contexts slot c (OnKey x)
+pub key_at : {K V I : Type 0} (slots : List (Option ℕ)) (contexts : List (Option (OpenWork K V I))) (slot c : ℕ) (x : Context K V I) → on_key (context_in slots contexts slot c) ≡ Some x → IsOpenAt slots contexts slot c (OnKey x)
 key_at slots contexts slot c x h = open_at slots contexts slot c (OnKey x) (key-is (context_in slots contexts slot c) x h)
 
-pub moving_at : {K V I : Type 0} (slots : List (Option ℕ)) (contexts : List (Option (Open K V I))) (slot c : ℕ) (x : Relocation K V) → relocating (context_in slots contexts slot c) ≡ Some x → IsOpenAt slots contexts slot c (Relocating x)
+pub moving_at : {K V I : Type 0} (slots : List (Option ℕ)) (contexts : List (Option (OpenWork K V I))) (slot c : ℕ) (x : Relocation K V) → relocating (context_in slots contexts slot c) ≡ Some x → IsOpenAt slots contexts slot c (Relocating x)
 moving_at slots contexts slot c x h = open_at slots contexts slot c (Relocating x) (relocation-is (context_in slots contexts slot c) x h)
 
 -- where a place shows nothing, and is set to what shows nothing, every place shows what it did
@@ -271,7 +271,7 @@ get-take_back (suc n) zero (y ∷ ys) x l h = h
 get-take_back (suc n) (suc i) (y ∷ ys) x l h = get-take_back n i ys x (omega arith) h
 
 -- nothing stands in its contexts
-pub idle : {K V I : Type 0} (v : CoreView K V I) (slot c : ℕ) (x : Open K V I) → open_context v slot ≡ None → c < 8 → slice_get v.contexts (slot * 8 + c) ≡ Some (Some x) → ⊥
+pub idle : {K V I : Type 0} (v : CoreView K V I) (slot c : ℕ) (x : OpenWork K V I) → open_context v slot ≡ None → c < 8 → slice_get v.contexts (slot * 8 + c) ≡ Some (Some x) → ⊥
 idle v slot c x h low here =
     let room : c < (slot * 8 + 8) - slot * 8 = omega arith in
     let there = get-take_back ((slot * 8 + 8) - slot * 8) c (drop (slot * 8) v.contexts) (Some x) room (get-drop (slot * 8) c v.contexts ∙ here) in
@@ -281,7 +281,7 @@ idle v slot c x h low here =
 pub idle-held : {K V I : Type 0} (v : CoreView K V I) (slot c : ℕ) → open_context v slot ≡ None → held_at v slot c ≡ None
 idle-held v slot c h = by_cases (held_at v slot c) refl
   where
-    by_cases : (o : Option (Open _ _ _)) → held_at v slot c ≡ o → held_at v slot c ≡ None
+    by_cases : (o : Option (OpenWork _ _ _)) → held_at v slot c ≡ o → held_at v slot c ≡ None
     by_cases None e = e
     by_cases (Some x) e = let o = open_at (slots_of v) v.contexts slot c x e in absurd (idle v slot c x h o.low o.here)
 

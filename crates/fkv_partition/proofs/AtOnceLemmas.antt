@@ -1,5 +1,5 @@
 -- An update that is issued and done in one call: what it keeps, and that it is an issue and an event of its partition.
-use Rattle.std.proofs.Common.{◌≡◌, ◌<◌, ℕ, Bool, Option, Some, None, IfSome, Result, Ok, refl, ◌∙◌, ap}
+use Rattle.std.proofs.Common.{◌≡◌, ◌<◌, ℕ, Bool, Option, Some, None, IfSome, Result, refl, ◌∙◌, ap}
 use Rattle.std.specs.declared.cmp.Ordering.{Ordering}
 use Rattle.fkv_functions.specs.Meanings.{Meanings}
 use Rattle.fkv_functions.specs.declared.refusals.Refused.{Refused}
@@ -79,8 +79,3 @@ pub left-at-once : {K V I O : Type 0} (cmp : K → K → Ordering) (join : V →
     → ((held : V) → key_update.IsAtHand cmp join code v.core slot key held → f.next key held input ≡ None)
     → (held : V) → IsAtHand cmp join code v slot key held → f.next key held input ≡ None
 left-at-once cmp join f code v slot key input out held h = out held h.hand
-
--- what holds anyhow holds of what is told
-pub told-some : {A P : Type 0} (o : Option A) → P → IfSome o (λ x. P)
-told-some None h = tt
-told-some (Some x) h = h

@@ -17,7 +17,7 @@ use Rattle.fkv_lookups.specs.Traced.{IsTraced, IsStood}
 use Rattle.fkv_texts.specs.Chains.{IsIn}
 use Rattle.fkv_operations.specs.declared.classes.Class.{Class}
 use Rattle.fkv_partition.specs.declared.contexts.Context.{Context}
-use Rattle.fkv_partition.specs.declared.contexts.Open.TheVariants.{OnKey}
+use Rattle.fkv_partition.specs.declared.contexts.OpenWork.TheVariants.{OnKey}
 use Rattle.fkv_partition.specs.declared.contexts.Phase.TheVariants.{Fresh, Confirm}
 use Rattle.fkv_partition.specs.CoreContexts.{joined, at_phase, claim_by, claim_of, claim_at}
 use Rattle.fkv_partition.specs.CoreClaiming.{IsClaimOf}

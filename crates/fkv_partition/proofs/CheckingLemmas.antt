@@ -20,9 +20,9 @@ use Rattle.fkv_operations.specs.Still.{IsStill}
 use Rattle.fkv_operations.specs.Classes.{same_class}
 use Rattle.fkv_operations.specs.declared.entries.IndexEntry.{IndexEntry}
 use Rattle.fkv_operations.proofs.ClassLemmas.{class_test}
-use Rattle.fkv_lookups.specs.declared.gathered.Gathered.{Gathered}
+use Rattle.fkv_lookups.specs.declared.chain_results.ChainResult.{ChainResult}
 use Rattle.fkv_lookups.specs.Decisions.{low_of}
-use Rattle.fkv_lookups.specs.Lookups.{IsOfClass, GoesOn, end_of, at_of}
+use Rattle.fkv_lookups.specs.Lookups.{IsOfClass, ComesTo, end_of, at_of}
 use Rattle.fkv_lookups.specs.RecordsViews.{RecordsView, class_in, IsEntryOf, WasEntryOf}
 use Rattle.fkv_lookups.specs.Traced.{IsTraced, IsStood}
 use Rattle.fkv_lookups.proofs.TracedLemmas.{highest, raw, traced-raw, traced-held, traced-none, traced-low}
@@ -117,7 +117,7 @@ superseded-one cmp text place e is superseded yes_keeps d there =
     subst (IsSuperseded cmp text) same (superseded yes_keeps)
 
 -- what a look-up in memory came to, down to the lowest address that is followed, tells this of the record of a place
-pub told-so : {K V I : Type 0} (cmp : K → K → Ordering) (join : V → V → V) (code : K → ℕ) {u v : PartitionView K V I} (same : u ≡ v) (slot place : ℕ) (key : K) {lowest low : ℕ} {came : Gathered K V} {told outcome : Liveness V}
+pub told-so : {K V I : Type 0} (cmp : K → K → Ordering) (join : V → V → V) (code : K → ℕ) {u v : PartitionView K V I} (same : u ≡ v) (slot place : ℕ) (key : K) {lowest low : ℕ} {came : ChainResult K V} {told outcome : Liveness V}
     → lowest ≡ low_of u.core.records.begin (seen_at u.core slot)
     → low ≡ higher_of (place + 1) lowest
     → came ≡ reached_from cmp join code u.core slot key low (entry_for code u.core key)
@@ -176,31 +176,31 @@ module _ {K V : Type 0} (place : ℕ) where
 
 module _ {K V : Type 0} (cmp : K → K → Ordering) (join : V → V → V) (code : K → ℕ) (v : RecordsView K V) (k : K) (low : ℕ) where
   -- a record to which the way comes is one of the key, and no delta
-  pub found-in : (a : ℕ) (parts : Option V) (r : Gathered K V) → GoesOn cmp join code v k low a parts r → (x : Entry K V) → r.position ≡ Found x → IsIn v.entries x × (has_key cmp k x ≡ true) × (x.delta ≡ false) × (low ≤ x.address)
-  found-in a parts r (GoesOn.found {e = e} is stands high whole) x at =
+  pub found-in : (a : ℕ) (parts : Option V) (r : ChainResult K V) → ComesTo cmp join code v k low a parts r → (x : Entry K V) → r.position ≡ Found x → IsIn v.entries x × (has_key cmp k x ≡ true) × (x.delta ≡ false) × (low ≤ x.address)
+  found-in a parts r (ComesTo.found {e = e} is stands high whole) x at =
       let same : e ≡ x = cc in
       let passes = λ (d : Entry K V). nat_le d.address a && has_key cmp k d in
       subst (λ (y : Entry K V). IsIn v.entries y × (has_key cmp k y ≡ true) × (y.delta ≡ false) × (low ≤ y.address)) same
       (last_where-in passes v.entries e is, (and_parts (nat_le e.address a) (has_key cmp k e) (last_where-found passes v.entries e is)).1, whole, high)
-  found-in a parts r (GoesOn.below under is class) x at = absurd (cc)
-  found-in a parts r (GoesOn.joins {d = d} is high part more) x at = found-in d.previous (onto join d.value parts) r more x at
+  found-in a parts r (ComesTo.below under is class) x at = absurd (cc)
+  found-in a parts r (ComesTo.joins {d = d} is high part more) x at = found-in d.previous (onto join d.value parts) r more x at
 
   -- where it leads out, a record of the key's class stands
-  pub way-class : (a : ℕ) (parts : Option V) (r : Gathered K V) → GoesOn cmp join code v k low a parts r → (b : ℕ) → r.position ≡ Below b → v.from ≤ b → IsOfClass code v k b
-  way-class a parts r (GoesOn.found is stands high whole) b at begins = absurd (cc)
-  way-class a parts r (GoesOn.below {b = c} under is class) b at begins = let same : c ≡ b = cc in subst (IsOfClass code v k) same (class (omega (arith, same, begins)))
-  way-class a parts r (GoesOn.joins {d = d} is high part more) b at begins = way-class d.previous (onto join d.value parts) r more b at begins
+  pub way-class : (a : ℕ) (parts : Option V) (r : ChainResult K V) → ComesTo cmp join code v k low a parts r → (b : ℕ) → r.position ≡ Below b → v.from ≤ b → IsOfClass code v k b
+  way-class a parts r (ComesTo.found is stands high whole) b at begins = absurd (cc)
+  way-class a parts r (ComesTo.below {b = c} under is class) b at begins = let same : c ≡ b = cc in subst (IsOfClass code v k) same (class (omega (arith, same, begins)))
+  way-class a parts r (ComesTo.joins {d = d} is high part more) b at begins = way-class d.previous (onto join d.value parts) r more b at begins
 
-  pub way-low : (a : ℕ) (parts : Option V) (r : Gathered K V) → GoesOn cmp join code v k low a parts r → (b : ℕ) → r.position ≡ Below b → b < low
-  way-low a parts r (GoesOn.found is stands high whole) b at = absurd (cc)
-  way-low a parts r (GoesOn.below {b = c} under is class) b at = let same : c ≡ b = cc in subst (λ n. n < low) same under
-  way-low a parts r (GoesOn.joins {d = d} is high part more) b at = way-low d.previous (onto join d.value parts) r more b at
+  pub way-low : (a : ℕ) (parts : Option V) (r : ChainResult K V) → ComesTo cmp join code v k low a parts r → (b : ℕ) → r.position ≡ Below b → b < low
+  way-low a parts r (ComesTo.found is stands high whole) b at = absurd (cc)
+  way-low a parts r (ComesTo.below {b = c} under is class) b at = let same : c ≡ b = cc in subst (λ n. n < low) same under
+  way-low a parts r (ComesTo.joins {d = d} is high part more) b at = way-low d.previous (onto join d.value parts) r more b at
 
   -- nobody changes the key's newest record where it leads below what is frozen
-  pub way-still : (safe a : ℕ) (parts : Option V) (r : Gathered K V) → GoesOn cmp join code v k low a parts r → (b : ℕ) → r.position ≡ Below b → b < safe → IsStill safe (newest cmp v.entries k a)
-  way-still safe a parts r (GoesOn.found is stands high whole) b at frozen = absurd (cc)
-  way-still safe a parts r (GoesOn.below {b = c} under is class) b at frozen = let same : c ≡ b = cc in rw is (still-below cmp v.entries k c safe (omega (arith, same, frozen)))
-  way-still safe a parts r (GoesOn.joins is high part more) b at frozen = rw is (inr (inl part))
+  pub way-still : (safe a : ℕ) (parts : Option V) (r : ChainResult K V) → ComesTo cmp join code v k low a parts r → (b : ℕ) → r.position ≡ Below b → b < safe → IsStill safe (newest cmp v.entries k a)
+  way-still safe a parts r (ComesTo.found is stands high whole) b at frozen = absurd (cc)
+  way-still safe a parts r (ComesTo.below {b = c} under is class) b at frozen = let same : c ≡ b = cc in rw is (still-below cmp v.entries k c safe (omega (arith, same, frozen)))
+  way-still safe a parts r (ComesTo.joins is high part more) b at frozen = rw is (inr (inl part))
 
 -- ---- down to a place
 module _ {K V : Type 0} {keeps : Bool} (cmp : K → K → Ordering) (join : V → V → V) (code : K → ℕ) (order : IsKeyOrder cmp) (v : RecordsView K V) (t : IsTraced keeps code v) (s : IsStood cmp join v) (place : ℕ) (e : Entry K V) (here : entry_at v.entries place ≡ Some e) where
@@ -208,7 +208,7 @@ module _ {K V : Type 0} {keeps : Bool} (cmp : K → K → Ordering) (join : V �
   rising = rises cmp join v s t
 
   -- where a newer record that is no delta is met
-  pub met-dead : (low a : ℕ) (parts : Option V) (r : Gathered K V) → GoesOn cmp join code v e.key low a parts r → liveness place r ≡ Superseded → IsSuperseded cmp v.entries e
+  pub met-dead : (low a : ℕ) (parts : Option V) (r : ChainResult K V) → ComesTo cmp join code v e.key low a parts r → liveness place r ≡ Superseded → IsSuperseded cmp v.entries e
   met-dead low a parts r goes j =
       let d = at-dead place r.parts r.position j in
       let f = found-in cmp join code v e.key low a parts r goes d.0 d.1 in
@@ -250,9 +250,9 @@ module _ {K V : Type 0} {keeps : Bool} (cmp : K → K → Ordering) (join : V �
           omega (arith, up, same, at)
 
   -- so where it ends at or below the place, it ends there
-  pub lands : (low a : ℕ) (parts : Option V) (r : Gathered K V) → place < low → place ≤ a → GoesOn cmp join code v e.key low a parts r → (b : ℕ) → r.position ≡ Below b → place ≤ b
-  lands low a parts r under le (GoesOn.found is stands high whole) b at = absurd (cc)
-  lands low a parts r under le (GoesOn.below {b = c} out is class) b at =
+  pub lands : (low a : ℕ) (parts : Option V) (r : ChainResult K V) → place < low → place ≤ a → ComesTo cmp join code v e.key low a parts r → (b : ℕ) → r.position ≡ Below b → place ≤ b
+  lands low a parts r under le (ComesTo.found is stands high whole) b at = absurd (cc)
+  lands low a parts r under le (ComesTo.below {b = c} out is class) b at =
       let same : c ≡ b = cc in
       by_newest (newest cmp v.entries e.key a) refl same
     where
@@ -274,7 +274,7 @@ module _ {K V : Type 0} {keeps : Bool} (cmp : K → K → Ordering) (join : V �
           let down = newest-low cmp order v.entries rising place e here c x (sym is ∙ h) in
           let at = st.1 in
           omega (arith, up, down, at, same)
-  lands low a parts r under le (GoesOn.joins {d = d} is high part more) b at =
+  lands low a parts r under le (ComesTo.joins {d = d} is high part more) b at =
       lands low d.previous (onto join d.value parts) r under (delta-leads a d is (omega (arith, under, high))) more b at
 
   -- and what its key has from where an entry leads is its own value, joined with the parts above
@@ -366,8 +366,8 @@ module _ {K V I : Type 0} {keeps : Bool} (cmp : K → K → Ordering) (join : V 
       by_test false h less = absurd (omega (arith, less, high))
 
   module _ (order : IsKeyOrder cmp) (place : ℕ) (k : K) (a : ℕ) (leads : entry_for code v k ≡ Some a) where
-    pub going : GoesOn cmp join code v.records k (above v slot place) a None (reached_from cmp join code v slot k (above v slot place) (entry_for code v k))
-    going = subst (λ o. GoesOn cmp join code v.records k (above v slot place) a None (reached_from cmp join code v slot k (above v slot place) o)) (sym leads)
+    pub going : ComesTo cmp join code v.records k (above v slot place) a None (reached_from cmp join code v slot k (above v slot place) (entry_for code v k))
+    going = subst (λ o. ComesTo cmp join code v.records k (above v slot place) a None (reached_from cmp join code v slot k (above v slot place) o)) (sym leads)
         (tells cmp join code v.records k order s.traced s.stood (above v slot place) (above-begun place) a leads)
 
     -- the entry leads to the last record of the key
@@ -394,10 +394,10 @@ module _ {K V I : Type 0} {keeps : Bool} (cmp : K → K → Ordering) (join : V 
       absurd (let yes : has_key cmp e.key e ≡ true = order.self e.key in cc)
 
   module _ (kept : IndexEntry) (stands : IsEntryOf v.records (class_in code v.records e.key) kept) (leads : entry_for code v e.key ≡ Some (address_of kept.word)) where
-    abbrev came : Gathered K V
+    abbrev came : ChainResult K V
     came = reached_from cmp join code v slot e.key (above v slot place) (entry_for code v e.key)
 
-    way : GoesOn cmp join code v.records e.key (above v slot place) (address_of kept.word) None came
+    way : ComesTo cmp join code v.records e.key (above v slot place) (address_of kept.word) None came
     way = going cmp join code v s slot entered order place e.key (address_of kept.word) leads
 
     pub superseded-newer : liveness place came ≡ Superseded → IsTrue keeps → IsSuperseded cmp v.records.entries e
@@ -485,13 +485,15 @@ module _ {K V I : Type 0} {keeps : Bool} (cmp : K → K → Ordering) (join : V 
           begun = further-disk.0;
           past = omega arith;
           on_disk = further-disk.1;
-          class = λ yes_keeps same begins. way-class cmp join code v.records e.key (above v slot place) (address_of kept.word) None came way b goes.0 begins;
-          newest = λ yes_keeps same.
-              sym (onto-none (value_of (newest cmp v.records.text e.key (address_of kept.word)))) ∙ values
-              ∙ ap (λ p. onto join (end_of cmp v.records e.key p) came.parts) goes.0
-              ∙ ap (onto join (value_of (newest cmp v.records.text e.key b))) goes.2;
-          still = λ yes_keeps same. still-text v.records.regions.offsets.safe_read_only (way-still cmp join code v.records e.key (above v slot place) v.records.regions.offsets.safe_read_only (address_of kept.word) None came way b goes.0 on-disk);
-          between = λ yes_keeps same d m own past low. deltas d m own low (subst (λ n. n < d.address) (sym (ap at_of goes.0)) past);
+          leads = λ yes_keeps same. record {
+            class = λ begins. way-class cmp join code v.records e.key (above v slot place) (address_of kept.word) None came way b goes.0 begins;
+            still = still-text v.records.regions.offsets.safe_read_only (way-still cmp join code v.records e.key (above v slot place) v.records.regions.offsets.safe_read_only (address_of kept.word) None came way b goes.0 on-disk);
+            newest =
+                sym (onto-none (value_of (newest cmp v.records.text e.key (address_of kept.word)))) ∙ values
+                ∙ ap (λ p. onto join (end_of cmp v.records e.key p) came.parts) goes.0
+                ∙ ap (onto join (value_of (newest cmp v.records.text e.key b))) goes.2;
+            between = λ d m own past low. deltas d m own low (subst (λ n. n < d.address) (sym (ap at_of goes.0)) past);
+          };
         };
         is = λ yes_keeps same. is yes_keeps;
       }

@@ -7,7 +7,7 @@ use Rattle.fkv_index.specs.Words.{is_tentative}
 use Rattle.fkv_index.specs.Places.{word_at}
 use Rattle.fkv_index.specs.Changes.{SameTentative}
 use Rattle.fkv_lookups.specs.RecordsViews.{ChangesAt}
-use Rattle.fkv_partition.specs.declared.contexts.Open.{Open}
+use Rattle.fkv_partition.specs.declared.contexts.OpenWork.{OpenWork}
 use Rattle.fkv_partition.specs.CoreContexts.{joined, claim_of, claim_at}
 use Rattle.fkv_partition.specs.CoreClaiming.{AreOwned}
 use Rattle.fkv_functions.proofs.ListLemmas.{get-set_cases, get-set_same, get-set_other}
@@ -23,8 +23,8 @@ place-or p q = elim (cases_eq p.bucket q.bucket) [
 ]
 
 -- ---- what stands in the contexts once one of them is set
-module _ {K V I : Type 0} (cs : List (Option (Open K V I))) (i : ℕ) (y : Option (Open K V I)) where
-  pub claim-here : (x : Option (Open K V I)) → slice_get cs i ≡ Some x → claim_at (slice_set cs i y) i ≡ claim_of y
+module _ {K V I : Type 0} (cs : List (Option (OpenWork K V I))) (i : ℕ) (y : Option (OpenWork K V I)) where
+  pub claim-here : (x : Option (OpenWork K V I)) → slice_get cs i ≡ Some x → claim_at (slice_set cs i y) i ≡ claim_of y
   claim-here x here = ap (λ o. claim_of (joined o)) (get-set_same cs i x y here)
 
   pub claim-other : (p : ℕ) → p ≢ i → claim_at (slice_set cs i y) p ≡ claim_at cs p
@@ -34,7 +34,7 @@ module _ {K V I : Type 0} (cs : List (Option (Open K V I))) (i : ℕ) (y : Optio
   pub claim-quiet : claim_of y ≡ None → claim_at cs i ≡ None → claim_at (slice_set cs i y) i ≡ None
   claim-quiet new old = by_get (slice_get (slice_set cs i y) i) refl
     where
-      by_get : (o : Option (Option (Open K V I))) → slice_get (slice_set cs i y) i ≡ o → claim_of (joined o) ≡ None
+      by_get : (o : Option (Option (OpenWork K V I))) → slice_get (slice_set cs i y) i ≡ o → claim_of (joined o) ≡ None
       by_get None e = refl
       by_get (Some z) e = elim (get-set_cases cs i i y z e) [
         | inl same ↦ ap claim_of (sym same.1) ∙ new
@@ -47,7 +47,7 @@ nothing none some = absurd (let no = sym none ∙ some in cc)
 no-tentative : (w : Word) → is_tentative w ≡ false → IsTrue (is_tentative w) → ⊥
 no-tentative w quiet is = absurd (let e = sym quiet ∙ is in cc)
 
-module _ {K V I : Type 0} (words new : List (List Word)) (cs : List (Option (Open K V I))) (i : ℕ) (y : Option (Open K V I)) (own : AreOwned words cs) where
+module _ {K V I : Type 0} (words new : List (List Word)) (cs : List (Option (OpenWork K V I))) (i : ℕ) (y : Option (OpenWork K V I)) (own : AreOwned words cs) where
   -- a context that claimed nothing is set to one that claims nothing, and the same places are tentative
   pub owned-quiet : SameTentative words new → claim_at cs i ≡ None → claim_of y ≡ None → AreOwned new (slice_set cs i y)
   owned-quiet same old quiet = record {
@@ -66,7 +66,7 @@ module _ {K V I : Type 0} (words new : List (List Word)) (cs : List (Option (Ope
       into p q h = elim (cases_eq p i) [ inl e ↦ absurd (nothing (ap (claim_at cs) e ∙ old) h) | inr n ↦ claim-other cs i y p n ∙ h ]
 
   -- one that claimed nothing is set to one that claims a place, which was not tentative and is
-  pub owned-claimed : (q : Place) (x : Option (Open K V I)) → ChangesAt q words new → is_tentative (word_at words q) ≡ false → IsTrue (is_tentative (word_at new q)) → slice_get cs i ≡ Some x → claim_of x ≡ None → claim_of y ≡ Some q → AreOwned new (slice_set cs i y)
+  pub owned-claimed : (q : Place) (x : Option (OpenWork K V I)) → ChangesAt q words new → is_tentative (word_at words q) ≡ false → IsTrue (is_tentative (word_at new q)) → slice_get cs i ≡ Some x → claim_of x ≡ None → claim_of y ≡ Some q → AreOwned new (slice_set cs i y)
   owned-claimed q x at was is here old claims = record { tentative = tentative; owner = owner; one = one }
     where
       mine : claim_at (slice_set cs i y) i ≡ Some q
@@ -111,7 +111,7 @@ module _ {K V I : Type 0} (words new : List (List Word)) (cs : List (Option (Ope
       ]
 
   -- one that claimed a place is set to one that claims nothing, and the place is not tentative any more
-  pub owned-freed : (q : Place) (x : Option (Open K V I)) → ChangesAt q words new → is_tentative (word_at new q) ≡ false → slice_get cs i ≡ Some x → claim_of x ≡ Some q → claim_of y ≡ None → AreOwned new (slice_set cs i y)
+  pub owned-freed : (q : Place) (x : Option (OpenWork K V I)) → ChangesAt q words new → is_tentative (word_at new q) ≡ false → slice_get cs i ≡ Some x → claim_of x ≡ Some q → claim_of y ≡ None → AreOwned new (slice_set cs i y)
   owned-freed q x at freed here old quiet = record { tentative = tentative; owner = owner; one = one }
     where
       none : claim_at (slice_set cs i y) i ≡ None

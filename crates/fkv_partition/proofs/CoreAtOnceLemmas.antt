@@ -15,12 +15,11 @@ use Rattle.fkv_lookups.specs.declared.decisions.Decision.TheVariants.{Replace}
 use Rattle.fkv_lookups.specs.Decisions.{IsHeld, replaced, decision}
 use Rattle.fkv_lookups.specs.Meeting.{IsMetAt}
 use Rattle.fkv_partition.specs.declared.contexts.Context.{Context}
-use Rattle.fkv_partition.specs.declared.contexts.Open.TheVariants.{OnKey}
+use Rattle.fkv_partition.specs.declared.contexts.OpenWork.TheVariants.{OnKey}
 use Rattle.fkv_partition.specs.declared.contexts.Phase.TheVariants.{Fresh}
 use Rattle.fkv_partition.specs.declared.contexts.Progress.TheVariants.{Done}
 use Rattle.fkv_partition.specs.CoreContexts.{joined, is_session, on_key}
 use Rattle.fkv_partition.specs.CoreViews.{CoreView, slots_of, seen_at, met_at, context_at, partition_of, live_of, with_context, with_replaced, held_at}
-use Rattle.fkv_partition.specs.CoreBeginning.{Issues}
 use Rattle.fkv_partition.specs.CoreGoing.{replaces}
 use Rattle.fkv_partition.specs.CoreEffect.{IsEvent}
 use Rattle.fkv_partition.specs.CoreAtOnce.{IsDoneAtOnce}

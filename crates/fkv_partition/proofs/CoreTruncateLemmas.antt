@@ -23,8 +23,8 @@ use Rattle.fkv_index.proofs.WordFacts.{is_empty-empty, final_not_tentative, tent
 use Rattle.fkv_index.proofs.Emptied.{sweeps, same_tentative}
 use Rattle.fkv_operations.specs.After.{key_of}
 use Rattle.fkv_operations.specs.Still.{IsStill}
-use Rattle.fkv_operations.specs.KeptWords.{IsCut, IsNext}
-use Rattle.fkv_operations.specs.KeptWords.IsCut.{dropped, passed}
+use Rattle.fkv_operations.specs.KeptWords.{LosesByCut, ReusesNoAddress}
+use Rattle.fkv_operations.specs.KeptWords.LosesByCut.{dropped, passed}
 use Rattle.fkv_operations.specs.declared.entries.IndexEntry.{IndexEntry}
 use Rattle.fkv_operations.specs.declared.operations.KeyedOp.{KeyedOp}
 use Rattle.fkv_operations.specs.declared.operations.KeyedOp.TheVariants.{Read, Upsert, Rmw, Delete, Merge}
@@ -237,7 +237,7 @@ module _ {K V : Type 0} {keeps : Bool} (cmp : K → K → Ordering) (join : V �
 
   -- what the newest record of a key at or below an address stands for is the same, or it is not the key's last, or a
   -- tombstone that is gone
-  newest-cut-at : IsTrue keeps → (k : K) (a : ℕ) → (newest cmp text k a ≡ newest cmp v.text k a) ⊎ IsCut cmp (indexed v) (indexed (truncated keeps v low text)) k a
+  newest-cut-at : IsTrue keeps → (k : K) (a : ℕ) → (newest cmp text k a ≡ newest cmp v.text k a) ⊎ LosesByCut cmp (indexed v) (indexed (truncated keeps v low text)) k a
   newest-cut-at yes_keeps k a = by_newest (newest cmp v.entries k a) refl
     where
       passes : Entry K V → Bool
@@ -274,7 +274,7 @@ module _ {K V : Type 0} {keeps : Bool} (cmp : K → K → Ordering) (join : V �
               covered-passed cmp v.entries rises e covered (ap (last_of cmp v.entries) own ∙ g ∙ ap Some same)
 
       by_cover : (e : Entry K V) → newest cmp v.entries k a ≡ Some e → IsCovered cmp v.entries e ⊎ (IsCovered cmp v.entries e → ⊥)
-          → (newest cmp text k a ≡ newest cmp v.text k a) ⊎ IsCut cmp (indexed v) (indexed (truncated keeps v low text)) k a
+          → (newest cmp text k a ≡ newest cmp v.text k a) ⊎ LosesByCut cmp (indexed v) (indexed (truncated keeps v low text)) k a
       by_cover e h (inl covered) = inr (passed (having (value_of (newest cmp v.text k a)) e) (before (Some e) h) (passed-by e h covered (value_of (newest cmp v.text k a))))
       by_cover e h (inr uncovered) = elim (cases_lt e.address low) [
         | inr high ↦
@@ -292,12 +292,12 @@ module _ {K V : Type 0} {keeps : Bool} (cmp : K → K → Ordering) (join : V �
       ]
 
       by_newest : (o : Option (Entry K V)) → newest cmp v.entries k a ≡ o
-          → (newest cmp text k a ≡ newest cmp v.text k a) ⊎ IsCut cmp (indexed v) (indexed (truncated keeps v low text)) k a
+          → (newest cmp text k a ≡ newest cmp v.text k a) ⊎ LosesByCut cmp (indexed v) (indexed (truncated keeps v low text)) k a
       by_newest None h = inl (after None (last_where-filter passes (λ x. nat_le low x.address) v.entries ∙ last_where-narrow_none passes (λ x. nat_le low x.address) v.entries h) ∙ sym (before None h))
       by_newest (Some e) h = by_cover e h (covered_or_not cmp v.entries e.key e.address)
 
   -- no address is used twice
-  pub next-cut : IsTrue keeps → IsNext cmp (indexed v) (indexed (truncated keeps v low text))
+  pub next-cut : IsTrue keeps → ReusesNoAddress cmp (indexed v) (indexed (truncated keeps v low text))
   next-cut yes_keeps = record {
     begin = omega arith;
     frozen = omega arith;
@@ -317,10 +317,7 @@ module _ {K V : Type 0} {keeps : Bool} (cmp : K → K → Ordering) (join : V �
         begun = h.begun;
         past = omega arith;
         on_disk = h.on_disk;
-        class = λ yes_keeps same begins. absurd (omega arith);
-        newest = λ yes_keeps same. absurd (omega arith);
-        between = λ yes_keeps same. absurd (omega arith);
-        still = λ yes_keeps same. absurd (omega arith);
+        leads = λ yes_keeps same. absurd (omega arith);
       }
 
   pub stands-cut : {I : Type 0} (op : KeyedOp K V I) (phase : Phase V) → StandsFor keeps cmp join code v op phase → StandsFor keeps cmp join code (truncated keeps v low text) op phase

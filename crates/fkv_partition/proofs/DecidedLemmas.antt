@@ -27,10 +27,10 @@ use Rattle.fkv_operations.specs.declared.operations.KeyedOp.{KeyedOp}
 use Rattle.fkv_operations.specs.declared.operations.Answer.{Answer}
 use Rattle.fkv_lookups.specs.declared.decisions.LookupResult.TheVariants.{Mutable}
 use Rattle.fkv_lookups.specs.declared.decisions.Decision.TheVariants.{Replace}
-use Rattle.fkv_lookups.specs.declared.gathered.Gathered.{Gathered}
+use Rattle.fkv_lookups.specs.declared.chain_results.ChainResult.{ChainResult}
 use Rattle.fkv_lookups.specs.Decisions.{low_of, met_by, met_last, decision}
 use Rattle.fkv_lookups.specs.DecisionLaws.{replace-met, mutable-met, IsMetIn}
-use Rattle.fkv_lookups.specs.Lookups.{first_up, looked_up, IsFirst}
+use Rattle.fkv_lookups.specs.Lookups.{newest_above, looked_up, StartsAt}
 use Rattle.fkv_lookups.specs.Meeting.{met_from, IsMetAt}
 use Rattle.fkv_lookups.specs.RecordsViews.{RecordsView, IsReplaceable}
 use Rattle.fkv_lookups.specs.Traced.{IsTraced}
@@ -40,7 +40,7 @@ use Rattle.fkv_partition.specs.declared.contexts.Context.{Context}
 use Rattle.fkv_partition.specs.CoreContexts.{is_session}
 use Rattle.fkv_partition.specs.CoreGoing.{Decides}
 use Rattle.fkv_partition.specs.CoreSound.{IsSound}
-use Rattle.fkv_partition.specs.CoreViews.{CoreView, slots_of, seen_at, entry_for, met_at, first_from, reached_from}
+use Rattle.fkv_partition.specs.CoreViews.{CoreView, slots_of, seen_at, entry_for, met_at, newest_in_memory, reached_from}
 use Rattle.fkv_partition.proofs.AskedLemmas.{key_at}
 
 module _ {K V I O : Type 0} (cmp : K → K → Ordering) (join : V → V → V) (f : Meanings K V I O) (code : K → ℕ) (v : CoreView K V I) (slot : ℕ) where
@@ -82,9 +82,9 @@ module _ {K V I : Type 0} (cmp : K → K → Ordering) (join : V → V → V) (c
   low = low_of v.records.begin (seen_at v slot)
 
   abbrev first : ChainPosition K V
-  first = first_from cmp code v slot k (entry_for code v k)
+  first = newest_in_memory cmp code v slot k (entry_for code v k)
 
-  abbrev came : Gathered K V
+  abbrev came : ChainResult K V
   came = reached_from cmp join code v slot k low (entry_for code v k)
 
   -- what is met, by what the look-up comes to
@@ -97,20 +97,20 @@ module _ {K V I : Type 0} (cmp : K → K → Ordering) (join : V → V → V) (c
   entry-some last is = by_entry (entry_for code v k) refl
     where
       by_entry : (o : Option ℕ) → entry_for code v k ≡ o → (a : ℕ) × (entry_for code v k ≡ Some a)
-      by_entry None h = absurd (let no : Below 1 ≡ Found last = ap (first_from cmp code v slot k) (sym h) ∙ is in cc)
+      by_entry None h = absurd (let no : Below 1 ≡ Found last = ap (newest_in_memory cmp code v slot k) (sym h) ∙ is in cc)
       by_entry (Some a) h = (a, h)
 
-  module _ (tells : (a : ℕ) → entry_for code v k ≡ Some a → IsFirst (first_up cmp code v.records low k a) (looked_up cmp join code v.records low k a)) where
+  module _ (tells : (a : ℕ) → entry_for code v k ≡ Some a → StartsAt (newest_above cmp code v.records low k a) (looked_up cmp join code v.records low k a)) where
     -- the first record says what the look-up comes to, where there is no entry too
-    told : IsFirst first came
+    told : StartsAt first came
     told = by_entry (entry_for code v k) refl
       where
-        by_entry : (o : Option ℕ) → entry_for code v k ≡ o → IsFirst (first_from cmp code v slot k o) (reached_from cmp join code v slot k low o)
+        by_entry : (o : Option ℕ) → entry_for code v k ≡ o → StartsAt (newest_in_memory cmp code v slot k o) (reached_from cmp join code v slot k low o)
         by_entry None h = refl
         by_entry (Some a) h = tells a h
 
-    told-by : (p : ChainPosition K V) → first ≡ p → IsFirst p came
-    told-by p is = subst (λ q. IsFirst q came) is told
+    told-by : (p : ChainPosition K V) → first ≡ p → StartsAt p came
+    told-by p is = subst (λ q. StartsAt q came) is told
 
     -- parts are collected, or none are
     none-some : came.parts ≡ None → IsSome came.parts → ⊥
@@ -124,10 +124,10 @@ module _ {K V I : Type 0} (cmp : K → K → Ordering) (join : V → V → V) (c
         there = ap (reached_from cmp join code v slot k low) m.leads ∙ m.reached
 
         by_delta : (b : Bool) → last.delta ≡ b → last ≡ m.entry
-        by_delta true d = absurd (none-some (ap (λ (r : Gathered K V). r.parts) there) ((told-by (Found last) is).1 d))
+        by_delta true d = absurd (none-some (ap (λ (r : ChainResult K V). r.parts) there) ((told-by (Found last) is).1 d))
         by_delta false d =
             let alone = (told-by (Found last) is).0 d in
-            found-same last m.entry (ap (λ (r : Gathered K V). r.position) (sym alone ∙ there))
+            found-same last m.entry (ap (λ (r : ChainResult K V). r.position) (sym alone ∙ there))
 
     -- one that is read first, is no delta and is mutable is met so
     pub mutable-first : (last : Entry K V) (w : V) → first ≡ Found last → last.delta ≡ false → last.value ≡ Some w → region_of (seen_at v slot) last.address ≡ region.Mutable → met_at cmp join code v slot k ≡ Mutable w
@@ -135,7 +135,7 @@ module _ {K V I : Type 0} (cmp : K → K → Ordering) (join : V → V → V) (c
         let e = entry-some last is in
         let alone = (told-by (Found last) is).0 whole in
         met-is (entry_for code v k)
-        ∙ ap (λ (r : Gathered K V). met_by join (entry_for code v k) v.records.begin (seen_at v slot) r) alone
+        ∙ ap (λ (r : ChainResult K V). met_by join (entry_for code v k) v.records.begin (seen_at v slot) r) alone
         ∙ (rw (e.1, value, mutable) refl)
 
     -- one that is read first and is no delta is what is met
@@ -144,7 +144,7 @@ module _ {K V I : Type 0} (cmp : K → K → Ordering) (join : V → V → V) (c
         let e = entry-some last is in
         let alone = (told-by (Found last) is).0 whole in
         met-is (entry_for code v k)
-        ∙ ap (λ (r : Gathered K V). met_by join (entry_for code v k) v.records.begin (seen_at v slot) r) alone
+        ∙ ap (λ (r : ChainResult K V). met_by join (entry_for code v k) v.records.begin (seen_at v slot) r) alone
         ∙ ap (λ o. met_by join o v.records.begin (seen_at v slot) (record { parts = None; position = Found last })) e.1
 
     -- and what is met as mutable is such a record
@@ -162,13 +162,13 @@ module _ {K V I : Type 0} (cmp : K → K → Ordering) (join : V → V → V) (c
         m = mutable-met join v.records.begin (seen_at v slot) (entry_for code v k) came w (sym (met-is (entry_for code v k)) ∙ met)
 
         by_first : (p : ChainPosition K V) → first ≡ p → IsAtFirst w
-        by_first (Below b) is = absurd (let no : Below b ≡ Found m.entry = ap (λ (r : Gathered K V). r.position) (sym (told-by (Below b) is)) ∙ m.is in cc)
+        by_first (Below b) is = absurd (let no : Below b ≡ Found m.entry = ap (λ (r : ChainResult K V). r.position) (sym (told-by (Below b) is)) ∙ m.is in cc)
         by_first (Found e) is = by_delta e.delta refl
           where
             by_delta : (b : Bool) → e.delta ≡ b → IsAtFirst w
             by_delta true d = absurd (none-some m.parts ((told-by (Found e) is).1 d))
             by_delta false d =
-                let same = found-same e m.entry (ap (λ (r : Gathered K V). r.position) (sym ((told-by (Found e) is).0 d)) ∙ m.is) in
+                let same = found-same e m.entry (ap (λ (r : ChainResult K V). r.position) (sym ((told-by (Found e) is).0 d)) ∙ m.is) in
                 record {
                   entry = e;
                   is = is;

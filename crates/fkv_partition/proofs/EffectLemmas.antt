@@ -1,5 +1,5 @@
 -- What events of the core, and of relocations, are to their partition.
-use Rattle.std.proofs.Common.{◌≡◌, ◌≢◌, Bool, true, false, cond, ◌&&◌, ℕ, ◌+◌, ◌*◌, ◌<◌, ◌⊎◌, inl, inr, IsTrue, Option, Some, None, Result, Ok, Err, IfOk, IfErr, OnOk, option_map, slice_get, slice_set, nat_lt, subst, refl, sym, ◌∙◌, ap, arith}
+use Rattle.std.proofs.Common.{◌≡◌, ◌≢◌, Bool, true, false, cond, ◌&&◌, ℕ, ◌+◌, ◌*◌, ◌<◌, ◌⊎◌, inl, inr, IsTrue, Option, Some, None, Result, Ok, Err, IfOk, IfErr, OnOk, option_map, slice_get, slice_set, nat_lt, refl, sym, ◌∙◌, ap, arith}
 use Rattle.std.proofs.lemmas.Bool.{cases_eq}
 use Rattle.std.proofs.lemmas.Bool.Decides.{nat_tests}
 use Rattle.std.specs.declared.cmp.Ordering.{Ordering}
@@ -8,8 +8,7 @@ use Rattle.fkv_functions.specs.Plain.{PlainMap}
 use Rattle.fkv_functions.specs.declared.refusals.Refused.{Refused}
 use Rattle.fkv_functions.proofs.ListLemmas.{get-set_same}
 use Rattle.fkv_regions.specs.RegionsView.{RegionsView}
-use Rattle.fkv_operations.specs.After.{key_of}
-use Rattle.fkv_operations.specs.Operations.{keyed, op_of}
+use Rattle.fkv_operations.specs.Operations.{op_of}
 use Rattle.fkv_operations.specs.declared.operations.Answer.TheVariants.{Cleared}
 use Rattle.fkv_operations.specs.declared.operations.KeyedOp.{KeyedOp}
 use Rattle.fkv_operations.specs.declared.operations.Op.TheVariants.{Relocate}
@@ -22,10 +21,10 @@ use Rattle.fkv_partition.specs.Grown.{RelocationsStay, AllStay}
 use Rattle.fkv_partition.specs.Pending.{Pending, pending, pending_of, OthersPend}
 use Rattle.fkv_partition.specs.CoreViews.{CoreView, slots_of, held_at, context_at, live_of}
 use Rattle.fkv_partition.proofs.AskedLemmas.{key_at, moving_at, relocation-is, relocation-of, context-inside, free-here}
-use Rattle.fkv_partition.specs.declared.contexts.Open.{Open}
-use Rattle.fkv_partition.specs.declared.contexts.Open.TheVariants.{Relocating}
+use Rattle.fkv_partition.specs.declared.contexts.OpenWork.{OpenWork}
+use Rattle.fkv_partition.specs.declared.contexts.OpenWork.TheVariants.{Relocating}
 use Rattle.fkv_partition.specs.declared.relocations.Relocation.{Relocation}
-use Rattle.fkv_partition.specs.Effect.{Asked, asked_of, asked, HasEffect, LeavesOthers, IsQuiet, IsIssue, IsEvent, IsGiveUp, to_find, Finds, HasLoaded, IsLoaded, IsTruncation}
+use Rattle.fkv_partition.specs.Effect.{Asked, asked_of, asked, HasEffect, LeavesOthers, IsQuiet, IsIssue, IsEvent, IsGiveUp, Finds, HasLoaded, IsLoaded, IsTruncation}
 use Rattle.fkv_partition.specs.Relocating.{IsRelocating}
 use Rattle.fkv_partition.specs.CoreSound.{IsSound}
 use Rattle.fkv_partition.specs.Views.{PartitionView, with_core, relocation_at, with_relocation}
@@ -90,7 +89,7 @@ module _ {K V I : Type 0} (v : PartitionView K V I) (slot c : ℕ) where
   -- no operation on a key is open in the context of a relocation
   module _ (x : Relocation K V) (h : relocation_at v slot c ≡ Some x) where
     pub alone-asked : key_effect.asked v.core slot c ≡ None
-    alone-asked = ap (λ (o : Option (Open K V I)). option_map key_effect.asked_by (on_key o)) (relocation-is (held_at v.core slot c) x h)
+    alone-asked = ap (λ (o : Option (OpenWork K V I)). option_map key_effect.asked_by (on_key o)) (relocation-is (held_at v.core slot c) x h)
 
     pub relocation-asked : asked v slot c ≡ Some (record { number = x.number; op = Relocate })
     relocation-asked = asked-relocation x alone-asked h
@@ -109,7 +108,7 @@ module _ {K V I : Type 0} (v : PartitionView K V I) (new : CoreView K V I) where
   housed-none : {keeps : Bool} {cmp : K → K → Ordering} {join : V → V → V} {code : K → ℕ} → IsSound keeps cmp join code v.core → (s d : ℕ) → d < 8 → is_session (slots_of v.core) s ≡ false → joined (slice_get v.core.contexts (s * 8 + d)) ≡ None
   housed-none i s d low out = by_get (slice_get v.core.contexts (s * 8 + d)) refl
     where
-      by_get : (o : Option (Option (Open K V I))) → slice_get v.core.contexts (s * 8 + d) ≡ o → joined (slice_get v.core.contexts (s * 8 + d)) ≡ None
+      by_get : (o : Option (Option (OpenWork K V I))) → slice_get v.core.contexts (s * 8 + d) ≡ o → joined (slice_get v.core.contexts (s * 8 + d)) ≡ None
       by_get None e = ap joined e
       by_get (Some None) e = ap joined e
       by_get (Some (Some x)) e = let yes = i.housed s d x low e in let bad : true ≡ false = sym yes ∙ out in absurd (cc)
@@ -343,7 +342,7 @@ pub issued-event : {K V I : Type 0} {keeps : Bool} {cmp : K → K → Ordering} 
     → IsIssue code v (with_relocation v slot c (Some y) now) slot c Relocate now
 issued-event {K} {V} {I} v slot c now y s few low inside free number r =
     let held : held_at v.core slot c ≡ None = context-inside (slots_of v.core) v.core.contexts slot c inside low ∙ free in
-    let closed : key_effect.asked v.core slot c ≡ None = ap (λ (o : Option (Open K V I)). option_map key_effect.asked_by (on_key o)) held in
+    let closed : key_effect.asked v.core slot c ≡ None = ap (λ (o : Option (OpenWork K V I)). option_map key_effect.asked_by (on_key o)) held in
     let here = free-here (slots_of v.core) v.core.contexts slot c s.places few low inside held in
     let then : relocation_at (with_relocation v slot c (Some y) now) slot c ≡ Some y =
     ap relocating (context-inside (slots_of v.core) (slice_set v.core.contexts (slot * 8 + c) (Some (Relocating y))) slot c inside low ∙ ap joined (get-set_same v.core.contexts (slot * 8 + c) None (Some (Relocating y)) here)) in

@@ -34,8 +34,8 @@ use Rattle.fkv_operations.specs.Still.{IsStill}
 use Rattle.fkv_lookups.specs.declared.payloads.Payload.{Payload}
 use Rattle.fkv_lookups.specs.Payloads.{standing}
 use Rattle.fkv_partition.specs.declared.contexts.Context.{Context}
-use Rattle.fkv_partition.specs.declared.contexts.Open.{Open}
-use Rattle.fkv_partition.specs.declared.contexts.Open.TheVariants.{OnKey}
+use Rattle.fkv_partition.specs.declared.contexts.OpenWork.{OpenWork}
+use Rattle.fkv_partition.specs.declared.contexts.OpenWork.TheVariants.{OnKey}
 use Rattle.fkv_partition.specs.declared.contexts.Phase.{Phase}
 use Rattle.fkv_partition.specs.declared.contexts.Phase.TheVariants.{Fresh, Confirm, Prepared, Load}
 use Rattle.fkv_partition.specs.declared.contexts.Loading.{Loading}
@@ -110,7 +110,7 @@ question-of {K} {V} {I} n (Rmw k i) (Prepared b s) e ask h =
 pub question-quiet : {K V I : Type 0} (x : Context K V I) (e : IndexEntry) (ask : Ask K V I) → question_in x ≡ Some (e, ask) → claim_by x.phase ≡ None
 question-quiet x e ask h = ap claim_by (question-of x.number x.op x.phase e ask h).phase_is
 
-pub context-is : {K V I : Type 0} (entered xs : List (Option ℕ)) (contexts ys : List (Option (Open K V I))) (slot c : ℕ) (x : Context K V I) → xs ≡ entered → ys ≡ contexts → Some x ≡ on_key (context_in xs ys slot c)
+pub context-is : {K V I : Type 0} (entered xs : List (Option ℕ)) (contexts ys : List (Option (OpenWork K V I))) (slot c : ℕ) (x : Context K V I) → xs ≡ entered → ys ≡ contexts → Some x ≡ on_key (context_in xs ys slot c)
     → on_key (context_in entered contexts slot c) ≡ Some x
 context-is entered xs contexts ys slot c x e h k = ap (λ a. on_key (context_in a contexts slot c)) (sym e) ∙ ap (λ b. on_key (context_in xs b slot c)) (sym h) ∙ sym k
 
@@ -170,7 +170,7 @@ module _ {K V I : Type 0} {keeps : Bool} (cmp : K → K → Ordering) (join : V 
           is_free : slice_get (slots_of v) slot ≡ Some None
           is_free = free-slot v slot free
 
-          held : (o : Option (Option (Open K V I))) → slice_get v.contexts (slot * 8 + d) ≡ o → d < 8 → joined (slice_get v.contexts (slot * 8 + d)) ≡ None
+          held : (o : Option (Option (OpenWork K V I))) → slice_get v.contexts (slot * 8 + d) ≡ o → d < 8 → joined (slice_get v.contexts (slot * 8 + d)) ≡ None
           held None e low = ap joined e
           held (Some None) e low = ap joined e
           held (Some (Some x)) e low = absurd (let inside = s.housed slot d x low e in let no : false ≡ true = sym (ap (λ o. is_some (option_flatten o)) is_free) ∙ inside in cc)
@@ -261,10 +261,12 @@ module _ {K V I O : Type 0} (cmp : K → K → Ordering) (join : V → V → V) 
           begun = wanted.begun;
           past = omega arith;
           on_disk = wanted.low;
-          class = λ yes_keeps same begun. wanted.class begun;
-          still = λ yes_keeps same. rw newest wanted.still;
-          newest = λ yes_keeps same. ap value_of newest ∙ wanted.newest;
-          between = λ yes_keeps same y stands own above under. wanted.between y stands own above;
+          leads = λ yes_keeps same. record {
+            class = wanted.class;
+            still = rw newest wanted.still;
+            newest = ap value_of newest ∙ wanted.newest;
+            between = λ y stands own above under. wanted.between y stands own above;
+          };
         } in
         let o = load-op f x.op (met_at cmp join code v slot k) b parts d in
         elim o.1 [
@@ -445,7 +447,7 @@ module _ {K V I : Type 0} (code : K → ℕ) (v : CoreView K V I) where
   pub event-issue : (slot c now : ℕ) (op : KeyedOp K V I) → is_session (slots_of v) slot ≡ true → slice_get v.contexts (slot * 8 + c) ≡ Some None → c < 8 → partition_of v.count (code (key_of op)) ≡ v.number
       → IsIssue code v (with_context v slot c (Some (record { number = now; op = op; phase = Fresh })) now) slot c op now
   event-issue slot c now op inside here low own =
-      let x : Option (Open K V I) = Some (OnKey (record { number = now; op = op; phase = Fresh })) in
+      let x : Option (OpenWork K V I) = Some (OnKey (record { number = now; op = op; phase = Fresh })) in
       record {
         closed = ap (λ o. option_map asked_by (on_key o)) (context-inside (slots_of v) v.contexts slot c inside low ∙ ap joined here);
         opened = ap (λ o. option_map asked_by (on_key o)) (context-inside (slots_of v) (slice_set v.contexts (slot * 8 + c) x) slot c inside low ∙ ap joined (get-set_same v.contexts (slot * 8 + c) None x here));
@@ -574,7 +576,7 @@ not-entered slots slot h = by_test (is_session slots slot) refl
     by_test false e = e
 
 -- the session of another open operation stays where one without any leaves
-pub idle-other : {K V I : Type 0} (v : CoreView K V I) (slot t d : ℕ) (x : Open K V I) → open_context v slot ≡ None → d < 8 → slice_get v.contexts (t * 8 + d) ≡ Some (Some x) → is_session (slots_of v) t ≡ true → is_session (slice_set (slots_of v) slot None) t ≡ true
+pub idle-other : {K V I : Type 0} (v : CoreView K V I) (slot t d : ℕ) (x : OpenWork K V I) → open_context v slot ≡ None → d < 8 → slice_get v.contexts (t * 8 + d) ≡ Some (Some x) → is_session (slots_of v) t ≡ true → is_session (slice_set (slots_of v) slot None) t ≡ true
 idle-other v slot t d x none low here inside = elim (cases_eq t slot) [
   | inl same ↦ absurd (idle v slot d x none low (ap (λ n. slice_get v.contexts (n * 8 + d)) (sym same) ∙ here))
   | inr other ↦ ap (λ o. is_some (option_flatten o)) (get-set_other (slots_of v) slot t None other) ∙ inside
@@ -609,10 +611,6 @@ evict-refused keeps v page now result why is not_due full only = elim only [
 pub if-all : {T E P : Type 0} (r : Result T E) → P → IfOk r (λ x. P)
 if-all (Ok x) p = p
 if-all (Err e) p = tt
-
-pub some-all : {A P : Type 0} (o : Option A) → P → IfSome o (λ x. P)
-some-all (Some x) p = p
-some-all None p = tt
 
 -- ---- a page that was written
 pub flush-refused : {K V I : Type 0} (v : CoreView K V I) (st : Standing) (bytes : List ℕ) (now : ℕ) (r : Result (Unit {0}) Refused) (why : Refused)

@@ -1,11 +1,11 @@
 -- What is told of contexts in which neither an operation nor a relocation stands.
-use Rattle.std.proofs.Common.{◌≡◌, ◌↔◌, Bool, true, false, not, cond, nat_lt, ℕ, zero, suc, ◌+◌, ◌-◌, ◌*◌, ◌<◌, IsTrue, IsSome, List, [], ◌∷◌, length, Option, Some, None, is_some, slice_get, slice_range, take, drop, position, zero-add, subst, refl, sym, ◌∙◌, ap, arith}
+use Rattle.std.proofs.Common.{◌≡◌, ◌↔◌, Bool, true, false, not, cond, nat_lt, ℕ, zero, suc, ◌+◌, ◌-◌, ◌*◌, ◌<◌, IsTrue, IsSome, List, [], ◌∷◌, length, Option, Some, None, is_some, slice_get, slice_range, take, drop, position, subst, refl, sym, ◌∙◌, ap, arith}
 use Rattle.std.proofs.lemmas.Bool.{false≢true}
 use Rattle.std.specs.List.{position_or_len}
 use Rattle.fkv_partition.specs.CoreContexts.{joined, is_session, relocating}
 use Rattle.fkv_partition.specs.CoreViews.{slots_of}
 use Rattle.fkv_partition.proofs.AskedLemmas.{moving_at, context-inside, position-found, position-none, get-drop, get-take, take-low, get-take_back}
-use Rattle.fkv_partition.specs.declared.contexts.Open.TheVariants.{Relocating}
+use Rattle.fkv_partition.specs.declared.contexts.OpenWork.TheVariants.{Relocating}
 use Rattle.fkv_partition.specs.declared.relocations.Relocation.{Relocation}
 use Rattle.fkv_partition.specs.Views.{PartitionView, relocation_at}
 use Rattle.fkv_partition.specs.Beginning.{IsFirstOpen}

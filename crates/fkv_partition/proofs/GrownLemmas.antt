@@ -31,7 +31,7 @@ use Rattle.fkv_index.specs.Changes.{Writes}
 use Rattle.fkv_index.proofs.Written.{written_there, writes}
 use Rattle.fkv_operations.specs.After.{key_of}
 use Rattle.fkv_operations.specs.Still.{IsStill}
-use Rattle.fkv_operations.specs.KeptWords.{IsNext}
+use Rattle.fkv_operations.specs.KeptWords.{ReusesNoAddress}
 use Rattle.fkv_operations.specs.declared.entries.IndexEntry.{IndexEntry}
 use Rattle.fkv_operations.specs.declared.operations.KeyedOp.{KeyedOp}
 use Rattle.fkv_operations.specs.declared.operations.KeyedOp.TheVariants.{Read, Upsert, Rmw, Delete, Merge}
@@ -81,7 +81,7 @@ pub record Grows {K V : Type 0} (keeps : Bool) (cmp : K → K → Ordering) (joi
       → (word_at old.words p ≡ w) ⊎ (address_of w < 64)
 
 -- so no address is used twice
-pub next-grown : {K V : Type 0} {keeps : Bool} {cmp : K → K → Ordering} {join : V → V → V} {code : K → ℕ} (old new : RecordsView K V) → Grows keeps cmp join code old new → IsTrue keeps → IsNext cmp (indexed old) (indexed new)
+pub next-grown : {K V : Type 0} {keeps : Bool} {cmp : K → K → Ordering} {join : V → V → V} {code : K → ℕ} (old new : RecordsView K V) → Grows keeps cmp join code old new → IsTrue keeps → ReusesNoAddress cmp (indexed old) (indexed new)
 next-grown old new g yes_keeps = record {
   begin = (let same = g.begin in omega arith);
   frozen = g.safe;
@@ -141,23 +141,27 @@ loading-grown keeps cmp join code old new k l t g h =
       begun = h.begun;
       past = (let was = h.past in let same = g.begin in omega arith);
       on_disk = omega arith;
-      class = λ yes_keeps same begun. g.same_class k l.wanted frozen begun (h.class yes_keeps (same ∙ g.begin) (let up = g.from in omega arith));
-      newest = λ yes_keeps same.
-          ap value_of (kept-same yes_keeps same)
-          ∙ h.newest yes_keeps (same ∙ g.begin)
-          ∙ sym (ap (λ o. onto join (value_of o) l.parts) (g.kept yes_keeps k l.wanted taken (still-below cmp old.text k l.wanted old.regions.offsets.safe_read_only frozen)));
-      between = λ yes_keeps same e m key above under.
-          let d = g.was e m (omega (arith, low, under)) in
-          let own : has_key cmp k d.0 ≡ true = ap (λ q. is_at (cmp q) k) d.3 ∙ key in
-          sym d.4 ∙ h.between yes_keeps (same ∙ g.begin) d.0 d.1 own (let at = d.2 in omega (arith, at, above)) (let at = d.2 in omega (arith, at, under));
-      still = λ yes_keeps same.
-          subst (IsStill new.regions.offsets.safe_read_only) (sym (kept-same yes_keeps same))
-          (still-raised old.regions.offsets.safe_read_only new.regions.offsets.safe_read_only (newest cmp old.text k (address_of l.kept.word)) g.safe (h.still yes_keeps (same ∙ g.begin)));
+      leads = λ yes_keeps same.
+          let was = h.leads yes_keeps (same ∙ g.begin) in
+          record {
+            class = λ begun. g.same_class k l.wanted frozen begun (was.class (let up = g.from in omega arith));
+            still =
+                subst (IsStill new.regions.offsets.safe_read_only) (sym (kept-same yes_keeps same))
+                (still-raised old.regions.offsets.safe_read_only new.regions.offsets.safe_read_only (newest cmp old.text k (address_of l.kept.word)) g.safe was.still);
+            newest =
+                ap value_of (kept-same yes_keeps same)
+                ∙ was.newest
+                ∙ sym (ap (λ o. onto join (value_of o) l.parts) (g.kept yes_keeps k l.wanted taken (still-below cmp old.text k l.wanted old.regions.offsets.safe_read_only frozen)));
+            between = λ e m key above under.
+                let d = g.was e m (omega (arith, low, under)) in
+                let own : has_key cmp k d.0 ≡ true = ap (λ q. is_at (cmp q) k) d.3 ∙ key in
+                sym d.4 ∙ was.between d.0 d.1 own (let at = d.2 in omega (arith, at, above)) (let at = d.2 in omega (arith, at, under));
+          };
     }
   where
     -- what is newest from where the entry led stays
     kept-same : IsTrue keeps → l.begin ≡ new.begin → newest cmp new.text k (address_of l.kept.word) ≡ newest cmp old.text k (address_of l.kept.word)
-    kept-same yes_keeps same = g.kept yes_keeps k (address_of l.kept.word) h.low (h.still yes_keeps (same ∙ g.begin))
+    kept-same yes_keeps same = g.kept yes_keeps k (address_of l.kept.word) h.low (h.leads yes_keeps (same ∙ g.begin)).still
 
 pub kept-grown : {K V : Type 0} (keeps : Bool) (cmp : K → K → Ordering) (join : V → V → V) (code : K → ℕ) (old new : RecordsView K V) (k : K) (e : IndexEntry) (source : Option V) → IsTraced keeps code old → Grows keeps cmp join code old new → IsKept keeps cmp code old k e source
     → IsKept keeps cmp code new k e source

@@ -1,7 +1,6 @@
 -- What the changes of a compacted partition keep.
-use Rattle.std.proofs.Common.{◌≡◌, ◌≢◌, Bool, true, false, ℕ, ◌+◌, ◌*◌, ◌^◌, ◌<◌, ◌≤◌, ◌⊎◌, inl, inr, ◌==◌, IsTrue, List, [], ◌∷◌, cond, nat_le, replicate, zero, suc, Option, Some, None, Result, Ok, Err, OnErr, slice_get, slice_set, refl, sym, ◌∙◌, ap, subst, arith}
-use Rattle.std.proofs.lemmas.List.{length-set}
-use Rattle.std.proofs.lemmas.Bool.{cases_lt, cases_eq, eqb-true}
+use Rattle.std.proofs.Common.{◌≡◌, Bool, true, false, ℕ, ◌^◌, ◌<◌, ◌≤◌, inl, inr, ◌==◌, IsTrue, List, [], ◌∷◌, cond, nat_le, replicate, zero, suc, Option, Some, None, Result, Ok, Err, OnErr, slice_get, slice_set, refl, sym, ◌∙◌, ap, subst, arith}
+use Rattle.std.proofs.lemmas.Bool.{cases_lt, eqb-true}
 use Rattle.std.proofs.lemmas.Bool.Decides.{nat_tests}
 use Rattle.std.specs.BTreeMap.{is_at}
 use Rattle.std.specs.declared.cmp.Ordering.{Ordering}
@@ -19,23 +18,20 @@ use Rattle.fkv_lookups.specs.RecordsViews.{RecordsView}
 use Rattle.fkv_lookups.specs.Traced.{IsTraced, IsStood}
 use Rattle.fkv_lookups.proofs.TracedLemmas.{traced-raw}
 use Rattle.fkv_operations.specs.declared.entries.IndexEntry.{IndexEntry}
-use Rattle.fkv_functions.specs.declared.refusals.Refused.{Refused}
 use Rattle.fkv_functions.proofs.ListLemmas.{get-set_cases}
-use Rattle.fkv_operations.specs.After.{key_of, is_merge}
 use Rattle.fkv_operations.specs.declared.operations.KeyedOp.{KeyedOp}
 use Rattle.fkv_partition.specs.CoreBeginning.{Issues}
 use Rattle.fkv_partition.proofs.AskedLemmas.{joined-some, relocation-is}
 use Rattle.fkv_partition.specs.Beginning.{IssuesOnKey, IsFirstFree}
 use Rattle.fkv_partition.specs.CoreContexts.{joined, relocating}
-use Rattle.fkv_partition.specs.CoreViews.{CoreView, slots_of, partition_of}
+use Rattle.fkv_partition.specs.CoreViews.{CoreView, partition_of}
 use Rattle.fkv_partition.specs.Grown.{IsPreserved, RelocationsStay}
-use Rattle.fkv_partition.specs.declared.contexts.Open.{Open}
-use Rattle.fkv_partition.specs.declared.contexts.Open.TheVariants.{Relocating}
+use Rattle.fkv_partition.specs.declared.contexts.OpenWork.{OpenWork}
+use Rattle.fkv_partition.specs.declared.contexts.OpenWork.TheVariants.{Relocating}
 use Rattle.fkv_partition.specs.declared.relocations.Relocation.{Relocation}
 use Rattle.fkv_partition.specs.declared.relocations.Stage.{Stage}
 use Rattle.fkv_partition.specs.declared.relocations.Stage.TheVariants.{Fresh, Reading, Tracing, Ready}
-use Rattle.fkv_partition.specs.Views.{PartitionView, with_core, place_behind, cleared_past, done_at, relocation_at}
-use Rattle.fkv_partition.specs.Inside.{view_of}
+use Rattle.fkv_partition.specs.Views.{PartitionView, with_core, cleared_past}
 use Rattle.fkv_partition.specs.Stages.{IsReady, RelocationStands, StageStands}
 use Rattle.fkv_partition.specs.Sound.{IsCompacting}
 use Rattle.fkv_partition.proofs.SteadyLemmas.{IsSteady}
@@ -90,7 +86,7 @@ none-in (suc n) (suc p) x e = none-in n p x e
 pub stood-before : {K V I : Type 0} (old new : CoreView K V I) → RelocationsStay old new → (p : ℕ) (x : Relocation K V) → slice_get new.contexts p ≡ Some (Some (Relocating x)) → slice_get old.contexts p ≡ Some (Some (Relocating x))
 stood-before {K} {V} {I} old new stay p x h =
     joined-some (slice_get old.contexts p) (Relocating x)
-    (relocation-is (joined (slice_get old.contexts p)) x (sym (stay p) ∙ ap (λ (o : Option (Option (Open K V I))). relocating (joined o)) h))
+    (relocation-is (joined (slice_get old.contexts p)) x (sym (stay p) ∙ ap (λ (o : Option (Option (OpenWork K V I))). relocating (joined o)) h))
 
 module _ {K V I : Type 0} (keeps : Bool) (cmp : K → K → Ordering) (join : V → V → V) (code : K → ℕ) where
   -- ---- an event of the partition
@@ -188,7 +184,7 @@ module _ {K V I : Type 0} (keeps : Bool) (cmp : K → K → Ordering) (join : V 
       keep-event v new i t st b steady.number steady.count (let begun = i.begun in let begin = steady.begin in omega arith) (stood-before v.core new stay)
 
   -- ---- a relocation begins, goes on or ends
-  stage-moment : (v : CoreView K V I) (contexts : List (Option (Open K V I))) (now place : ℕ) (stage : Stage K V) → StageStands keeps cmp join code v place stage → StageStands keeps cmp join code (record v { contexts = contexts; moment = now }) place stage
+  stage-moment : (v : CoreView K V I) (contexts : List (Option (OpenWork K V I))) (now place : ℕ) (stage : Stage K V) → StageStands keeps cmp join code v place stage → StageStands keeps cmp join code (record v { contexts = contexts; moment = now }) place stage
   stage-moment v contexts now place Fresh h = tt
   stage-moment v contexts now place (Reading begin) h = h
   stage-moment v contexts now place (Tracing entry l) h = h
@@ -204,7 +200,7 @@ module _ {K V I : Type 0} (keeps : Bool) (cmp : K → K → Ordering) (join : V 
   higher-stands : (v : PartitionView K V I) (cleared : ℕ) → Rises v cleared → (x : Relocation K V) → RelocationStands keeps cmp join code v.core v.cleared x → RelocationStands keeps cmp join code v.core cleared x
   higher-stands v cleared r x h = record { place = h.place; frozen = h.frozen; issued = (let up = r.higher in let issued = h.issued in omega arith); stage = h.stage }
 
-  pub keep-changed : (v : PartitionView K V I) (i now cleared : ℕ) (y : Option (Open K V I))
+  pub keep-changed : (v : PartitionView K V I) (i now cleared : ℕ) (y : Option (OpenWork K V I))
       → IsCompacting keeps cmp join code v
       → Rises v cleared
       → ((x : Relocation K V) → y ≡ Some (Relocating x) → RelocationStands keeps cmp join code v.core cleared x)
@@ -271,7 +267,7 @@ module _ {K V I : Type 0} (keeps : Bool) (cmp : K → K → Ordering) (join : V 
     low = omega arith;
     place = λ under. first;
     cleared = λ yes_keeps. subst (λ t. IsCleared cmp t 64) (sym entries) (λ e here low. absurd (cc));
-    stands = λ i x h. absurd (none-in 128 i (Relocating x) (ap (λ (cs : List (Option (Open K V I))). slice_get cs i) (sym contexts) ∙ h));
+    stands = λ i x h. absurd (none-in 128 i (Relocating x) (ap (λ (cs : List (Option (OpenWork K V I))). slice_get cs i) (sym contexts) ∙ h));
   }
 
 -- where an event is refused, nothing changed

@@ -4,7 +4,7 @@ use Rattle.std.specs.declared.cmp.Ordering.{Ordering}
 use Rattle.fkv_functions.specs.Plain.{IsKeyOrder}
 use Rattle.fkv_operations.specs.declared.classes.Class.{Class}
 use Rattle.fkv_operations.specs.Classes.{class_at}
-use Rattle.fkv_operations.specs.KeptWords.{IndexedText, IsLed, AreNext, after_last}
+use Rattle.fkv_operations.specs.KeptWords.{IndexedText, IsLed, ReuseNoAddress, after_last}
 use Rattle.fkv_lookups.specs.RecordsViews.{indexed}
 use Rattle.fkv_lookups.proofs.TracedLemmas.{traced-led}
 use Rattle.fkv_partition.specs.Grown.{ArePreserved}
@@ -29,7 +29,7 @@ module _ {K V I : Type 0} {keeps : Bool} (cmp : K → K → Ordering) (join : V 
       subst (λ n. IsLed cmp (class_of code p n) (indexed v.records)) at
       (subst (λ n. IsLed cmp (class_of code n v.records.bucket_bits) (indexed v.records)) is (traced-led cmp code v.records order s.traced))
 
-  pub are-next : (v : CoreView K V I) (vs : List (CoreView K V I)) → v.records.partition_bits ≡ p → v.records.bucket_bits ≡ b → ArePreserved keeps cmp join code v vs → AreNext cmp (class_of code p b) (indexed v.records) (indexed_all vs)
+  pub are-next : (v : CoreView K V I) (vs : List (CoreView K V I)) → v.records.partition_bits ≡ p → v.records.bucket_bits ≡ b → ArePreserved keeps cmp join code v vs → ReuseNoAddress cmp (class_of code p b) (indexed v.records) (indexed_all vs)
   are-next v [] is at h = tt
   are-next v (w ∷ ws) is at (borne, s, more) =
       let here = borne.grown.shape.partition_bits ∙ is in

@@ -15,10 +15,9 @@ use Rattle.fkv_device.specs.Failing.{ReadFailsBy}
 use Rattle.fkv_texts.specs.declared.entries.Entry.{Entry}
 use Rattle.fkv_texts.specs.declared.entries.ChainPosition.{ChainPosition}
 use Rattle.fkv_texts.specs.declared.entries.ChainPosition.TheVariants.{Below}
-use Rattle.fkv_texts.specs.Text.{has_key, newest, value_of}
-use Rattle.fkv_texts.specs.Chains.{IsIn}
-use Rattle.fkv_texts.specs.Deltas.{onto}
-use Rattle.fkv_lookups.specs.declared.gathered.Gathered.{Gathered}
+use Rattle.fkv_texts.specs.Text.{newest, value_of}
+use Rattle.fkv_texts.specs.Deltas.{onto, AreDeltasBetween}
+use Rattle.fkv_lookups.specs.declared.chain_results.ChainResult.{ChainResult}
 use Rattle.fkv_pages.specs.Views.{text_begin}
 use Rattle.fkv_pages.specs.Loads.{IsHeldBy, IsReached, first_place}
 use Rattle.fkv_pages.proofs.FrameLemmas.{page_rises}
@@ -26,7 +25,7 @@ use Rattle.fkv_operations.specs.After.{key_of, shown_of}
 use Rattle.fkv_operations.specs.declared.operations.KeyedOp.{KeyedOp}
 use Rattle.fkv_operations.specs.declared.operations.KeyedOp.TheVariants.{Read, Upsert, Rmw, Delete, Merge}
 use Rattle.fkv_lookups.specs.RecordsViews.{RecordsView}
-use Rattle.fkv_lookups.specs.Lookups.{IsOfClass, GoesOn, IsGathered, end_of}
+use Rattle.fkv_lookups.specs.Lookups.{IsOfClass, ComesTo, ComesToInPage, end_of}
 use Rattle.fkv_lookups.proofs.TracedLemmas.{from_first}
 use Rattle.fkv_lookups.proofs.LookupLemmas.{raw-traced, values_tell, between_tells, page_up}
 use Rattle.fkv_partition.specs.declared.contexts.Context.{Context}
@@ -54,10 +53,10 @@ loading-by keeps cmp join code r (Delete k) l h = absurd h
 loading-by keeps cmp join code r (Merge k i) l h = absurd h
 
 -- where the way goes on, a record of the key's class stands
-way-class : {K V : Type 0} (cmp : K → K → Ordering) (join : V → V → V) (code : K → ℕ) (v : RecordsView K V) (k : K) (low a : ℕ) (parts : Option V) (r : Gathered K V) → GoesOn cmp join code v k low a parts r → (b : ℕ) → r.position ≡ Below b → v.from ≤ b → IsOfClass code v k b
-way-class cmp join code v k low a parts r (GoesOn.found is stands high whole) b at begins = absurd (cc)
-way-class cmp join code v k low a parts r (GoesOn.below {b = c} under is class) b at begins = let same : c ≡ b = cc in subst (IsOfClass code v k) same (class (let s = same in omega arith))
-way-class cmp join code v k low a parts r (GoesOn.joins {d = d} is high part more) b at begins = way-class cmp join code v k low d.previous (onto join d.value parts) r more b at begins
+way-class : {K V : Type 0} (cmp : K → K → Ordering) (join : V → V → V) (code : K → ℕ) (v : RecordsView K V) (k : K) (low a : ℕ) (parts : Option V) (r : ChainResult K V) → ComesTo cmp join code v k low a parts r → (b : ℕ) → r.position ≡ Below b → v.from ≤ b → IsOfClass code v k b
+way-class cmp join code v k low a parts r (ComesTo.found is stands high whole) b at begins = absurd (cc)
+way-class cmp join code v k low a parts r (ComesTo.below {b = c} under is class) b at begins = let same : c ≡ b = cc in subst (IsOfClass code v k) same (class (let s = same in omega arith))
+way-class cmp join code v k low a parts r (ComesTo.joins {d = d} is high part more) b at begins = way-class cmp join code v k low d.previous (onto join d.value parts) r more b at begins
 
 abbrev out_of : {K V : Type 0} → ℕ → Result (ChainPosition K V) Refused
 out_of a = Ok (Below a)
@@ -73,37 +72,37 @@ reached-low entry cmp k bits low a b r (IsReached.found high e passes) is = absu
 reached-low entry cmp k bits low a b r (IsReached.on {e = e} high h no_key more) is = reached-low entry cmp k bits low e.previous b r more is
 
 -- where a look-up in a page leaves it
-abbrev pub left_of : {K V : Type 0} → Result (Gathered K V) Refused → Result (ChainPosition K V) Refused
+abbrev pub left_of : {K V : Type 0} → Result (ChainResult K V) Refused → Result (ChainPosition K V) Refused
 left_of (Ok g) = Ok g.position
 left_of (Err why) = Err why
 
-pub gathered-low : {K V : Type 0} (join : V → V → V) (entry : ℕ → Entry K V → Type 0) (cmp : K → K → Ordering) (k : K) (bits low a b : ℕ) (parts : Option V) (r : Result (Gathered K V) Refused) → IsGathered join entry cmp k bits low a parts r → left_of r ≡ Ok (Below b) → b < low
-gathered-low join entry cmp k bits low a b parts r (IsGathered.refused way) is = absurd (cc)
-gathered-low {K} {V} join entry cmp k bits low a b parts r (IsGathered.below {b = c} way) is = reached-low entry cmp k bits low a b (Ok (Below c)) way is
-gathered-low join entry cmp k bits low a b parts r (IsGathered.found way whole) is = absurd (cc)
-gathered-low join entry cmp k bits low a b parts r (IsGathered.joins {d = d} way part more) is = gathered-low join entry cmp k bits low d.previous b (onto join d.value parts) r more is
+pub gathered-low : {K V : Type 0} (join : V → V → V) (entry : ℕ → Entry K V → Type 0) (cmp : K → K → Ordering) (k : K) (bits low a b : ℕ) (parts : Option V) (r : Result (ChainResult K V) Refused) → ComesToInPage join entry cmp k bits low a parts r → left_of r ≡ Ok (Below b) → b < low
+gathered-low join entry cmp k bits low a b parts r (ComesToInPage.refused way) is = absurd (cc)
+gathered-low {K} {V} join entry cmp k bits low a b parts r (ComesToInPage.below {b = c} way) is = reached-low entry cmp k bits low a b (Ok (Below c)) way is
+gathered-low join entry cmp k bits low a b parts r (ComesToInPage.found way whole) is = absurd (cc)
+gathered-low join entry cmp k bits low a b parts r (ComesToInPage.joins {d = d} way part more) is = gathered-low join entry cmp k bits low d.previous b (onto join d.value parts) r more is
 
 -- what the page that came says
 pub record Came {K V I : Type 0} (keeps : Bool) (entry : ℕ → List ℕ → ℕ → Entry K V → Type 0) (cmp : K → K → Ordering) (join : V → V → V) (code : K → ℕ) (v : CoreView K V I) (key : K) (wanted : ℕ) (parts : Option V) (st : Standing) (bytes : List ℕ)
-    (result : Result (Gathered K V) Refused) : Type 0 where
+    (result : Result (ChainResult K V) Refused) : Type 0 where
   pub own : IsHeldBy v.records.receipts (page_at v.records.page_bits wanted) st
-  pub reads : IsGathered join (entry v.records.page_bits bytes) cmp key v.records.page_bits (first_place v.records.page_bits (page_at v.records.page_bits wanted)) wanted parts result
+  pub reads : ComesToInPage join (entry v.records.page_bits bytes) cmp key v.records.page_bits (first_place v.records.page_bits (page_at v.records.page_bits wanted)) wanted parts result
   pub kept : IsTrue keeps
       → v.records.begin ≤ wanted
       → IsOfClass code v.records key wanted
-      → (r : Gathered K V) × (result ≡ Ok r) × GoesOn cmp join code v.records key (first_place v.records.page_bits (page_at v.records.page_bits wanted)) wanted parts r
+      → (r : ChainResult K V) × (result ≡ Ok r) × ComesTo cmp join code v.records key (first_place v.records.page_bits (page_at v.records.page_bits wanted)) wanted parts r
 
-pub came-of : {K V I : Type 0} (keeps : Bool) (entry : ℕ → List ℕ → ℕ → Entry K V → Type 0) (cmp : K → K → Ordering) (join : V → V → V) (code : K → ℕ) (u v : CoreView K V I) (key k : K) (page low wanted : ℕ) (parts : Option V) (st : Standing) (bytes : List ℕ) (result : Result (Gathered K V) Refused)
+pub came-of : {K V I : Type 0} (keeps : Bool) (entry : ℕ → List ℕ → ℕ → Entry K V → Type 0) (cmp : K → K → Ordering) (join : V → V → V) (code : K → ℕ) (u v : CoreView K V I) (key k : K) (page low wanted : ℕ) (parts : Option V) (st : Standing) (bytes : List ℕ) (result : Result (ChainResult K V) Refused)
     → u ≡ v
     → key ≡ k
     → page ≡ page_at u.records.page_bits wanted
     → low ≡ first_place u.records.page_bits page
     → IsHeldBy v.records.receipts (page_at v.records.page_bits wanted) st
-    → IsGathered join (entry u.records.page_bits bytes) cmp key u.records.page_bits low wanted parts result
+    → ComesToInPage join (entry u.records.page_bits bytes) cmp key u.records.page_bits low wanted parts result
     → (IsTrue keeps
     → u.records.begin ≤ wanted
     → IsOfClass code u.records key wanted
-    → (r : Gathered K V) × (result ≡ Ok r) × GoesOn cmp join code u.records key low wanted parts r)
+    → (r : ChainResult K V) × (result ≡ Ok r) × ComesTo cmp join code u.records key low wanted parts r)
     → Came keeps entry cmp join code v k wanted parts st bytes result
 came-of keeps entry cmp join code u v key k page low wanted parts st bytes result same key_is page_is low_is held reads kept =
     let own = subst (λ (w : CoreView _ _ _). IsHeldBy w.records.receipts (page_at w.records.page_bits wanted) st) (sym same) held in
@@ -143,24 +142,24 @@ module _ {K V I : Type 0} {keeps : Bool} (cmp : K → K → Ordering) (join : V 
   floor-up : IsTrue keeps → v.records.from ≤ floor
   floor-up yes_keeps = page_up v.records floor l.wanted s.traced yes_keeps begun (omega arith)
 
-  module _ (entry : ℕ → List ℕ → ℕ → Entry K V → Type 0) (st : Standing) (bytes : List ℕ) (result : Result (Gathered K V) Refused) (came : Came keeps entry cmp join code v (key_of x.op) l.wanted l.parts st bytes result) where
-    pub reads-on : (r : Result (Gathered K V) Refused) → result ≡ r → ReadsOn entry cmp join v slot c x l st bytes r
-    reads-on r is = record { awaits = a; own = came.own; reads = subst (λ q. IsGathered join (entry v.records.page_bits bytes) cmp (key_of x.op) v.records.page_bits floor l.wanted l.parts q) is came.reads }
+  module _ (entry : ℕ → List ℕ → ℕ → Entry K V → Type 0) (st : Standing) (bytes : List ℕ) (result : Result (ChainResult K V) Refused) (came : Came keeps entry cmp join code v (key_of x.op) l.wanted l.parts st bytes result) where
+    pub reads-on : (r : Result (ChainResult K V) Refused) → result ≡ r → ReadsOn entry cmp join v slot c x l st bytes r
+    reads-on r is = record { awaits = a; own = came.own; reads = subst (λ q. ComesToInPage join (entry v.records.page_bits bytes) cmp (key_of x.op) v.records.page_bits floor l.wanted l.parts q) is came.reads }
 
     class-at : IsTrue keeps → IsOfClass code v.records (key_of x.op) l.wanted
-    class-at yes_keeps = loading-at.class yes_keeps a.begin (text-begins yes_keeps)
+    class-at yes_keeps = (loading-at.leads yes_keeps a.begin).class (text-begins yes_keeps)
 
-    goes : IsTrue keeps → (r : Gathered K V) → result ≡ Ok r → GoesOn cmp join code v.records (key_of x.op) floor l.wanted l.parts r
+    goes : IsTrue keeps → (r : ChainResult K V) → result ≡ Ok r → ComesTo cmp join code v.records (key_of x.op) floor l.wanted l.parts r
     goes yes_keeps r is =
         let k = came.kept yes_keeps begun (class-at yes_keeps) in
         let both : Ok k.0 ≡ Ok r = sym k.1 ∙ is in
         let same : k.0 ≡ r = cc in
-        subst (GoesOn cmp join code v.records (key_of x.op) floor l.wanted l.parts) same k.2
+        subst (ComesTo cmp join code v.records (key_of x.op) floor l.wanted l.parts) same k.2
 
     -- what the key has from where the entry led, by where the look-up stands
-    pub newest-at : IsTrue keeps → (r : Gathered K V) → result ≡ Ok r → value_of (newest cmp v.records.text (key_of x.op) (address_of l.kept.word)) ≡ onto join (end_of cmp v.records (key_of x.op) r.position) r.parts
+    pub newest-at : IsTrue keeps → (r : ChainResult K V) → result ≡ Ok r → value_of (newest cmp v.records.text (key_of x.op) (address_of l.kept.word)) ≡ onto join (end_of cmp v.records (key_of x.op) r.position) r.parts
     newest-at yes_keeps r is =
-        loading-at.newest yes_keeps a.begin
+        (loading-at.leads yes_keeps a.begin).newest
         ∙ values_tell cmp join code v.records (key_of x.op) order s.traced s.stood floor l.wanted l.parts r (goes yes_keeps r is)
 
     -- below Begin the key has nothing
@@ -169,15 +168,15 @@ module _ {K V I : Type 0} {keeps : Bool} (cmp : K → K → Ordering) (join : V 
         let from = from_first s.traced in
         ap value_of (newest-under cmp v.records (key_of x.op) b s.traced (omega arith))
 
-    told-at : (r : Gathered K V) (value : Option V) → Tells join v.records.begin r value → onto join (end_of cmp v.records (key_of x.op) r.position) r.parts ≡ value
+    told-at : (r : ChainResult K V) (value : Option V) → Tells join v.records.begin r value → onto join (end_of cmp v.records (key_of x.op) r.position) r.parts ≡ value
     told-at r value (found e parts) = refl
     told-at r value (ended b parts under) = ap (λ o. onto join o parts) (nothing-below b under)
 
     -- the value that is told is what the key has from where the entry led
-    pub newest-told : IsTrue keeps → (r : Gathered K V) (value : Option V) → result ≡ Ok r → Tells join v.records.begin r value → value_of (newest cmp v.records.text (key_of x.op) (address_of l.kept.word)) ≡ value
+    pub newest-told : IsTrue keeps → (r : ChainResult K V) (value : Option V) → result ≡ Ok r → Tells join v.records.begin r value → value_of (newest cmp v.records.text (key_of x.op) (address_of l.kept.word)) ≡ value
     newest-told yes_keeps r value is tells = newest-at yes_keeps r is ∙ told-at r value tells
 
-    pub kept-told : (r : Gathered K V) (value : Option V) → result ≡ Ok r → Tells join v.records.begin r value → IsKept keeps cmp code v.records (key_of x.op) l.kept value
+    pub kept-told : (r : ChainResult K V) (value : Option V) → result ≡ Ok r → Tells join v.records.begin r value → IsKept keeps cmp code v.records (key_of x.op) l.kept value
     kept-told r value is tells =
         let h = loading-at in
         record {
@@ -185,7 +184,7 @@ module _ {K V I : Type 0} {keeps : Bool} (cmp : K → K → Ordering) (join : V 
           low = h.low;
           value = λ yes_keeps here. newest-told yes_keeps r value is tells;
           nowhere = λ yes_keeps none. sym (newest-told yes_keeps r value is tells) ∙ ap value_of (newest-nowhere cmp v.records (key_of x.op) (address_of l.kept.word) s.traced none);
-          still = λ yes_keeps here. h.still yes_keeps a.begin;
+          still = λ yes_keeps here. (h.leads yes_keeps a.begin).still;
         }
 
     -- the way goes on in a lower page
@@ -204,9 +203,9 @@ module _ {K V I : Type 0} {keeps : Bool} (cmp : K → K → Ordering) (join : V 
       pub further-flushed : page_at v.records.page_bits b < length v.records.receipts
       further-flushed = let low = lower in let top = wanted-flushed in omega arith
 
-      further-between : IsTrue keeps → (e : Entry K V) → IsIn v.records.entries e → has_key cmp (key_of x.op) e ≡ true → b < e.address → e.address ≤ address_of l.kept.word → e.delta ≡ true
+      further-between : IsTrue keeps → AreDeltasBetween cmp v.records.entries (key_of x.op) b (address_of l.kept.word)
       further-between yes_keeps e m own above under = elim (cases_lt l.wanted e.address) [
-        | inl past ↦ loading-at.between yes_keeps a.begin e m own past under
+        | inl past ↦ (loading-at.leads yes_keeps a.begin).between e m own past under
         | inr within ↦ between_tells cmp code v.records (key_of x.op) order (raw-traced cmp join v.records s.stood.is s.traced) join floor l.wanted l.parts (record { parts = parts; position = Below b }) (goes yes_keeps _ is) e m own within above
       ]
 
@@ -221,10 +220,12 @@ module _ {K V I : Type 0} {keeps : Bool} (cmp : K → K → Ordering) (join : V 
             begun = (let same = a.begin in omega arith);
             past = h.past;
             on_disk = omega arith;
-            class = λ yes_keeps same begins. way-class cmp join code v.records (key_of x.op) floor l.wanted l.parts _ (goes yes_keeps _ is) b refl begins;
-            newest = λ yes_keeps same. newest-at yes_keeps (record { parts = parts; position = Below b }) is;
-            still = h.still;
-            between = λ yes_keeps same. further-between yes_keeps;
+            leads = λ yes_keeps same. record {
+              class = λ begins. way-class cmp join code v.records (key_of x.op) floor l.wanted l.parts _ (goes yes_keeps _ is) b refl begins;
+              still = (h.leads yes_keeps same).still;
+              newest = newest-at yes_keeps (record { parts = parts; position = Below b }) is;
+              between = further-between yes_keeps;
+            };
           }
 
 -- the receipt that is kept of a page that was read by another

@@ -1,5 +1,5 @@
 -- What events of a relocation leave, where its context alone is set, and where its place is cleared.
-use Rattle.std.proofs.Common.{IsSome, ◌≡◌, ◌&&◌, ◌+◌, ◌*◌, ◌<◌, ◌≤◌, ℕ, Bool, true, false, cond, nat_le, nat_lt, List, Option, Some, None, option_map, slice_get, refl, sym, ap, subst, ◌∙◌, arith}
+use Rattle.std.proofs.Common.{IsSome, ◌≡◌, ◌&&◌, ◌+◌, ◌*◌, ◌<◌, ◌≤◌, ℕ, Bool, true, false, cond, nat_le, nat_lt, List, Option, Some, None, option_map, slice_get, refl, sym, ap, subst, arith}
 use Rattle.std.proofs.lemmas.Bool.Decides.{nat_tests}
 use Rattle.std.specs.declared.cmp.Ordering.{Ordering}
 use Rattle.fkv_records.specs.Places.{IsRecordStart}
@@ -11,8 +11,8 @@ use Rattle.fkv_partition.specs.CoreEffect.{asked_by}
 use Rattle.fkv_partition.specs.Pending.{pending_of, AllPend}
 use Rattle.fkv_partition.proofs.AskedLemmas.{moving_at, IsOpenAt, context-other, shown-stays, relocation-keyless, keyless-claims}
 use Rattle.fkv_partition.specs.CoreContexts.{joined, is_session, context_in, on_key, relocating, claim_at}
-use Rattle.fkv_partition.specs.declared.contexts.Open.{Open}
-use Rattle.fkv_partition.specs.declared.contexts.Open.TheVariants.{Relocating}
+use Rattle.fkv_partition.specs.declared.contexts.OpenWork.{OpenWork}
+use Rattle.fkv_partition.specs.declared.contexts.OpenWork.TheVariants.{Relocating}
 use Rattle.fkv_partition.specs.declared.relocations.Relocation.{Relocation}
 use Rattle.fkv_partition.specs.Views.{PartitionView, relocation_at, with_relocation, done_at, place_behind, cleared_past}
 use Rattle.fkv_partition.specs.Stages.{RelocationStands}
@@ -21,7 +21,7 @@ use Rattle.fkv_partition.specs.Relocating.{IsRelocating}
 
 module _ {K V I : Type 0} (keeps : Bool) (cmp : K → K → Ordering) (v : PartitionView K V I) (slot c now : ℕ) (low : c < 8) (keyless : on_key (joined (slice_get v.core.contexts (slot * 8 + c))) ≡ None) where
   -- a context in which no operation on a key stands is set, and none stands there then
-  module _ (o : Option (Open K V I)) (still : on_key o ≡ None) where
+  module _ (o : Option (OpenWork K V I)) (still : on_key o ≡ None) where
     keys-same : (s d : ℕ) → context_at (with_open v.core slot c o now) s d ≡ context_at v.core s d
     keys-same s d = shown-stays on_key refl (slots_of v.core) v.core.contexts slot c s d o keyless still
 
@@ -55,7 +55,7 @@ module _ {K V I : Type 0} (keeps : Bool) (cmp : K → K → Ordering) (v : Parti
   is-done a up is = subst (λ (u : PartitionView K V I). IsRelocating keeps cmp v u slot c now) (sym is) (event-done a up)
 
 -- look-ups are to find what they were to find, whatever a context without an operation on a key is set to
-pub set-pends : {K V I : Type 0} (cmp : K → K → Ordering) (v : PartitionView K V I) (slot c now : ℕ) → on_key (joined (slice_get v.core.contexts (slot * 8 + c))) ≡ None → (o : Option (Open K V I)) → on_key o ≡ None
+pub set-pends : {K V I : Type 0} (cmp : K → K → Ordering) (v : PartitionView K V I) (slot c now : ℕ) → on_key (joined (slice_get v.core.contexts (slot * 8 + c))) ≡ None → (o : Option (OpenWork K V I)) → on_key o ≡ None
     → AllPend cmp v.core (with_open v.core slot c o now)
 set-pends cmp v slot c now keyless o still s d = ap (pending_of cmp v.core.records) (shown-stays on_key refl (slots_of v.core) v.core.contexts slot c s d o keyless still)
 
@@ -97,7 +97,7 @@ module _ {K V I : Type 0} (v : PartitionView K V I) (slot c : ℕ) (x : Relocati
 
   -- no operation on a key stands in its context
   pub keyless-here : on_key (joined (slice_get v.core.contexts (slot * 8 + c))) ≡ None
-  keyless-here = ap (λ (o : Option (Option (Open K V I))). on_key (joined o)) open-here.here
+  keyless-here = ap (λ (o : Option (Option (OpenWork K V I))). on_key (joined o)) open-here.here
 
   pub stands-here : {keeps : Bool} {cmp : K → K → Ordering} {join : V → V → V} {code : K → ℕ} → IsCompacting keeps cmp join code v → RelocationStands keeps cmp join code v.core v.cleared x
   stands-here s = s.stands (slot * 8 + c) x open-here.here

@@ -18,7 +18,7 @@ use Rattle.fkv_partition.specs.CoreLoading.{ReadsBy}
 use Rattle.fkv_partition.specs.Pending.{pending, OthersPend, AllPend}
 use Rattle.fkv_partition.specs.CoreViews.{CoreView, slots_of}
 use Rattle.fkv_partition.proofs.AskedLemmas.{context-inside}
-use Rattle.fkv_partition.specs.declared.contexts.Open.TheVariants.{Relocating}
+use Rattle.fkv_partition.specs.declared.contexts.OpenWork.TheVariants.{Relocating}
 use Rattle.fkv_partition.specs.declared.relocations.Relocation.{Relocation}
 use Rattle.fkv_partition.specs.declared.relocations.Stage.TheVariants.{Fresh}
 use Rattle.fkv_partition.specs.Beginning.{IssuesOnKey, Relocates, Drops}

@@ -20,7 +20,7 @@ use Rattle.fkv_partition.specs.declared.contexts.Phase.TheVariants.{Fresh, Prepa
 use Rattle.fkv_partition.specs.declared.contexts.Progress.{Progress}
 use Rattle.fkv_partition.specs.declared.contexts.Progress.TheVariants.{Done, Next, NeedsBuild, NeedsLoad}
 use Rattle.fkv_partition.specs.CoreContexts.{at_phase}
-use Rattle.fkv_partition.specs.CoreViews.{CoreView, slots_of, context_at, with_context}
+use Rattle.fkv_partition.specs.CoreViews.{CoreView, context_at, with_context}
 use Rattle.fkv_partition.specs.CoreEffect.{asked_by, LeavesOthers, IsLoaded}
 use Rattle.fkv_partition.specs.Pending.{pending_of, pending, OthersPend}
 use Rattle.fkv_partition.specs.CoreLoading.{AwaitsPage, MayLoad}

@@ -33,7 +33,7 @@ use Rattle.fkv_index.proofs.Written.{written_there, writes}
 use Rattle.fkv_index.proofs.Emptied.{sweeps}
 use Rattle.fkv_operations.specs.After.{key_of}
 use Rattle.fkv_operations.specs.Still.{IsStill}
-use Rattle.fkv_operations.specs.KeptWords.{IsNext}
+use Rattle.fkv_operations.specs.KeptWords.{ReusesNoAddress}
 use Rattle.fkv_operations.specs.declared.entries.IndexEntry.{IndexEntry}
 use Rattle.fkv_operations.specs.declared.operations.KeyedOp.{KeyedOp}
 use Rattle.fkv_operations.specs.declared.operations.Answer.{Answer}
@@ -200,7 +200,7 @@ module _ {K V I : Type 0} {keeps : Bool} (cmp : K → K → Ordering) (join : V 
       loading = λ k l was. loading-grown keeps cmp join code v.records r k l s.traced g was;
     });
     grown = subst (λ u. IsGrown keeps cmp v.records u) (sym is) h;
-    next = λ yes_keeps. subst (λ u. IsNext cmp (indexed v.records) (indexed u)) (sym is) (next-grown v.records r g yes_keeps);
+    next = λ yes_keeps. subst (λ u. ReusesNoAddress cmp (indexed v.records) (indexed u)) (sym is) (next-grown v.records r g yes_keeps);
   }
 
   pub borne-same : new.records ≡ v.records → IsPreserved keeps cmp join code v new
@@ -392,7 +392,7 @@ module _ {K V I : Type 0} {keeps : Bool} (cmp : K → K → Ordering) (join : V 
           loading = λ k l was. loading-cut cmp join code order v.records s.traced s.stood low due.higher (λ yes_keeps. clear yes_keeps due) text cut_at stood_at k l was;
         });
         grown = subst (λ u. IsGrown keeps cmp v.records u) (sym here) (know-cut cmp join code v.records s.traced low text due.higher (λ limit c. drops (text_begin keeps low v.records.regions.offsets.closed) limit c));
-        next = λ yes_keeps. subst (λ u. IsNext cmp (indexed v.records) (indexed u)) (sym here) (next-cut cmp join code order v.records s.traced s.stood low due.higher (λ yes. clear yes due) text cut_at stood_at yes_keeps);
+        next = λ yes_keeps. subst (λ u. ReusesNoAddress cmp (indexed v.records) (indexed u)) (sym here) (next-cut cmp join code order v.records s.traced s.stood low due.higher (λ yes. clear yes due) text cut_at stood_at yes_keeps);
       }
 
 -- a record is appended behind the entry of its class

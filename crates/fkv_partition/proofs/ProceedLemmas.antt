@@ -12,15 +12,14 @@ use Rattle.fkv_partition.specs.declared.contexts.Wait.TheVariants.{Full}
 use Rattle.fkv_partition.specs.CoreContexts.{context_in, relocating}
 use Rattle.fkv_partition.specs.Pending.{AllPend}
 use Rattle.fkv_partition.specs.CoreViews.{slots_of}
-use Rattle.fkv_partition.specs.declared.contexts.Open.{Open}
-use Rattle.fkv_partition.specs.declared.contexts.Open.TheVariants.{Relocating}
+use Rattle.fkv_partition.specs.declared.contexts.OpenWork.{OpenWork}
+use Rattle.fkv_partition.specs.declared.contexts.OpenWork.TheVariants.{Relocating}
 use Rattle.fkv_partition.specs.declared.relocations.Relocation.{Relocation}
 use Rattle.fkv_partition.specs.declared.relocations.Stage.TheVariants.{Fresh}
 use Rattle.fkv_partition.specs.Effect.{IsGiveUp}
 use Rattle.fkv_partition.specs.Checking.{Ends, Asks, ChecksLiveness, renewed}
 use Rattle.fkv_partition.specs.Going.{GoesOn}
 use Rattle.fkv_partition.specs.Reading.{LoadsOn}
-use Rattle.fkv_partition.specs.Sound.{IsCompacting}
 use Rattle.fkv_partition.specs.Views.{PartitionView, relocation_at, with_relocation, at_stage}
 use Rattle.fkv_partition.proofs.EffectLemmas.{Proceeds, set-here, dropped-event}
 use Rattle.fkv_partition.proofs.MoveLemmas.{event-set, open-here, keyless-here, dropped-pends}
@@ -41,7 +40,7 @@ module _ {K V I : Type 0} (old new : PartitionView K V I) (slot c now : ℕ) (x 
   set-then y v is slots set =
       ap (λ (w : PartitionView K V I). relocation_at w slot c) is
       ∙ ap (λ s. relocating (context_in s v.core.contexts slot c)) slots
-      ∙ ap (λ (cs : List (Option (Open K V I))). relocating (context_in (slots_of old.core) cs slot c)) set
+      ∙ ap (λ (cs : List (Option (OpenWork K V I))). relocating (context_in (slots_of old.core) cs slot c)) set
       ∙ set-here old slot c now x h y
 
   module _ {O R : Type 0} (progress : Progress K V I O R) where

@@ -1,6 +1,5 @@
 -- What events leave of the contexts in which nothing is open, and of the slots at which a session is entered.
-use Rattle.std.proofs.Common.{◌≡◌, ◌≢◌, ◌+◌, ◌*◌, inl, inr, true, ℕ, zero, suc, Bool, List, [], ◌∷◌, Option, Some, None, option_map, is_some, slice_get, slice_set, Result, refl, sym, ◌∙◌, ap}
-use Rattle.std.proofs.lemmas.Bool.{cases_eq}
+use Rattle.std.proofs.Common.{◌≡◌, ◌≢◌, ◌+◌, ◌*◌, true, ℕ, Bool, List, Option, Some, None, option_map, is_some, slice_get, slice_set, Result, refl, sym, ◌∙◌, ap}
 use Rattle.std.specs.Option.{option_flatten}
 use Rattle.std.specs.declared.cmp.Ordering.{Ordering}
 use Rattle.fkv_functions.specs.Meanings.{Meanings}
@@ -12,10 +11,9 @@ use Rattle.fkv_regions.specs.RegionsView.{RegionsView}
 use Rattle.fkv_texts.specs.declared.entries.Entry.{Entry}
 use Rattle.fkv_operations.specs.declared.operations.KeyedOp.{KeyedOp}
 use Rattle.fkv_lookups.specs.RecordsViews.{RecordsView}
-use Rattle.fkv_partition.specs.declared.changes.Write.{Write}
 use Rattle.fkv_partition.specs.declared.contexts.Context.{Context}
-use Rattle.fkv_partition.specs.declared.contexts.Open.{Open}
-use Rattle.fkv_partition.specs.declared.contexts.Open.TheVariants.{OnKey}
+use Rattle.fkv_partition.specs.declared.contexts.OpenWork.{OpenWork}
+use Rattle.fkv_partition.specs.declared.contexts.OpenWork.TheVariants.{OnKey}
 use Rattle.fkv_partition.specs.declared.contexts.Phase.TheVariants.{Fresh}
 use Rattle.fkv_partition.specs.declared.contexts.Progress.{Progress}
 use Rattle.fkv_partition.specs.CoreContexts.{joined, is_session, relocating}
@@ -28,7 +26,7 @@ use Rattle.fkv_partition.specs.CoreFlushing.{Flushes}
 use Rattle.fkv_partition.specs.CoreLoading.{Loads}
 use Rattle.fkv_partition.specs.CoreTruncating.{Truncates}
 use Rattle.fkv_partition.specs.Grown.{RelocationsStay, AllStay}
-use Rattle.fkv_partition.specs.CoreViews.{CoreView, slots_of, context_at, with_payload, MovesTo}
+use Rattle.fkv_partition.specs.CoreViews.{CoreView, slots_of, context_at, MovesTo}
 use Rattle.fkv_partition.proofs.AskedLemmas.{key_at, context-inside, shown-set, key-moves_nothing, renewed-stays}
 
 -- relocations stay, and no session goes
@@ -40,7 +38,7 @@ module _ {K V I : Type 0} (v new : CoreView K V I) where
   all-stay slots s h = ap (λ l. is_session l s) slots ∙ h
 
   none-moves : new.contexts ≡ v.contexts → RelocationsStay v new
-  none-moves contexts p = ap (λ (l : List (Option (Open K V I))). relocating (joined (slice_get l p))) contexts
+  none-moves contexts p = ap (λ (l : List (Option (OpenWork K V I))). relocating (joined (slice_get l p))) contexts
 
   seats-same : new.contexts ≡ v.contexts → slots_of new ≡ slots_of v → Seats v new
   seats-same contexts slots = (none-moves contexts, all-stay slots)
@@ -48,15 +46,15 @@ module _ {K V I : Type 0} (v new : CoreView K V I) where
   -- a context in which no relocation stands is set to an operation on a key, or to nothing
   seats-set : (slot c : ℕ) (y : Option (Context K V I)) → relocating (joined (slice_get v.contexts (slot * 8 + c))) ≡ None → new.contexts ≡ slice_set v.contexts (slot * 8 + c) (option_map OnKey y) → slots_of new ≡ slots_of v → Seats v new
   seats-set slot c y none contexts slots = (
-    λ p. none-set p ∙ shown-set {A = Open K V I} relocating refl v.contexts (slot * 8 + c) p (option_map OnKey y) none (key-moves_nothing y),
+    λ p. none-set p ∙ shown-set {A = OpenWork K V I} relocating refl v.contexts (slot * 8 + c) p (option_map OnKey y) none (key-moves_nothing y),
     all-stay slots,
   )
     where
       none-set : (p : ℕ) → relocating (joined (slice_get new.contexts p)) ≡ relocating (joined (slice_get (slice_set v.contexts (slot * 8 + c) (option_map OnKey y)) p))
-      none-set p = ap (λ (l : List (Option (Open K V I))). relocating (joined (slice_get l p))) contexts
+      none-set p = ap (λ (l : List (Option (OpenWork K V I))). relocating (joined (slice_get l p))) contexts
 
   seats-changed : (slot c : ℕ) (x : Context K V I) (y : Option (Context K V I)) → context_at v slot c ≡ Some x → new.contexts ≡ slice_set v.contexts (slot * 8 + c) (option_map OnKey y) → slots_of new ≡ slots_of v → Seats v new
-  seats-changed slot c x y h = seats-set slot c y (ap (λ (o : Option (Option (Open K V I))). relocating (joined o)) (key_at (slots_of v) v.contexts slot c x h).here)
+  seats-changed slot c x y h = seats-set slot c y (ap (λ (o : Option (Option (OpenWork K V I))). relocating (joined o)) (key_at (slots_of v) v.contexts slot c x h).here)
 
   seats-as : new ≡ v → Seats v new
   seats-as is = seats-same (ap (λ (u : CoreView K V I). u.contexts) is) (ap (λ (u : CoreView K V I). slots_of u) is)
@@ -130,7 +128,7 @@ module _ {K V I : Type 0} (v new : CoreView K V I) where
     pub issues-seats : (code : K → ℕ) (op : KeyedOp K V I) → Issues code v new slot c op now → Seats v new
     issues-seats code op h =
         seats-set slot c (Some (record { number = now; op = op; phase = Fresh }))
-        (ap (λ (o : Option (Open K V I)). relocating o) (sym (context-inside (slots_of v) v.contexts slot c h.entered h.low) ∙ h.free))
+        (ap (λ (o : Option (OpenWork K V I)). relocating o) (sym (context-inside (slots_of v) v.contexts slot c h.entered h.low) ∙ h.free))
         (ap (λ (u : CoreView K V I). u.contexts) h.is) (ap (λ (u : CoreView K V I). slots_of u) h.is)
 
   pub enters-seats : (now : ℕ) (result : Result ℕ Refused) → Enters v new now result → Seats v new

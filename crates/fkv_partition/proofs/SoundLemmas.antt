@@ -28,8 +28,8 @@ use Rattle.fkv_operations.specs.Still.{IsStill}
 use Rattle.fkv_operations.specs.declared.entries.IndexEntry.{IndexEntry}
 use Rattle.fkv_partition.specs.declared.limits.Config.{Config}
 use Rattle.fkv_partition.specs.declared.contexts.Context.{Context}
-use Rattle.fkv_partition.specs.declared.contexts.Open.{Open}
-use Rattle.fkv_partition.specs.declared.contexts.Open.TheVariants.{OnKey, Relocating}
+use Rattle.fkv_partition.specs.declared.contexts.OpenWork.{OpenWork}
+use Rattle.fkv_partition.specs.declared.contexts.OpenWork.TheVariants.{OnKey, Relocating}
 use Rattle.fkv_partition.specs.declared.relocations.Relocation.{Relocation}
 use Rattle.fkv_partition.specs.declared.contexts.Phase.TheVariants.{Confirm}
 use Rattle.fkv_partition.specs.CoreContexts.{joined, is_session, at_phase, claim_by, claim_of, claim_at}
@@ -67,7 +67,7 @@ module _ {K V I : Type 0} {keeps : Bool} {cmp : K → K → Ordering} {join : V 
     housed = λ slot c x h e. absurd (none_in 128 (slot * 8 + c) x e);
   }
     where
-      none_in : (n p : ℕ) (x : Open K V I) → slice_get (replicate n None) p ≡ Some (Some x) → ⊥
+      none_in : (n p : ℕ) (x : OpenWork K V I) → slice_get (replicate n None) p ≡ Some (Some x) → ⊥
       none_in zero p x e = cc
       none_in (suc n) zero x e = cc
       none_in (suc n) (suc p) x e = none_in n p x e
@@ -86,7 +86,7 @@ module _ {K V I : Type 0} {keeps : Bool} {cmp : K → K → Ordering} {join : V 
         → IsTraced keeps code (with_regions v.records regions)
         → IsStood cmp join (with_regions v.records regions)
         → IsRaised v.records.regions.offsets regions.offsets
-        → ((t c : ℕ) (x : Open K V I) → c < 8 → slice_get v.contexts (t * 8 + c) ≡ Some (Some x) → is_session regions.epochs.slots t ≡ true)
+        → ((t c : ℕ) (x : OpenWork K V I) → c < 8 → slice_get v.contexts (t * 8 + c) ≡ Some (Some x) → is_session regions.epochs.slots t ≡ true)
         → IsSound keeps cmp join code (in_regions v regions now)
     sound-regions regions now traced stood up housed = record {
       own = s.own;
@@ -108,7 +108,7 @@ module _ {K V I : Type 0} {keeps : Bool} {cmp : K → K → Ordering} {join : V 
         → IsStood cmp join r
         → IsMoved keeps regions v.records r
         → IsRaised v.records.regions.offsets r.regions.offsets
-        → ((t c : ℕ) (x : Open K V I) → c < 8 → slice_get v.contexts (t * 8 + c) ≡ Some (Some x) → is_session r.regions.epochs.slots t ≡ true)
+        → ((t c : ℕ) (x : OpenWork K V I) → c < 8 → slice_get v.contexts (t * 8 + c) ≡ Some (Some x) → is_session r.regions.epochs.slots t ≡ true)
         → IsSound keeps cmp join code (record v { records = r; moment = now })
     sound-moved r regions now traced stood m up housed = record {
       own = s.own;
@@ -157,7 +157,7 @@ module _ {K V I : Type 0} {keeps : Bool} {cmp : K → K → Ordering} {join : V 
       pub low : c < 8
 
     -- what is asked of records that take the place of others, where a context is set
-    pub record Suits (r : RecordsView K V) (slot c : ℕ) (y : Option (Open K V I)) : Type 0 where
+    pub record Suits (r : RecordsView K V) (slot c : ℕ) (y : Option (OpenWork K V I)) : Type 0 where
       pub traced : IsTraced keeps code r
       pub stood : IsStood cmp join r
       pub bits : r.partition_bits ≡ v.records.partition_bits
@@ -167,8 +167,8 @@ module _ {K V I : Type 0} {keeps : Bool} {cmp : K → K → Ordering} {join : V 
       pub owned : AreOwned r.words (slice_set v.contexts (slot * 8 + c) y)
 
     -- a context is set, and the records change
-    pub sound-changed : (r : RecordsView K V) (slot c now : ℕ) (y : Option (Open K V I)) → Suits r slot c y
-        → ((z : Open K V I) → y ≡ Some z → Houses slot c)
+    pub sound-changed : (r : RecordsView K V) (slot c now : ℕ) (y : Option (OpenWork K V I)) → Suits r slot c y
+        → ((z : OpenWork K V I) → y ≡ Some z → Houses slot c)
         → ((x : Context K V I) → y ≡ Some (OnKey x) → Fits r x)
         → IsSound keeps cmp join code (record (with_open v slot c y now) { records = r })
     sound-changed r slot c now y suits houses fits = record {
@@ -200,14 +200,14 @@ module _ {K V I : Type 0} {keeps : Bool} {cmp : K → K → Ordering} {join : V 
       ];
     }
       where
-        new : (p : ℕ) (z : Open K V I) → p ≡ slot * 8 + c → slice_get (slice_set v.contexts (slot * 8 + c) y) p ≡ Some (Some z) → y ≡ Some z
+        new : (p : ℕ) (z : OpenWork K V I) → p ≡ slot * 8 + c → slice_get (slice_set v.contexts (slot * 8 + c) y) p ≡ Some (Some z) → y ≡ Some z
         new p z here h = elim (get-set_cases v.contexts (slot * 8 + c) p y (Some z) h) [
           | inl e ↦ e.1
           | inr o ↦ set-at v.contexts (slot * 8 + c) y z (ap (slice_get v.contexts) (sym here) ∙ o) (ap (slice_get (slice_set v.contexts (slot * 8 + c) y)) (sym here) ∙ h)
         ]
 
     -- nothing but a context is set, to one that claims nothing as the one before
-    same-records : (slot c : ℕ) (y : Option (Open K V I)) → claim_at v.contexts (slot * 8 + c) ≡ None → claim_of y ≡ None → Suits v.records slot c y
+    same-records : (slot c : ℕ) (y : Option (OpenWork K V I)) → claim_at v.contexts (slot * 8 + c) ≡ None → claim_of y ≡ None → Suits v.records slot c y
     same-records slot c y old quiet = record {
       traced = s.traced;
       stood = s.stood;
@@ -267,7 +267,7 @@ module _ {K V I : Type 0} {keeps : Bool} {cmp : K → K → Ordering} {join : V 
         }) (λ z e. houses) (λ y e. (let same : at_phase x (Confirm q) ≡ y = cc in subst (Fits r) same fits))
 
     -- and the operation that made it claims it no more
-    pub sound-settled : (r : RecordsView K V) (slot c now : ℕ) (x : Context K V I) (q : Place) (y : Option (Open K V I))
+    pub sound-settled : (r : RecordsView K V) (slot c now : ℕ) (x : Context K V I) (q : Place) (y : Option (OpenWork K V I))
         → IsTraced keeps code r
         → IsStood cmp join r
         → Grows keeps cmp join code v.records r
@@ -354,7 +354,7 @@ module _ {K V I : Type 0} {keeps : Bool} {cmp : K → K → Ordering} {join : V 
     sound-revalued now a value high traced stood kept =
         let long : length v.contexts ≤ 16 * 8 + 0 = omega (arith, s.places) in
         let past : slice_get v.contexts (16 * 8 + 0) ≡ None = slice_get_past v.contexts (16 * 8 + 0) long in
-        subst (λ (cs : List (Option (Open K V I))). IsSound keeps cmp join code (record v { contexts = cs; records = with_value v.records a value; moment = now }))
+        subst (λ (cs : List (Option (OpenWork K V I))). IsSound keeps cmp join code (record v { contexts = cs; records = with_value v.records a value; moment = now }))
         (set-past v.contexts (16 * 8 + 0) None long)
         (sound-replaced 16 0 now a value (ap (λ o. claim_of (joined o)) past) high traced stood kept)
 

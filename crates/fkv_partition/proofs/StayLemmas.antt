@@ -1,9 +1,8 @@
 -- What events leave of look-ups that wait for a page, and of frozen records.
 use Rattle.std.proofs.lemmas.Bool.{eqb-true}
-use Rattle.std.proofs.Common.{◌≡◌, ◌<◌, ◌+◌, ◌*◌, ◌⊎◌, ◌==◌, cond, true, false, ℕ, Bool, IsTrue, List, Option, Some, None, option_map, Result, Err, inl, inr, slice_set, refl, sym, ◌∙◌, ap}
+use Rattle.std.proofs.Common.{◌≡◌, ◌<◌, ◌⊎◌, ◌==◌, cond, true, false, ℕ, Bool, IsTrue, List, Option, Some, None, option_map, Result, Err, inl, inr, refl, sym, ◌∙◌, ap}
 use Rattle.std.specs.declared.cmp.Ordering.{Ordering}
 use Rattle.fkv_functions.specs.Meanings.{Meanings}
-use Rattle.fkv_functions.proofs.ListLemmas.{get-set_cases}
 use Rattle.fkv_functions.specs.declared.asks.Ask.{Ask}
 use Rattle.fkv_functions.specs.declared.refusals.Refused.{Refused}
 use Rattle.fkv_device.specs.Standing.{Standing, Joined}
@@ -23,13 +22,13 @@ use Rattle.fkv_lookups.specs.declared.payloads.Payload.{Payload}
 use Rattle.fkv_lookups.specs.declared.payloads.Payload.TheVariants.{Whole}
 use Rattle.fkv_lookups.specs.Payloads.{standing}
 use Rattle.fkv_partition.specs.declared.contexts.Context.{Context}
-use Rattle.fkv_partition.specs.declared.contexts.Open.{Open}
-use Rattle.fkv_partition.specs.declared.contexts.Open.TheVariants.{OnKey}
+use Rattle.fkv_partition.specs.declared.contexts.OpenWork.{OpenWork}
+use Rattle.fkv_partition.specs.declared.contexts.OpenWork.TheVariants.{OnKey}
 use Rattle.fkv_partition.specs.declared.contexts.Loading.{Loading}
 use Rattle.fkv_partition.specs.declared.contexts.Phase.{Phase}
 use Rattle.fkv_partition.specs.declared.contexts.Phase.TheVariants.{Fresh, Confirm, Prepared, Load}
 use Rattle.fkv_partition.specs.declared.contexts.Progress.{Progress}
-use Rattle.fkv_partition.specs.CoreContexts.{joined, context_in, on_key, at_phase}
+use Rattle.fkv_partition.specs.CoreContexts.{context_in, on_key, at_phase}
 use Rattle.fkv_partition.specs.CoreViews.{CoreView, slots_of, context_at, with_context, in_regions, live_of, MovesTo, held_at}
 use Rattle.fkv_partition.specs.CoreSound.{IsLoading, StandsFor, IsSound}
 use Rattle.fkv_partition.specs.CoreBeginning.{Enters, Issues}
@@ -43,7 +42,7 @@ use Rattle.fkv_partition.specs.CoreEffect.{asked_by, IsGiveUp}
 use Rattle.fkv_partition.specs.Frozen.{FrozenStay}
 use Rattle.fkv_partition.specs.Pending.{Pending, pending_by, pending_of, pending, OthersPend, AllPend}
 use Rattle.fkv_partition.proofs.AskedLemmas.{asked-same, context-apart, context-inside, shown-stays}
-use Rattle.fkv_partition.proofs.EventLemmas.{stands-at, refreshed-same, left-same, entered-same, same_or}
+use Rattle.fkv_partition.proofs.EventLemmas.{stands-at, refreshed-same, left-same, entered-same}
 use Rattle.fkv_partition.proofs.PendingLemmas.{others-pend, frame-of}
 
 -- what is to be found depends on Begin and the text alone
@@ -73,7 +72,7 @@ loads-same : {K V I : Type 0} {keeps : Bool} (cmp : K → K → Ordering) (join 
 loads-same cmp join code r s op l yes_keeps begin kept h = rw begin (by_begin (l.begin == r.begin) refl)
   where
     by_begin : (b : Bool) → (l.begin == r.begin) ≡ b → cond b (Some (found_by cmp s op l)) None ≡ cond b (Some (found_by cmp r op l)) None
-    by_begin true same = ap (λ o. Some (record { moment = l.looked; value = value_of o })) (kept (key_of op) (address_of l.kept.word) h.low (h.still yes_keeps (eqb-true l.begin r.begin same)))
+    by_begin true same = ap (λ o. Some (record { moment = l.looked; value = value_of o })) (kept (key_of op) (address_of l.kept.word) h.low (h.leads yes_keeps (eqb-true l.begin r.begin same)).still)
     by_begin false same = refl
 
 pending-kept : {K V I : Type 0} {keeps : Bool} (cmp : K → K → Ordering) (join : V → V → V) (code : K → ℕ) (r s : RecordsView K V) (op : KeyedOp K V I) (p : Phase V) → IsTrue keeps → s.begin ≡ r.begin → KeepsStill cmp r s → StandsFor keeps cmp join code r op p
@@ -208,8 +207,8 @@ enters-all cmp join code old new now result s (Enters.enters slot h is r) = λ t
 pub issues-all : {K V I : Type 0} (cmp : K → K → Ordering) (code : K → ℕ) (old new : CoreView K V I) (slot c : ℕ) (op : KeyedOp K V I) (now : ℕ) → Issues code old new slot c op now → AllPend cmp old new
 issues-all {K} {V} {I} cmp code old new slot c op now h = λ t d.
     ap (λ (w : CoreView K V I). pending cmp w t d) h.is
-    ∙ shown-stays (λ (o : Option (Open K V I)). pending_of cmp old.records (on_key o)) refl (slots_of old) old.contexts slot c t d (Some (OnKey (record { number = now; op = op; phase = Fresh })))
-    (ap (λ (o : Option (Open K V I)). pending_of cmp old.records (on_key o)) (sym (context-inside (slots_of old) old.contexts slot c h.entered h.low) ∙ h.free)) refl
+    ∙ shown-stays (λ (o : Option (OpenWork K V I)). pending_of cmp old.records (on_key o)) refl (slots_of old) old.contexts slot c t d (Some (OnKey (record { number = now; op = op; phase = Fresh })))
+    (ap (λ (o : Option (OpenWork K V I)). pending_of cmp old.records (on_key o)) (sym (context-inside (slots_of old) old.contexts slot c h.entered h.low) ∙ h.free)) refl
 
 -- ---- a page comes, or what came in its place
 module _ {K V I O R : Type 0} (stands : R → Standing) (entry : ℕ → List ℕ → ℕ → Entry K V → Type 0) (cmp : K → K → Ordering) (join : V → V → V) (f : Meanings K V I O) (old new : CoreView K V I) (slot c now : ℕ) (came : Result (Joined R) Refused) where

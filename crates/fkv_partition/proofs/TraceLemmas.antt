@@ -18,8 +18,8 @@ use Rattle.fkv_pages.specs.Loads.{IsHeldBy, first_place}
 use Rattle.fkv_pages.proofs.FrameLemmas.{page_rises}
 use Rattle.fkv_index.specs.Words.{address_of}
 use Rattle.fkv_index.specs.Places.{word_at}
-use Rattle.fkv_lookups.specs.declared.gathered.Gathered.{Gathered}
-use Rattle.fkv_lookups.specs.Lookups.{IsOfClass, GoesOn, IsGathered, end_of, at_of}
+use Rattle.fkv_lookups.specs.declared.chain_results.ChainResult.{ChainResult}
+use Rattle.fkv_lookups.specs.Lookups.{IsOfClass, ComesTo, ComesToInPage, end_of, at_of}
 use Rattle.fkv_lookups.specs.RecordsViews.{RecordsView, class_in}
 use Rattle.fkv_lookups.proofs.TracedLemmas.{raw, traced-raw, traced-held, entry-stands}
 use Rattle.fkv_lookups.proofs.LookupLemmas.{raw-traced, values_tell, between_tells}
@@ -45,26 +45,26 @@ use Rattle.fkv_partition.proofs.CheckingLemmas.{higher-left, higher-right, stand
 
 -- ---- what the page that came says
 pub record CameOf {K V : Type 0} (keeps : Bool) (entry : ℕ → List ℕ → ℕ → Entry K V → Type 0) (cmp : K → K → Ordering) (join : V → V → V) (code : K → ℕ) (r : RecordsView K V) (place : ℕ) (key : K) (l : Loading V) (st : Standing) (bytes : List ℕ)
-    (result : Result (Gathered K V) Refused) : Type 0 where
+    (result : Result (ChainResult K V) Refused) : Type 0 where
   pub own : IsHeldBy r.receipts (page_at r.page_bits l.wanted) st
-  pub reads : IsGathered join (entry r.page_bits bytes) cmp key r.page_bits (higher_of (place + 1) (first_place r.page_bits (page_at r.page_bits l.wanted))) l.wanted l.parts result
+  pub reads : ComesToInPage join (entry r.page_bits bytes) cmp key r.page_bits (higher_of (place + 1) (first_place r.page_bits (page_at r.page_bits l.wanted))) l.wanted l.parts result
   pub kept : IsTrue keeps
       → r.begin ≤ l.wanted
       → IsOfClass code r key l.wanted
-      → (q : Gathered K V) × (result ≡ Ok q) × GoesOn cmp join code r key (higher_of (place + 1) (first_place r.page_bits (page_at r.page_bits l.wanted))) l.wanted l.parts q
+      → (q : ChainResult K V) × (result ≡ Ok q) × ComesTo cmp join code r key (higher_of (place + 1) (first_place r.page_bits (page_at r.page_bits l.wanted))) l.wanted l.parts q
 
-pub page-came : {K V : Type 0} (keeps : Bool) (entry : ℕ → List ℕ → ℕ → Entry K V → Type 0) (cmp : K → K → Ordering) (join : V → V → V) (code : K → ℕ) (a d u v : RecordsView K V) (place : ℕ) (key : K) (page low : ℕ) (l : Loading V) (st : Standing) (bytes : List ℕ) (result : Result (Gathered K V) Refused)
+pub page-came : {K V : Type 0} (keeps : Bool) (entry : ℕ → List ℕ → ℕ → Entry K V → Type 0) (cmp : K → K → Ordering) (join : V → V → V) (code : K → ℕ) (a d u v : RecordsView K V) (place : ℕ) (key : K) (page low : ℕ) (l : Loading V) (st : Standing) (bytes : List ℕ) (result : Result (ChainResult K V) Refused)
     → a ≡ v
     → d ≡ v
     → u ≡ v
     → page ≡ page_at a.page_bits l.wanted
     → low ≡ higher_of (place + 1) (first_place d.page_bits page)
     → IsHeldBy v.receipts (page_at v.page_bits l.wanted) st
-    → IsGathered join (entry u.page_bits bytes) cmp key u.page_bits low l.wanted l.parts result
+    → ComesToInPage join (entry u.page_bits bytes) cmp key u.page_bits low l.wanted l.parts result
     → (IsTrue keeps
     → u.begin ≤ l.wanted
     → IsOfClass code u key l.wanted
-    → (r : Gathered K V) × (result ≡ Ok r) × GoesOn cmp join code u key low l.wanted l.parts r)
+    → (r : ChainResult K V) × (result ≡ Ok r) × ComesTo cmp join code u key low l.wanted l.parts r)
     → CameOf keeps entry cmp join code v place key l st bytes result
 page-came {K} {V} keeps entry cmp join code a d u v place key page low l st bytes result a_is d_is u_is page_is low_is held reads kept =
     let at : page ≡ page_at v.page_bits l.wanted = page_is ∙ ap (λ (w : RecordsView K V). page_at w.page_bits l.wanted) a_is in
@@ -72,8 +72,8 @@ page-came {K} {V} keeps entry cmp join code a d u v place key page low l st byte
     low_is ∙ ap (λ (w : RecordsView K V). higher_of (place + 1) (first_place w.page_bits page)) d_is ∙ ap (λ n. higher_of (place + 1) (first_place v.page_bits n)) at in
     record {
       own = held;
-      reads = rw floor at (subst (λ (w : RecordsView K V). IsGathered join (entry w.page_bits bytes) cmp key w.page_bits low l.wanted l.parts result) u_is reads);
-      kept = rw floor at (subst (λ (w : RecordsView K V). IsTrue keeps → w.begin ≤ l.wanted → IsOfClass code w key l.wanted → (r : Gathered K V) × (result ≡ Ok r) × GoesOn cmp join code w key low l.wanted l.parts r) u_is kept);
+      reads = rw floor at (subst (λ (w : RecordsView K V). ComesToInPage join (entry w.page_bits bytes) cmp key w.page_bits low l.wanted l.parts result) u_is reads);
+      kept = rw floor at (subst (λ (w : RecordsView K V). IsTrue keeps → w.begin ≤ l.wanted → IsOfClass code w key l.wanted → (r : ChainResult K V) × (result ≡ Ok r) × ComesTo cmp join code w key low l.wanted l.parts r) u_is kept);
     }
 
 module _ {K V I : Type 0} {keeps : Bool} (cmp : K → K → Ordering) (join : V → V → V) (code : K → ℕ) (order : IsKeyOrder cmp) (v : PartitionView K V I) (sound : IsSound keeps cmp join code v.core) (s : IsCompacting keeps cmp join code v) (slot c : ℕ) (x : Relocation K V) (e : Entry K V) (l : Loading V)
@@ -122,22 +122,22 @@ module _ {K V I : Type 0} {keeps : Bool} (cmp : K → K → Ordering) (join : V 
       by_test true h less = less
       by_test false h less = absurd (omega (arith, less, high))
 
-  module _ (entry : ℕ → List ℕ → ℕ → Entry K V → Type 0) (st : Standing) (bytes : List ℕ) (result : Result (Gathered K V) Refused) (came : CameOf keeps entry cmp join code v.core.records x.target e.key l st bytes result) where
+  module _ (entry : ℕ → List ℕ → ℕ → Entry K V → Type 0) (st : Standing) (bytes : List ℕ) (result : Result (ChainResult K V) Refused) (came : CameOf keeps entry cmp join code v.core.records x.target e.key l st bytes result) where
     pub has-page : HasPage v slot c x l.wanted st
     has-page = record { awaits = a; own = came.own }
 
-    pub traces-to : (r : Result (Gathered K V) Refused) → result ≡ r → TracesTo entry cmp join v x.target e.key l bytes r
+    pub traces-to : (r : Result (ChainResult K V) Refused) → result ≡ r → TracesTo entry cmp join v x.target e.key l bytes r
     traces-to r is = subst (λ q. TracesTo entry cmp join v x.target e.key l bytes q) is came.reads
 
-    goes : IsTrue keeps → (r : Gathered K V) → result ≡ Ok r → GoesOn cmp join code v.core.records e.key floor l.wanted l.parts r
+    goes : IsTrue keeps → (r : ChainResult K V) → result ≡ Ok r → ComesTo cmp join code v.core.records e.key floor l.wanted l.parts r
     goes yes_keeps r is =
-        let k = came.kept yes_keeps begun (tracing.loading.class yes_keeps begin-same (text-begins yes_keeps)) in
+        let k = came.kept yes_keeps begun ((tracing.loading.leads yes_keeps begin-same).class (text-begins yes_keeps)) in
         let both : Ok k.0 ≡ Ok r = sym k.1 ∙ is in
         let same : k.0 ≡ r = cc in
-        subst (GoesOn cmp join code v.core.records e.key floor l.wanted l.parts) same k.2
+        subst (ComesTo cmp join code v.core.records e.key floor l.wanted l.parts) same k.2
 
     -- a newer record of the key that is no delta was met: the record of the place is superseded
-    pub way-dead : (r : Gathered K V) → result ≡ Ok r → liveness x.target r ≡ Superseded → IsTrue keeps → (y : Entry K V) → entry_at v.core.records.entries x.target ≡ Some y → IsSuperseded cmp v.core.records.entries y
+    pub way-dead : (r : ChainResult K V) → result ≡ Ok r → liveness x.target r ≡ Superseded → IsTrue keeps → (y : Entry K V) → entry_at v.core.records.entries x.target ≡ Some y → IsSuperseded cmp v.core.records.entries y
     way-dead r is j yes_keeps y here =
         let own = is-own yes_keeps in
         let both : Some e ≡ Some y = sym own ∙ here in
@@ -146,20 +146,20 @@ module _ {K V I : Type 0} {keeps : Bool} (cmp : K → K → Ordering) (join : V 
         (met-dead cmp join code order v.core.records sound.traced sound.stood x.target e own floor l.wanted l.parts r (goes yes_keeps r is) j)
 
     -- what its key has from where the entry led, by where the way stands
-    led-value : IsTrue keeps → (r : Gathered K V) → result ≡ Ok r → value_of (newest cmp v.core.records.text e.key (address_of l.kept.word)) ≡ onto join (end_of cmp v.core.records e.key r.position) r.parts
+    led-value : IsTrue keeps → (r : ChainResult K V) → result ≡ Ok r → value_of (newest cmp v.core.records.text e.key (address_of l.kept.word)) ≡ onto join (end_of cmp v.core.records e.key r.position) r.parts
     led-value yes_keeps r is =
-        tracing.loading.newest yes_keeps begin-same
+        (tracing.loading.leads yes_keeps begin-same).newest
         ∙ values_tell cmp join code v.core.records e.key order sound.traced sound.stood floor l.wanted l.parts r (goes yes_keeps r is)
 
     -- the records of the key down to there are deltas
-    led-deltas : IsTrue keeps → (r : Gathered K V) → result ≡ Ok r → (d : Entry K V) → IsIn v.core.records.entries d → has_key cmp e.key d ≡ true → at_of r.position < d.address → d.address ≤ address_of l.kept.word → d.delta ≡ true
+    led-deltas : IsTrue keeps → (r : ChainResult K V) → result ≡ Ok r → (d : Entry K V) → IsIn v.core.records.entries d → has_key cmp e.key d ≡ true → at_of r.position < d.address → d.address ≤ address_of l.kept.word → d.delta ≡ true
     led-deltas yes_keeps r is d m own past low = elim (cases_lt l.wanted d.address) [
-      | inl high ↦ tracing.loading.between yes_keeps begin-same d m own high low
+      | inl high ↦ (tracing.loading.leads yes_keeps begin-same).between d m own high low
       | inr within ↦ between_tells cmp code v.core.records e.key order (raw-traced cmp join v.core.records sound.stood.is sound.traced) join floor l.wanted l.parts r (goes yes_keeps r is) d m own within past
     ]
 
     -- none was met above the place: its record is appended, joined with the parts of the deltas
-    module _ (r : Gathered K V) (parts : Option V) (is : result ≡ Ok r) (j : liveness x.target r ≡ Last parts) where
+    module _ (r : ChainResult K V) (parts : Option V) (is : result ≡ Ok r) (j : liveness x.target r ≡ Last parts) where
       ends-here : IsTrue keeps → (r.parts ≡ parts) × (r.position ≡ Below x.target)
       ends-here yes_keeps =
           let g = goes yes_keeps r is in
@@ -198,7 +198,7 @@ module _ {K V I : Type 0} {keeps : Bool} (cmp : K → K → Ordering) (join : V 
       way-last = (
         staged.0,
         ready-by cmp join code order v.core.records sound.traced x.target e parts l.kept tracing.here tracing.some tracing.loading.entry tracing.loading.low is-own last-value
-            (λ yes_keeps holds. tracing.loading.still yes_keeps begin-same)
+            (λ yes_keeps holds. (tracing.loading.leads yes_keeps begin-same).still)
             (λ yes_keeps none.
             let st = stands-in cmp order v.core.records.entries (rises cmp join v.core.records sound.stood sound.traced) x.target e (is-own yes_keeps) in
             let from = kept-from v.core.records sound.traced yes_keeps in
@@ -210,7 +210,7 @@ module _ {K V I : Type 0} {keeps : Bool} (cmp : K → K → Ordering) (join : V 
       )
 
     -- the way goes on above the place, in a lower page
-    module _ (r : Gathered K V) (b : ℕ) (parts : Option V) (is : result ≡ Ok r) (j : liveness x.target r ≡ Further b parts) where
+    module _ (r : ChainResult K V) (b : ℕ) (parts : Option V) (is : result ≡ Ok r) (j : liveness x.target r ≡ Further b parts) where
       further : (r.position ≡ Below b) × (x.target < b) × (r.parts ≡ parts)
       further = at-further x.target r.parts parts r.position b j
 
@@ -259,13 +259,15 @@ module _ {K V I : Type 0} {keeps : Bool} (cmp : K → K → Ordering) (join : V 
             begun = omega arith;
             past = h.past;
             on_disk = omega arith;
-            class = λ yes_keeps same begins. way-class cmp join code v.core.records e.key floor l.wanted l.parts r (goes yes_keeps r is) b further.0 begins;
-            newest = λ yes_keeps same.
-                led-value yes_keeps r is
-                ∙ ap (λ p. onto join (end_of cmp v.core.records e.key p) r.parts) further.0
-                ∙ ap (onto join (value_of (newest cmp v.core.records.text e.key b))) further.2;
-            still = h.still;
-            between = λ yes_keeps same d m own past low. led-deltas yes_keeps r is d m own (subst (λ n. n < d.address) (sym (ap at_of further.0)) past) low;
+            leads = λ yes_keeps same. record {
+              class = λ begins. way-class cmp join code v.core.records e.key floor l.wanted l.parts r (goes yes_keeps r is) b further.0 begins;
+              still = (h.leads yes_keeps same).still;
+              newest =
+                  led-value yes_keeps r is
+                  ∙ ap (λ p. onto join (end_of cmp v.core.records e.key p) r.parts) further.0
+                  ∙ ap (onto join (value_of (newest cmp v.core.records.text e.key b))) further.2;
+              between = λ d m own past low. led-deltas yes_keeps r is d m own (subst (λ n. n < d.address) (sym (ap at_of further.0)) past) low;
+            };
           }
 
       pub way-further : StageStands keeps cmp join code v.core x.target (Tracing e (record l { wanted = b; parts = parts }))

@@ -1,5 +1,5 @@
 -- What cutting the start of the log is told to do.
-use Rattle.std.proofs.Common.{◌≡◌, Bool, ℕ, ◌+◌, ◌*◌, ◌/◌, ◌^◌, ◌<◌, ◌≤◌, List, Option, Result, refl, sym, ap, subst, arith}
+use Rattle.std.proofs.Common.{◌≡◌, Bool, ℕ, ◌+◌, ◌*◌, ◌/◌, ◌^◌, ◌<◌, ◌≤◌, List, Result, sym, ap, subst, arith}
 use Rattle.std.proofs.lemmas.Nat.{div-add-mod', pow_pos, mul-le}
 use Rattle.std.proofs.Math.Nat.{mod-lt}
 use Rattle.std.specs.declared.cmp.Ordering.{Ordering}
@@ -8,11 +8,9 @@ use Rattle.fkv_records.specs.Places.{page_at, start_at}
 use Rattle.fkv_records.proofs.PlaceLemmas.{next_start}
 use Rattle.fkv_texts.specs.declared.entries.Entry.{Entry}
 use Rattle.fkv_texts.specs.Deltas.{IsCleared}
-use Rattle.fkv_partition.specs.CoreViews.{CoreView, slots_of}
+use Rattle.fkv_partition.specs.CoreViews.{CoreView}
 use Rattle.fkv_partition.specs.CoreTruncating as partition
-use Rattle.fkv_partition.specs.declared.relocations.Relocation.{Relocation}
-use Rattle.fkv_partition.specs.Views.{PartitionView, with_core, with_relocation}
-use Rattle.fkv_partition.specs.Relocating.{IsRelocating}
+use Rattle.fkv_partition.specs.Views.{PartitionView, with_core}
 use Rattle.fkv_partition.specs.Truncating.{Truncates}
 
 -- ---- the start of a page, and an address
@@ -35,13 +33,13 @@ cleared-below cmp text low limit le h = λ e here under. h e here (omega arith)
 
 -- ---- the log's start is cut
 -- what stays, and how far Begin rises
-pub record IsCut {K V I : Type 0} (old new : CoreView K V I) (limit : ℕ) : Type 0 where
+pub record CutLeaves {K V I : Type 0} (old new : CoreView K V I) (limit : ℕ) : Type 0 where
   pub number : new.number ≡ old.number
   pub count : new.count ≡ old.count
   pub begun : new.records.begin ≤ limit
 
 pub truncates-cut : {K V I : Type 0} (keeps : Bool) (old new : CoreView K V I) (page now limit : ℕ) (result : Result (Unit {0}) Refused) → old.records.begin ≤ limit → start_at old.records.page_bits page ≤ limit
-    → partition.Truncates keeps old new page now result → IsCut old new limit
+    → partition.Truncates keeps old new page now result → CutLeaves old new limit
 truncates-cut {K} {V} {I} keeps old new page now limit result low high (partition.Truncates.not_due n is r) = record {
   number = ap (λ (u : CoreView K V I). u.number) is;
   count = ap (λ (u : CoreView K V I). u.count) is;

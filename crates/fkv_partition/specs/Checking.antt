@@ -10,7 +10,7 @@ use Rattle.fkv_texts.specs.declared.entries.ChainPosition.{ChainPosition}
 use Rattle.fkv_texts.specs.declared.entries.ChainPosition.TheVariants.{Found, Below}
 use Rattle.fkv_texts.specs.Deltas.{onto}
 use Rattle.fkv_pages.specs.Loads.{IsHeldBy}
-use Rattle.fkv_lookups.specs.declared.gathered.Gathered.{Gathered}
+use Rattle.fkv_lookups.specs.declared.chain_results.ChainResult.{ChainResult}
 use Rattle.fkv_lookups.specs.Decisions.{low_of}
 use Rattle.fkv_index.specs.Places.{word_at}
 use Rattle.fkv_operations.specs.declared.entries.IndexEntry.{IndexEntry}
@@ -38,7 +38,7 @@ liveness_at place parts (Below b) = cond (nat_lt place b) (Further b parts) (Las
 -- what the way from the entry of a record's class, as far as it was followed above its place, tells of the record: a newer
 -- one of its key that is no delta was met; or none above the place, with these parts of deltas; or the way goes on above the
 -- place, at this address
-abbrev pub liveness : {K V : Type 0} → ℕ → Gathered K V → Liveness V
+abbrev pub liveness : {K V : Type 0} → ℕ → ChainResult K V → Liveness V
 liveness place g = liveness_at place g.parts g.position
 
 -- the lowest address to which the session at a slot follows that way in memory

@@ -8,7 +8,7 @@ use Rattle.fkv_operations.specs.After.{key_of}
 use Rattle.fkv_lookups.specs.RecordsViews.{RecordsView, class_in, Claims}
 use Rattle.fkv_operations.specs.declared.classes.Class.{Class}
 use Rattle.fkv_partition.specs.declared.contexts.Context.{Context}
-use Rattle.fkv_partition.specs.declared.contexts.Open.{Open}
+use Rattle.fkv_partition.specs.declared.contexts.OpenWork.{OpenWork}
 use Rattle.fkv_partition.specs.declared.contexts.Phase.TheVariants.{Confirm}
 use Rattle.fkv_partition.specs.CoreContexts.{claim_at, at_phase}
 use Rattle.fkv_partition.specs.CoreViews.{CoreView, with_context}
@@ -19,7 +19,7 @@ pub record IsClaimOf {K V : Type 0} (r : RecordsView K V) (c : Class) (p : Place
   pub word : word_at r.words p ≡ tentative_word c.tag
 
 -- the tentative words of an index and the operations that wait to confirm one belong to each other
-pub record AreOwned {K V I : Type 0} (words : List (List Word)) (contexts : List (Option (Open K V I))) : Type 0 where
+pub record AreOwned {K V I : Type 0} (words : List (List Word)) (contexts : List (Option (OpenWork K V I))) : Type 0 where
   pub tentative : (p : ℕ) (q : Place) → claim_at contexts p ≡ Some q → IsTrue (is_tentative (word_at words q))
   pub owner : (q : Place) → IsTrue (is_tentative (word_at words q)) → (p : ℕ) × (claim_at contexts p ≡ Some q)
   pub one : (p r : ℕ) (q : Place) → claim_at contexts p ≡ Some q → claim_at contexts r ≡ Some q → p ≡ r

@@ -1,4 +1,4 @@
--- Open operations by session and context.
+-- OpenWork operations by session and context.
 use Rattle.std.specs.Prelude.{Bool, cond, ◌&&◌, ◌+◌, ◌*◌, ℕ, List, Option, Some, None, nat_lt, slice_get, is_some}
 use Rattle.std.specs.Option.{option_flatten}
 use Rattle.fkv_functions.specs.declared.asks.Ask.{Ask}
@@ -7,8 +7,8 @@ use Rattle.fkv_operations.specs.declared.entries.IndexEntry.{IndexEntry}
 use Rattle.fkv_operations.specs.declared.operations.KeyedOp.{KeyedOp}
 use Rattle.fkv_operations.specs.declared.operations.KeyedOp.TheVariants.{Read, Upsert, Rmw, Delete, Merge}
 use Rattle.fkv_partition.specs.declared.contexts.Context.{Context}
-use Rattle.fkv_partition.specs.declared.contexts.Open.{Open}
-use Rattle.fkv_partition.specs.declared.contexts.Open.TheVariants.{OnKey, Relocating}
+use Rattle.fkv_partition.specs.declared.contexts.OpenWork.{OpenWork}
+use Rattle.fkv_partition.specs.declared.contexts.OpenWork.TheVariants.{OnKey, Relocating}
 use Rattle.fkv_partition.specs.declared.relocations.Relocation.{Relocation}
 use Rattle.fkv_partition.specs.declared.contexts.Phase.{Phase}
 use Rattle.fkv_partition.specs.declared.contexts.Phase.TheVariants.{Fresh, Confirm, Prepared, Load}
@@ -29,12 +29,12 @@ context_in slots contexts slot c =
     cond (is_session slots slot && nat_lt c 8) (joined (slice_get contexts (slot * 8 + c))) None
 
 -- of what is open in a context: the operation on a key, if it is one, and the relocation, if it is one
-abbrev pub on_key : {K V I : Type 0} → Option (Open K V I) → Option (Context K V I)
+abbrev pub on_key : {K V I : Type 0} → Option (OpenWork K V I) → Option (Context K V I)
 on_key None = None
 on_key (Some (OnKey x)) = Some x
 on_key (Some (Relocating x)) = None
 
-abbrev pub relocating : {K V I : Type 0} → Option (Open K V I) → Option (Relocation K V)
+abbrev pub relocating : {K V I : Type 0} → Option (OpenWork K V I) → Option (Relocation K V)
 relocating None = None
 relocating (Some (OnKey x)) = None
 relocating (Some (Relocating x)) = Some x
@@ -76,11 +76,11 @@ abbrev pub loading_of : {K V I : Type 0} → Option (Context K V I) → Option (
 loading_of None = None
 loading_of (Some x) = loading_by x.phase
 
-abbrev pub claim_of : {K V I : Type 0} → Option (Open K V I) → Option Place
+abbrev pub claim_of : {K V I : Type 0} → Option (OpenWork K V I) → Option Place
 claim_of None = None
 claim_of (Some (OnKey x)) = claim_by x.phase
 claim_of (Some (Relocating x)) = None
 
 -- the same of what stands at a place of a list of places
-abbrev pub claim_at : {K V I : Type 0} → List (Option (Open K V I)) → ℕ → Option Place
+abbrev pub claim_at : {K V I : Type 0} → List (Option (OpenWork K V I)) → ℕ → Option Place
 claim_at contexts p = claim_of (joined (slice_get contexts p))

@@ -1,10 +1,10 @@
 -- The fields behind a `CoreView`.
 use Rattle.std.specs.Prelude.{ℕ, Bool, List, Option}
 use Rattle.fkv_lookups.specs.RecordsViews.{RecordsView}
-use Rattle.fkv_partition.specs.declared.contexts.Open.{Open}
+use Rattle.fkv_partition.specs.declared.contexts.OpenWork.{OpenWork}
 use Rattle.fkv_partition.specs.CoreViews.{CoreView}
 
-abbrev pub view_of : {K V I : Type 0} → Bool → ℕ → ℕ → RecordsView K V → List (Option (Open K V I)) → ℕ → CoreView K V I
+abbrev pub view_of : {K V I : Type 0} → Bool → ℕ → ℕ → RecordsView K V → List (Option (OpenWork K V I)) → ℕ → CoreView K V I
 view_of merges number count records contexts moment = record {
   merges = merges;
   number = number;

@@ -13,8 +13,8 @@ use Rattle.fkv_texts.specs.declared.entries.Entry.{Entry}
 use Rattle.fkv_texts.specs.declared.entries.ChainPosition.TheVariants.{Found, Below}
 use Rattle.fkv_texts.specs.Deltas.{onto}
 use Rattle.fkv_pages.specs.Loads.{IsHeldBy, first_place}
-use Rattle.fkv_lookups.specs.declared.gathered.Gathered.{Gathered}
-use Rattle.fkv_lookups.specs.Lookups.{IsGathered}
+use Rattle.fkv_lookups.specs.declared.chain_results.ChainResult.{ChainResult}
+use Rattle.fkv_lookups.specs.Lookups.{ComesToInPage}
 use Rattle.fkv_operations.specs.After.{key_of, shown_of}
 use Rattle.fkv_operations.specs.declared.operations.KeyedOp.{KeyedOp}
 use Rattle.fkv_operations.specs.declared.operations.KeyedOp.TheVariants.{Read, Rmw}
@@ -28,7 +28,7 @@ use Rattle.fkv_partition.specs.CoreViews.{CoreView, context_at, with_context}
 
 -- what the records on the way tell of the key: the value of its first record that is no delta, or none at the end of the way,
 -- below Begin, joined with the parts of its deltas
-pub data Tells {K V : Type 0} (join : V → V → V) (begin : ℕ) : Gathered K V → Option V → Type 0 where
+pub data Tells {K V : Type 0} (join : V → V → V) (begin : ℕ) : ChainResult K V → Option V → Type 0 where
   found : (e : Entry K V) (parts : Option V)
       → Tells join begin (record { parts = parts; position = Found e }) (onto join e.value parts)
   ended : (b : ℕ) (parts : Option V) → b < begin → Tells join begin (record { parts = parts; position = Below b }) parts
@@ -48,17 +48,17 @@ pub record AwaitsPage {K V I : Type 0} (v : CoreView K V I) (slot c : ℕ) (x : 
 -- records that its bytes spell come to this. `entry` says when the bytes of a page spell an entry at an address.
 pub record ReadsOn {K V I : Type 0} (entry : ℕ → List ℕ → ℕ → Entry K V → Type 0) (cmp : K → K → Ordering)
     (join : V → V → V) (v : CoreView K V I) (slot c : ℕ) (x : Context K V I) (l : Loading V) (s : Standing)
-    (bytes : List ℕ) (reached : Result (Gathered K V) Refused) : Type 0 where
+    (bytes : List ℕ) (reached : Result (ChainResult K V) Refused) : Type 0 where
   pub awaits : AwaitsPage v slot c x l
   pub own : IsHeldBy v.records.receipts (page_at v.records.page_bits l.wanted) s
-  pub reads : IsGathered join (entry v.records.page_bits bytes) cmp (key_of x.op) v.records.page_bits
+  pub reads : ComesToInPage join (entry v.records.page_bits bytes) cmp (key_of x.op) v.records.page_bits
       (first_place v.records.page_bits (page_at v.records.page_bits l.wanted)) l.wanted l.parts reached
 
 -- what a page that came tells an operation of its key
 pub record IsTold {K V I R : Type 0} (stands : R → Standing) (entry : ℕ → List ℕ → ℕ → Entry K V → Type 0)
     (cmp : K → K → Ordering) (join : V → V → V) (v : CoreView K V I) (slot c : ℕ) (x : Context K V I) (l : Loading V)
     (p : Joined R) (value : Option V) : Type 0 where
-  pub reached : Gathered K V
+  pub reached : ChainResult K V
   pub reads : ReadsOn entry cmp join v slot c x l (stands p.receipt) p.bytes (Ok reached)
   pub tells : Tells join v.records.begin reached value
 

@@ -5,9 +5,8 @@
 use Rattle.std.specs.Prelude.{◌≡◌, Bool, IsTrue, true, ◌+◌, ◌*◌, ◌^◌, ◌<◌, ◌≤◌, ℕ, length, Option, Some, None, slice_get}
 use Rattle.std.specs.declared.cmp.Ordering.{Ordering}
 use Rattle.fkv_texts.specs.declared.entries.Entry.{Entry}
-use Rattle.fkv_texts.specs.Text.{has_key, newest, value_of}
-use Rattle.fkv_texts.specs.Chains.{IsIn}
-use Rattle.fkv_texts.specs.Deltas.{onto}
+use Rattle.fkv_texts.specs.Text.{newest, value_of}
+use Rattle.fkv_texts.specs.Deltas.{onto, AreDeltasBetween}
 use Rattle.fkv_index.specs.Words.{address_of}
 use Rattle.fkv_index.specs.Places.{word_at}
 use Rattle.fkv_operations.specs.After.{key_of, is_merge}
@@ -19,8 +18,8 @@ use Rattle.fkv_operations.specs.declared.entries.IndexEntry.{IndexEntry}
 use Rattle.fkv_operations.specs.declared.operations.KeyedOp.{KeyedOp}
 use Rattle.fkv_operations.specs.declared.operations.KeyedOp.TheVariants.{Read, Upsert, Rmw, Delete, Merge}
 use Rattle.fkv_partition.specs.declared.contexts.Context.{Context}
-use Rattle.fkv_partition.specs.declared.contexts.Open.{Open}
-use Rattle.fkv_partition.specs.declared.contexts.Open.TheVariants.{OnKey}
+use Rattle.fkv_partition.specs.declared.contexts.OpenWork.{OpenWork}
+use Rattle.fkv_partition.specs.declared.contexts.OpenWork.TheVariants.{OnKey}
 use Rattle.fkv_partition.specs.declared.contexts.Phase.{Phase}
 use Rattle.fkv_partition.specs.declared.contexts.Phase.TheVariants.{Fresh, Confirm, Prepared, Load}
 use Rattle.fkv_partition.specs.declared.contexts.Loading.{Loading}
@@ -44,10 +43,18 @@ pub record IsKept {K V : Type 0} (keeps : Bool) (cmp : K → K → Ordering) (co
       → IsStill r.regions.offsets.safe_read_only (newest cmp r.text k (address_of e.word))
   pub nowhere : IsTrue keeps → address_of e.word < 64 → source ≡ None
 
--- a look-up goes on in a page on disk, since Begin stood no higher than now. On a device that keeps, while Begin
--- stands, a record of the key's class stands at the address that is wanted; from where the entry led, the key's records
--- above that address are deltas, what the key has is what it has at that address, joined with the parts that were
--- collected, and nobody changes its newest record
+-- where a look-up goes on: a record of the key's class stands at the address that is wanted; from where the entry led, the
+-- key's records above that address are deltas, what the key has is what it has at that address, joined with the parts that
+-- were collected, and nobody changes its newest record
+pub record LeadsOn {K V : Type 0} (cmp : K → K → Ordering) (join : V → V → V) (code : K → ℕ) (r : RecordsView K V) (k : K)
+    (l : Loading V) : Type 0 where
+  pub class : r.from ≤ l.wanted → IsOfClass code r k l.wanted
+  pub still : IsStill r.regions.offsets.safe_read_only (newest cmp r.text k (address_of l.kept.word))
+  pub newest : value_of (newest cmp r.text k (address_of l.kept.word)) ≡ onto join (value_of (newest cmp r.text k l.wanted)) l.parts
+  pub between : AreDeltasBetween cmp r.entries k l.wanted (address_of l.kept.word)
+
+-- a look-up goes on in a page on disk, since Begin stood no higher than now: on a device that keeps, while Begin stands, at
+-- the address that is wanted
 pub record IsLoading {K V : Type 0} (keeps : Bool) (cmp : K → K → Ordering) (join : V → V → V) (code : K → ℕ)
     (r : RecordsView K V) (k : K) (l : Loading V) : Type 0 where
   pub entry : WasEntryOf r (class_in code r k) l.kept
@@ -55,21 +62,7 @@ pub record IsLoading {K V : Type 0} (keeps : Bool) (cmp : K → K → Ordering) 
   pub begun : l.begin ≤ l.wanted
   pub past : l.begin ≤ r.begin
   pub on_disk : l.wanted < r.regions.offsets.head
-  pub class : IsTrue keeps → l.begin ≡ r.begin → r.from ≤ l.wanted → IsOfClass code r k l.wanted
-  pub still : IsTrue keeps
-      → l.begin ≡ r.begin
-      → IsStill r.regions.offsets.safe_read_only (newest cmp r.text k (address_of l.kept.word))
-  pub newest : IsTrue keeps
-      → l.begin ≡ r.begin
-      → value_of (newest cmp r.text k (address_of l.kept.word)) ≡ onto join (value_of (newest cmp r.text k l.wanted)) l.parts
-  pub between : IsTrue keeps
-      → l.begin ≡ r.begin
-      → (e : Entry K V)
-      → IsIn r.entries e
-      → has_key cmp k e ≡ true
-      → l.wanted < e.address
-      → e.address ≤ address_of l.kept.word
-      → e.delta ≡ true
+  pub leads : IsTrue keeps → l.begin ≡ r.begin → LeadsOn cmp join code r k l
 
 -- what an open operation stands for
 abbrev pub StandsFor : {K V I : Type 0} → Bool → (K → K → Ordering) → (V → V → V) → (K → ℕ) → RecordsView K V
@@ -113,7 +106,7 @@ pub record IsSound {K V I : Type 0} (keeps : Bool) (cmp : K → K → Ordering) 
       → is_merge x.op ≡ true
       → v.merges ≡ true
   -- what is open is of a session that is entered
-  pub housed : (slot c : ℕ) (x : Open K V I)
+  pub housed : (slot c : ℕ) (x : OpenWork K V I)
       → c < 8
       → slice_get v.contexts (slot * 8 + c) ≡ Some (Some x)
       → is_session (slots_of v) slot ≡ true

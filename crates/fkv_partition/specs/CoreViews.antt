@@ -1,5 +1,5 @@
 -- What a contract sees of a partition.
-use Rattle.std.specs.Prelude.{◌≡◌, Bool, option_map, true, ◌+◌, ◌*◌, ◌%◌, ◌^◌, ℕ, List, Option, Some, None, replicate, slice_set, slice_range, position, is_some}
+use Rattle.std.specs.Prelude.{◌≡◌, ◌≤◌, Bool, option_map, true, ◌+◌, ◌*◌, ◌%◌, ◌^◌, ℕ, List, Option, Some, None, replicate, slice_set, slice_range, position, is_some}
 use Rattle.std.specs.declared.cmp.Ordering.{Ordering}
 use Rattle.fkv_functions.specs.Plain.{PlainMap}
 use Rattle.fkv_epoch.specs.Moves as epochs
@@ -7,22 +7,21 @@ use Rattle.fkv_regions.specs.declared.offsets.View.{View}
 use Rattle.fkv_regions.specs.Offsets.{view_at}
 use Rattle.fkv_regions.specs.RegionsView.{RegionsView}
 use Rattle.fkv_texts.specs.Text.{live}
-use Rattle.fkv_texts.specs.declared.entries.Entry.{Entry}
 use Rattle.fkv_operations.specs.declared.entries.IndexEntry.{IndexEntry}
 use Rattle.fkv_lookups.specs.RecordsViews.{RecordsView, empty_records, class_in, entry_of, found_in}
 use Rattle.fkv_lookups.specs.RecordsViews.{with_written, with_value, with_regions, IsMoved}
 use Rattle.fkv_lookups.specs.declared.payloads.Payload.{Payload}
 use Rattle.fkv_lookups.specs.declared.payloads.Payload.TheVariants.{Whole}
 use Rattle.fkv_lookups.specs.Meeting as meeting
-use Rattle.fkv_lookups.specs.Lookups.{first_up, looked_up}
+use Rattle.fkv_lookups.specs.Lookups.{newest_above, looked_up}
 use Rattle.fkv_lookups.specs.Decisions.{low_of}
 use Rattle.fkv_texts.specs.declared.entries.ChainPosition.{ChainPosition}
 use Rattle.fkv_texts.specs.declared.entries.ChainPosition.TheVariants.{Found, Below}
-use Rattle.fkv_lookups.specs.declared.gathered.Gathered.{Gathered}
+use Rattle.fkv_lookups.specs.declared.chain_results.ChainResult.{ChainResult}
 use Rattle.fkv_lookups.specs.declared.decisions.LookupResult.{LookupResult}
 use Rattle.fkv_partition.specs.declared.contexts.Context.{Context}
-use Rattle.fkv_partition.specs.declared.contexts.Open.{Open}
-use Rattle.fkv_partition.specs.declared.contexts.Open.TheVariants.{OnKey, Relocating}
+use Rattle.fkv_partition.specs.declared.contexts.OpenWork.{OpenWork}
+use Rattle.fkv_partition.specs.declared.contexts.OpenWork.TheVariants.{OnKey, Relocating}
 use Rattle.fkv_partition.specs.declared.relocations.Relocation.{Relocation}
 use Rattle.fkv_partition.specs.declared.contexts.Loading.{Loading}
 use Rattle.fkv_partition.specs.declared.limits.Config.{Config}
@@ -35,7 +34,7 @@ pub record CoreView (K V I : Type 0) : Type 0 where
   pub number : ℕ
   pub count : ℕ
   pub records : RecordsView K V
-  pub contexts : List (Option (Open K V I))
+  pub contexts : List (Option (OpenWork K V I))
   pub moment : ℕ
 
 -- a partition with nothing in it, before the first moment, of functions that merge or not, for records of this size
@@ -81,26 +80,29 @@ abbrev pub met_at : {K V I : Type 0} → (K → K → Ordering) → (V → V →
 met_at cmp join code v slot k = meeting.met_at cmp join code v.records (seen_at v slot) k
 
 -- the last record of the key that it reads in memory, with the address to which the entry of the key's class leads
-abbrev pub first_from : {K V I : Type 0} → (K → K → Ordering) → (K → ℕ) → CoreView K V I → ℕ → K → Option ℕ
+abbrev pub newest_in_memory : {K V I : Type 0} → (K → K → Ordering) → (K → ℕ) → CoreView K V I → ℕ → K → Option ℕ
     → ChainPosition K V
-first_from cmp code v slot k None = Below 1
-first_from cmp code v slot k (Some a) = first_up cmp code v.records (low_of v.records.begin (seen_at v slot)) k a
+newest_in_memory cmp code v slot k None = Below 1
+newest_in_memory cmp code v slot k (Some a) = newest_above cmp code v.records (low_of v.records.begin (seen_at v slot)) k a
 
--- a session is entered at the slot, and the last record of the key that it reads in memory is a delta
-pub record IsAtDelta {K V I : Type 0} (cmp : K → K → Ordering) (code : K → ℕ) (v : CoreView K V I) (slot : ℕ) (k : K) : Type 0 where
+-- a look-up that stops here in memory has no value yet: at a delta, or below, where the records go on in a page on disk
+abbrev pub LacksValue : {K V : Type 0} → ℕ → ChainPosition K V → Type 0
+LacksValue begin (Found e) = e.delta ≡ true
+LacksValue begin (Below b) = begin ≤ b
+
+-- a session is entered at the slot, and the last record of the key that it reads in memory, if any, has no value of it yet
+pub record MayNeedPage {K V I : Type 0} (cmp : K → K → Ordering) (code : K → ℕ) (v : CoreView K V I) (slot : ℕ) (k : K) : Type 0 where
   pub entered : is_session (slots_of v) slot ≡ true
-  pub entry : Entry K V
-  pub first : first_from cmp code v slot k (entry_for code v k) ≡ Found entry
-  pub delta : entry.delta ≡ true
+  pub lacks : LacksValue v.records.begin (newest_in_memory cmp code v slot k (entry_for code v k))
 
 -- what its look-up comes to in memory, no lower than an address
 abbrev pub reached_from : {K V I : Type 0} → (K → K → Ordering) → (V → V → V) → (K → ℕ) → CoreView K V I → ℕ → K → ℕ
-    → Option ℕ → Gathered K V
+    → Option ℕ → ChainResult K V
 reached_from cmp join code v slot k low None = record { parts = None; position = Below 1 }
 reached_from cmp join code v slot k low (Some a) = looked_up cmp join code v.records low k a
 
 -- what is open in a context of an entered session
-abbrev pub held_at : {K V I : Type 0} → CoreView K V I → ℕ → ℕ → Option (Open K V I)
+abbrev pub held_at : {K V I : Type 0} → CoreView K V I → ℕ → ℕ → Option (OpenWork K V I)
 held_at v slot c = context_in (slots_of v) v.contexts slot c
 
 -- the operation on a key that is, and the relocation
@@ -115,7 +117,7 @@ abbrev pub loading_at : {K V I : Type 0} → CoreView K V I → ℕ → ℕ → 
 loading_at v slot c = loading_of (context_at v slot c)
 
 -- the view with this in a context, at another moment: whatever it is, an operation on a key, or a relocation
-abbrev pub with_open : {K V I : Type 0} → CoreView K V I → ℕ → ℕ → Option (Open K V I) → ℕ → CoreView K V I
+abbrev pub with_open : {K V I : Type 0} → CoreView K V I → ℕ → ℕ → Option (OpenWork K V I) → ℕ → CoreView K V I
 with_open v slot c x now = record v { contexts = slice_set v.contexts (slot * 8 + c) x; moment = now }
 
 abbrev pub with_context : {K V I : Type 0} → CoreView K V I → ℕ → ℕ → Option (Context K V I) → ℕ

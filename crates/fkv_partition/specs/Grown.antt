@@ -1,5 +1,5 @@
 -- What events leave for one who keeps, beside a partition, entries, look-ups, records and addresses of its own.
-use Rattle.std.specs.Prelude.{◌≡◌, ◌<◌, ◌≤◌, Bool, IsTrue, true, ℕ, List, [], ◌∷◌, Option, Some, None, slice_get}
+use Rattle.std.specs.Prelude.{◌≡◌, ◌<◌, ◌≤◌, Bool, IsTrue, true, ℕ, List, [], ◌∷◌, Option, Some, slice_get}
 use Rattle.std.specs.declared.cmp.Ordering.{Ordering}
 use Rattle.fkv_device.specs.Standing.{Standing}
 use Rattle.fkv_regions.specs.Agree.{IsRaised}
@@ -9,7 +9,7 @@ use Rattle.fkv_texts.specs.Chains.{IsIn}
 use Rattle.fkv_index.specs.declared.places.Place.{Place}
 use Rattle.fkv_index.specs.Places.{IsPlace}
 use Rattle.fkv_operations.specs.declared.entries.IndexEntry.{IndexEntry}
-use Rattle.fkv_operations.specs.KeptWords.{IsNext}
+use Rattle.fkv_operations.specs.KeptWords.{ReusesNoAddress}
 use Rattle.fkv_lookups.specs.RecordsViews.{RecordsView, indexed}
 use Rattle.fkv_texts.specs.Deltas.{IsCleared}
 use Rattle.fkv_partition.specs.declared.contexts.Loading.{Loading}
@@ -65,7 +65,7 @@ pub record IsPreserved {K V I : Type 0} (keeps : Bool) (cmp : K → K → Orderi
     (old new : CoreView K V I) : Type 0 where
   pub bears : Bears keeps cmp join code old.records new.records
   pub grown : IsGrown keeps cmp old.records new.records
-  pub next : IsTrue keeps → IsNext cmp (indexed old.records) (indexed new.records)
+  pub next : IsTrue keeps → ReusesNoAddress cmp (indexed old.records) (indexed new.records)
 
 -- events one after another
 abbrev pub ArePreserved : {K V I : Type 0} → Bool → (K → K → Ordering) → (V → V → V) → (K → ℕ) → CoreView K V I

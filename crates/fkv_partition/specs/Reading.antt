@@ -10,8 +10,8 @@ use Rattle.fkv_device.specs.Standing.{Standing, Joined}
 use Rattle.fkv_texts.specs.declared.entries.Entry.{Entry}
 use Rattle.fkv_texts.specs.declared.entries.ChainPosition.TheVariants.{Below}
 use Rattle.fkv_pages.specs.Loads.{IsHeldBy, first_place}
-use Rattle.fkv_lookups.specs.declared.gathered.Gathered.{Gathered}
-use Rattle.fkv_lookups.specs.Lookups.{IsGathered}
+use Rattle.fkv_lookups.specs.declared.chain_results.ChainResult.{ChainResult}
+use Rattle.fkv_lookups.specs.Lookups.{ComesToInPage}
 use Rattle.fkv_partition.specs.CoreLoading.{ReadsBy}
 use Rattle.fkv_partition.specs.declared.contexts.Loading.{Loading}
 use Rattle.fkv_partition.specs.declared.relocations.Relocation.{Relocation}
@@ -39,8 +39,8 @@ pub record HasPage {K V I : Type 0} (v : PartitionView K V I) (slot c : ℕ) (x 
 -- from the address wanted, with the parts that were collected, the records that the page's bytes spell above a place come to
 -- this
 abbrev pub TracesTo : {K V I : Type 0} → (ℕ → List ℕ → ℕ → Entry K V → Type 0) → (K → K → Ordering) → (V → V → V)
-    → PartitionView K V I → ℕ → K → Loading V → List ℕ → Result (Gathered K V) Refused → Type 0
-TracesTo entry cmp join v place k l bytes reached = IsGathered join (entry v.core.records.page_bits bytes) cmp k
+    → PartitionView K V I → ℕ → K → Loading V → List ℕ → Result (ChainResult K V) Refused → Type 0
+TracesTo entry cmp join v place k l bytes reached = ComesToInPage join (entry v.core.records.page_bits bytes) cmp k
     v.core.records.page_bits
     (higher_of (place + 1) (first_place v.core.records.page_bits (page_at v.core.records.page_bits l.wanted)))
     l.wanted l.parts reached
@@ -107,7 +107,7 @@ pub data LoadsOn {K V I O R : Type 0} (stands : R → Standing) (spells : ℕ �
       → result ≡ Err (Damaged (page_at old.core.records.page_bits x.target))
       → LoadsOn stands spells cmp join code old new slot c came now result
   -- it is a page on the way from the entry to its place: a newer record of the key that is no delta is met
-  newer : (x : Relocation K V) (e : Entry K V) (l : Loading V) (p : Joined R) (r : Gathered K V)
+  newer : (x : Relocation K V) (e : Entry K V) (l : Loading V) (p : Joined R) (r : ChainResult K V)
       → x.stage ≡ Tracing e l
       → HasPage old slot c x l.wanted (stands p.receipt)
       → came ≡ Ok p
@@ -117,7 +117,7 @@ pub data LoadsOn {K V I O R : Type 0} (stands : R → Standing) (spells : ℕ �
       → result ≡ Ok (Done Cleared now)
       → LoadsOn stands spells cmp join code old new slot c came now result
   -- or none above the place: the record is appended, joined with the parts of the deltas
-  ends : (x : Relocation K V) (e : Entry K V) (l : Loading V) (p : Joined R) (r : Gathered K V) (parts : Option V)
+  ends : (x : Relocation K V) (e : Entry K V) (l : Loading V) (p : Joined R) (r : ChainResult K V) (parts : Option V)
       → x.stage ≡ Tracing e l
       → HasPage old slot c x l.wanted (stands p.receipt)
       → came ≡ Ok p

@@ -4,7 +4,7 @@ use Rattle.std.specs.Prelude.{◌≡◌, ◌^◌, ◌<◌, ◌≤◌, ℕ, Bool,
 use Rattle.std.specs.declared.cmp.Ordering.{Ordering}
 use Rattle.fkv_records.specs.Places.{IsRecordStart}
 use Rattle.fkv_texts.specs.Deltas.{IsCleared}
-use Rattle.fkv_partition.specs.declared.contexts.Open.TheVariants.{Relocating}
+use Rattle.fkv_partition.specs.declared.contexts.OpenWork.TheVariants.{Relocating}
 use Rattle.fkv_partition.specs.declared.relocations.Relocation.{Relocation}
 use Rattle.fkv_partition.specs.Views.{PartitionView}
 use Rattle.fkv_partition.specs.Stages.{RelocationStands}

@@ -1,11 +1,11 @@
 -- What an open relocation stands for.
-use Rattle.std.specs.Prelude.{◌≡◌, ◌<◌, ◌≤◌, ℕ, Bool, true, IsTrue, IsSome, Some}
+use Rattle.std.specs.Prelude.{◌≡◌, ◌<◌, ◌≤◌, ℕ, Bool, IsTrue, IsSome, Some}
 use Rattle.std.specs.declared.cmp.Ordering.{Ordering}
 use Rattle.fkv_records.specs.Places.{IsRecordStart}
 use Rattle.fkv_index.specs.Words.{address_of}
 use Rattle.fkv_texts.specs.declared.entries.Entry.{Entry}
-use Rattle.fkv_texts.specs.Text.{entry_at, has_key}
-use Rattle.fkv_texts.specs.Chains.{IsIn}
+use Rattle.fkv_texts.specs.Text.{entry_at}
+use Rattle.fkv_texts.specs.Deltas.{AreDeltasBetween}
 use Rattle.fkv_lookups.specs.RecordsViews.{RecordsView}
 use Rattle.fkv_operations.specs.declared.entries.IndexEntry.{IndexEntry}
 use Rattle.fkv_partition.specs.declared.contexts.Loading.{Loading}
@@ -43,13 +43,7 @@ pub record IsReady {K V : Type 0} (keeps : Bool) (cmp : K → K → Ordering) (j
   pub some : IsSome entry.value
   pub is_kept : IsKept keeps cmp code r entry.key kept entry.value
   pub own : IsTrue keeps → (d : Entry K V) → entry_at r.entries place ≡ Some d → d.key ≡ entry.key
-  pub between : IsTrue keeps
-      → (d : Entry K V)
-      → IsIn r.entries d
-      → has_key cmp entry.key d ≡ true
-      → place < d.address
-      → d.address ≤ address_of kept.word
-      → d.delta ≡ true
+  pub between : IsTrue keeps → AreDeltasBetween cmp r.entries entry.key place (address_of kept.word)
 
 abbrev pub StageStands : {K V I : Type 0} → Bool → (K → K → Ordering) → (V → V → V) → (K → ℕ) → CoreView K V I → ℕ → Stage K V
     → Type 0

@@ -17,7 +17,7 @@ ghost use Rattle.fkv_partition.specs.CoreSound.{StandsFor};
 ghost use Rattle.fkv_partition.specs.CoreBeginning.{IsEntered};
 ghost use Rattle.fkv_partition.specs.Writes.{IsWrite};
 
-use crate::contexts::{Context, ContextOf, Open, Phase, move_on, set_context};
+use crate::contexts::{Context, ContextOf, OpenWork, Phase, move_on, set_context};
 use crate::cores::Core;
 use crate::relocations::RelocationOf;
 use fkv_device::Receipt;
@@ -84,7 +84,12 @@ impl<F: Mergeable, R: Receipt> Core<F, R> {
             phase: Phase::Fresh,
         };
         self.moment = now;
-        set_context(&mut self.contexts, slot, context, Some(Open::OnKey(fresh)));
+        set_context(
+            &mut self.contexts,
+            slot,
+            context,
+            Some(OpenWork::OnKey(fresh)),
+        );
     }
 
     /// Opens a relocation in a context in which no operation on a key is open, or moves the one that is open there to another
@@ -107,7 +112,7 @@ impl<F: Mergeable, R: Receipt> Core<F, R> {
             &mut self.contexts,
             slot,
             context,
-            Some(Open::Relocating(relocation)),
+            Some(OpenWork::Relocating(relocation)),
         );
     }
 

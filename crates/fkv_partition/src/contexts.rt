@@ -82,14 +82,14 @@ impl<K: Copy, V: Copy, I: Copy> Clone for Context<K, V, I> {
 
 /// What is open in a context of a session: one of these, or nothing.
 #[derive(Copy)]
-pub enum Open<K, V, I> {
+pub enum OpenWork<K, V, I> {
     /// An operation on a key.
     OnKey(Context<K, V, I>),
     /// A relocation.
     Relocating(Relocation<K, V>),
 }
 
-impl<K: Copy, V: Copy, I: Copy> Clone for Open<K, V, I> {
+impl<K: Copy, V: Copy, I: Copy> Clone for OpenWork<K, V, I> {
     ghost is_clone = { λ x y. y ≡ x };
 
     ghost is_infallible = { λ _. ⊤ };
@@ -141,22 +141,33 @@ pub type ProgressOf<F, R> = Progress<
     R,
 >;
 
-/// What is open in a context of a session.
-fn open_at<T: Copy>(contexts: &[Option<T>], slot: usize, context: usize) -> Option<T>
-    requires session { slot < 16 }
-    requires places { length contexts.now ≡ 128 }
-    ensures value { result ≡ cond (nat_lt context 8) (joined (slice_get contexts.now (slot * 8 + context))) None }
-    ensures context { IfSome result (λ _. context < 8) }
+/// The operation on a key that is open in a context.
+fn operation_in<K: Copy, V: Copy, I: Copy>(
+    open: &Option<OpenWork<K, V, I>>,
+) -> Option<Context<K, V, I>>
+    ensures { result ≡ on_key open.now }
 {
-    if context >= CONTEXTS {
-        return None;
+    match open {
+        Some(OpenWork::OnKey(operation)) => Some(*operation),
+        Some(OpenWork::Relocating(_)) | None => None,
     }
-    contexts[slot * CONTEXTS + context]
 }
 
-/// The operation on a key that is open in a context of a session.
+/// The relocation that is open in a context.
+fn relocation_in<K: Copy, V: Copy, I: Copy>(
+    open: &Option<OpenWork<K, V, I>>,
+) -> Option<Relocation<K, V>>
+    ensures { result ≡ relocating open.now }
+{
+    match open {
+        Some(OpenWork::Relocating(relocation)) => Some(*relocation),
+        Some(OpenWork::OnKey(_)) | None => None,
+    }
+}
+
+/// The operation on a key that is open in a context of a session. It alone is copied.
 pub fn operation_at<K: Copy, V: Copy, I: Copy>(
-    contexts: &[Option<Open<K, V, I>>],
+    contexts: &[Option<OpenWork<K, V, I>>],
     slot: usize,
     context: usize,
 ) -> Option<Context<K, V, I>>
@@ -165,16 +176,15 @@ pub fn operation_at<K: Copy, V: Copy, I: Copy>(
     ensures value { result ≡ on_key (cond (nat_lt context 8) (joined (slice_get contexts.now (slot * 8 + context))) None) }
     ensures context { IfSome result (λ _. context < 8) }
 {
-    match open_at(contexts, slot, context) {
-        Some(Open::OnKey(operation)) => Some(operation),
-        Some(Open::Relocating(_relocation)) => None,
-        None => None,
+    if context >= CONTEXTS {
+        return None;
     }
+    operation_in(&contexts[slot * CONTEXTS + context])
 }
 
-/// The relocation that is open in a context of a session.
+/// The relocation that is open in a context of a session. It alone is copied.
 pub fn relocation_at<K: Copy, V: Copy, I: Copy>(
-    contexts: &[Option<Open<K, V, I>>],
+    contexts: &[Option<OpenWork<K, V, I>>],
     slot: usize,
     context: usize,
 ) -> Option<Relocation<K, V>>
@@ -183,11 +193,26 @@ pub fn relocation_at<K: Copy, V: Copy, I: Copy>(
     ensures value { result ≡ relocating (cond (nat_lt context 8) (joined (slice_get contexts.now (slot * 8 + context))) None) }
     ensures context { IfSome result (λ _. context < 8) }
 {
-    match open_at(contexts, slot, context) {
-        Some(Open::Relocating(relocation)) => Some(relocation),
-        Some(Open::OnKey(_operation)) => None,
-        None => None,
+    if context >= CONTEXTS {
+        return None;
     }
+    relocation_in(&contexts[slot * CONTEXTS + context])
+}
+
+/// Whether a relocation is open in a context of a session. It copies nothing.
+pub fn holds_relocation<K, V, I>(
+    contexts: &[Option<OpenWork<K, V, I>>],
+    slot: usize,
+    context: usize,
+) -> bool
+    requires session { slot < 16 }
+    requires places { length contexts.now ≡ 128 }
+    ensures { result ≡ is_some (relocating (cond (nat_lt context 8) (joined (slice_get contexts.now (slot * 8 + context))) None)) }
+{
+    if context >= CONTEXTS {
+        return false;
+    }
+    is_relocating(&contexts[slot * CONTEXTS + context])
 }
 
 /// Whether nothing stands in a context of a session. It copies nothing.
@@ -201,7 +226,10 @@ pub fn is_vacant<T>(contexts: &[Option<T>], slot: usize, context: usize) -> bool
 }
 
 /// The lowest context of a session in which a relocation is open.
-pub fn relocating_context<K, V, I>(contexts: &[Option<Open<K, V, I>>], slot: usize) -> Option<usize>
+pub fn relocating_context<K, V, I>(
+    contexts: &[Option<OpenWork<K, V, I>>],
+    slot: usize,
+) -> Option<usize>
     requires session { slot < 16 }
     requires places { length contexts.now ≡ 128 }
     ensures value { result ≡ position (λ o. is_some (relocating o)) (slice_range contexts.now (slot * 8) (slot * 8 + 8)) }
@@ -213,12 +241,12 @@ pub fn relocating_context<K, V, I>(contexts: &[Option<Open<K, V, I>>], slot: usi
 }
 
 /// Whether a relocation is open in a context.
-fn is_relocating<K, V, I>(open: &Option<Open<K, V, I>>) -> bool
+fn is_relocating<K, V, I>(open: &Option<OpenWork<K, V, I>>) -> bool
     ensures { result ≡ is_some (relocating open.now) }
 {
     match open {
-        Some(Open::Relocating(_)) => true,
-        Some(Open::OnKey(_)) | None => false,
+        Some(OpenWork::Relocating(_)) => true,
+        Some(OpenWork::OnKey(_)) | None => false,
     }
 }
 
@@ -251,7 +279,7 @@ pub fn set_context<T: Copy>(
 
 /// Moves the operation that is open in a context to another phase, where it stands.
 pub fn move_on<K: Copy, V: Copy, I: Copy>(
-    contexts: &mut Vec<Option<Open<K, V, I>>>,
+    contexts: &mut Vec<Option<OpenWork<K, V, I>>>,
     slot: usize,
     context: usize,
     _operation: &Context<K, V, I>,
@@ -259,11 +287,11 @@ pub fn move_on<K: Copy, V: Copy, I: Copy>(
 )
     requires session { slot < 16 }
     requires context { context < 8 }
-    requires here { slice_get contexts.old.items (slot * 8 + context) ≡ Some (Some (Open.OnKey _operation.now)) }
+    requires here { slice_get contexts.old.items (slot * 8 + context) ≡ Some (Some (OpenWork.OnKey _operation.now)) }
     ensures { contexts.new.items
-        ≡ slice_set contexts.old.items (slot * 8 + context) (Some (Open.OnKey (at_phase _operation.now phase))) }
+        ≡ slice_set contexts.old.items (slot * 8 + context) (Some (OpenWork.OnKey (at_phase _operation.now phase))) }
 {
-    if let Some(Open::OnKey(open)) = &mut contexts[slot * CONTEXTS + context] {
+    if let Some(OpenWork::OnKey(open)) = &mut contexts[slot * CONTEXTS + context] {
         open.phase = phase;
     }
 }
@@ -296,25 +324,22 @@ pub fn question_of<K: Copy, V: Copy, I: Copy>(
 ) -> Option<(IndexEntry, Ask<K, V, I>)>
     ensures { result ≡ question_in context.now }
 {
-    let number = context.number;
-    let op = context.op;
-    let phase = context.phase;
-    match phase {
+    match &context.phase {
         Phase::Fresh | Phase::Confirm { .. } | Phase::Load(_) => None,
-        Phase::Prepared { kept, source } => match op {
+        Phase::Prepared { kept, source } => match &context.op {
             KeyedOp::Read(_, _)
             | KeyedOp::Upsert(_, _)
             | KeyedOp::Delete(_)
             | KeyedOp::Merge(_, _) => None,
-            KeyedOp::Rmw(key, input) => Some((
-                kept,
-                Ask {
-                    number,
-                    key,
-                    source,
-                    input,
-                },
-            )),
+            KeyedOp::Rmw(key, input) => {
+                let ask = Ask {
+                    number: context.number,
+                    key: *key,
+                    source: *source,
+                    input: *input,
+                };
+                Some((*kept, ask))
+            }
         },
     }
 }

@@ -37,8 +37,8 @@ impl<F: Mergeable, R: Receipt> Core<F, R> {
         self.known();
         lookups_tell::<F::Key, F::Value>();
         meetings_tell::<F::Key, F::Value>();
-        let entry = self.leads(functions, key);
-        let first = self.first(slot, key, entry);
+        let entry = self.entry_address(functions, key);
+        let first = self.newest_in_memory(slot, key, entry);
         if let Some(held) = whole(&first) {
             return Some(shown(functions, key, input, held));
         }

@@ -2,7 +2,7 @@
 ghost use Rattle.std.specs.Prelude.{◌≡◌, ◌<◌, ◌≤◌, None, Some, false, IfSome};
 ghost use Rattle.fkv_lookups.specs.declared.decisions.LookupResult.TheVariants.{Mutable};
 ghost use Rattle.fkv_texts.specs.declared.entries.ChainPosition.TheVariants.{Found};
-ghost use Rattle.fkv_partition.specs.CoreViews.{held_at, entry_for, first_from, met_at, partition_of};
+ghost use Rattle.fkv_partition.specs.CoreViews.{held_at, entry_for, newest_in_memory, met_at, partition_of};
 ghost use Rattle.fkv_partition.specs.CoreAtOnce.{IsAtHand, IsDoneAtOnce};
 ghost use Rattle.fkv_partition.specs.CoreBeginning.{IsEntered};
 
@@ -60,7 +60,7 @@ impl<F: Mergeable, R: Receipt> Core<F, R> {
         functions: &F,
     ) -> Option<(Entry<F::Key, F::Value>, F::Value)>
         requires { IsEntered self.now slot }
-        ensures first { IfSome result (λ r. first_from F.Key.cmp F.code self.now slot key.now
+        ensures first { IfSome result (λ r. newest_in_memory F.Key.cmp F.code self.now slot key.now
             (entry_for F.code self.now key.now) ≡ Found r.0) }
         ensures whole { IfSome result (λ r. r.0.delta ≡ false) }
         ensures met { IfSome result (λ r. met_at F.Key.cmp F.parts.joined F.code self.now slot key.now ≡ Mutable r.1) }
@@ -68,8 +68,8 @@ impl<F: Mergeable, R: Receipt> Core<F, R> {
     {
         self.known();
         lookups_tell::<F::Key, F::Value>();
-        let entry = self.leads(functions, key);
-        let ChainPosition::Found(last) = self.first(slot, key, entry) else {
+        let entry = self.entry_address(functions, key);
+        let ChainPosition::Found(last) = self.newest_in_memory(slot, key, entry) else {
             return None;
         };
         if last.delta {
@@ -103,7 +103,7 @@ impl<F: Mergeable, R: Receipt> Core<F, R> {
         requires own { partition_of self.old.count (F.code key.now) ≡ self.old.number }
         requires free { held_at self.old slot _context ≡ None }
         requires low { _context < 8 }
-        requires first { first_from F.Key.cmp F.code self.old slot key.now (entry_for F.code self.old key.now)
+        requires first { newest_in_memory F.Key.cmp F.code self.old slot key.now (entry_for F.code self.old key.now)
             ≡ Found last }
         requires whole { last.delta ≡ false }
         requires met { met_at F.Key.cmp F.parts.joined F.code self.old slot key.now ≡ Mutable held }

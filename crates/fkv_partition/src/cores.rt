@@ -7,7 +7,7 @@ ghost use Rattle.fkv_partition.specs.CoreViews.{held_at, empty_core, partition_o
 ghost use Rattle.fkv_partition.specs.CoreBeginning.{Enters, IsEntered, Issues};
 ghost use Rattle.fkv_partition.specs.CoreEffect.{IsQuiet, IsIssue};
 
-use crate::contexts::Open;
+use crate::contexts::OpenWork;
 use crate::limits::Config;
 use fkv_device::Receipt;
 use fkv_functions::{Mergeable, Refused};
@@ -26,7 +26,7 @@ pub struct Core<F: Mergeable, R: Receipt> {
     pub(crate) number: u64,
     pub(crate) count: u64,
     pub(crate) records: Records<F, R>,
-    pub(crate) contexts: Vec<Option<Open<F::Key, F::Value, F::Input>>>,
+    pub(crate) contexts: Vec<Option<OpenWork<F::Key, F::Value, F::Input>>>,
     pub(crate) moment: u64,
 }
 

@@ -121,7 +121,7 @@ impl<F: Mergeable, R: Receipt> Core<F, R> {
         let key = operation.op.key();
         let (class, entry) = self.find(functions, &key);
         let address = address_of(&entry);
-        let first = self.first(slot, &key, address);
+        let first = self.newest_in_memory(slot, &key, address);
         match self.decided(slot, functions, &operation.op, address, &first) {
             Decision::Done(answer) => {
                 self.free(slot, context, now);

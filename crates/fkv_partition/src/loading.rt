@@ -18,7 +18,7 @@ use crate::contexts::{ContextOf, Loading, Phase, Progress, ProgressOf, loading_o
 use crate::cores::Core;
 use fkv_device::{Loaded, PageReader, Receipt};
 use fkv_functions::{Ask, Mergeable, Refused};
-use fkv_lookups::gathered::onto;
+use fkv_lookups::chain_results::onto;
 use fkv_lookups::laws::lookups_tell;
 use fkv_operations::KeyedOp;
 use fkv_operations::plainly::shown;
@@ -233,7 +233,7 @@ impl<F: Mergeable, R: Receipt> Core<F, R> {
                 if address < self.records.begin() {
                     return Ok(self.tell(slot, context, operation, loading, parts, functions, now));
                 }
-                if !self.records.is_place(address) {
+                if !self.records.is_record_start(address) {
                     self.free(slot, context, now);
                     return Err(Refused::Damaged { page });
                 }

@@ -9,11 +9,12 @@ ghost use Rattle.fkv_operations.specs.Classes.{IsClass};
 ghost use Rattle.fkv_lookups.specs.RecordsViews.{class_in, IsEntryOf};
 ghost use Rattle.fkv_partition.specs.CoreContexts.{is_session, joined, relocating};
 ghost use Rattle.fkv_partition.specs.CoreBeginning.{IsEntered};
-ghost use Rattle.fkv_partition.specs.CoreViews.{IsAtDelta, context_at, entry_for, found_for, first_from, met_at, open_context, partition_of, relocation_in, reached_from, seen_at, slots_of};
+ghost use Rattle.fkv_partition.specs.CoreViews.{MayNeedPage, context_at, entry_for, found_for, newest_in_memory, met_at, open_context, partition_of, relocation_in, reached_from, seen_at, slots_of};
 ghost use Rattle.fkv_partition.specs.CoreSound.{IsSound};
 
 use crate::contexts::{
-    ContextOf, is_vacant, open_context, operation_at, relocating_context, relocation_at,
+    ContextOf, holds_relocation, is_vacant, open_context, operation_at, relocating_context,
+    relocation_at,
 };
 use crate::cores::Core;
 use crate::relocations::RelocationOf;
@@ -21,7 +22,7 @@ use fkv_device::Receipt;
 use fkv_functions::{Functions, Mergeable};
 use fkv_lookups::decisions::blind;
 use fkv_lookups::laws::lookups_tell;
-use fkv_lookups::{DecisionOf, Gathered, LookupResult, decide, low_of, met_by};
+use fkv_lookups::{ChainResult, DecisionOf, LookupResult, decide, low_of, met_by};
 use fkv_operations::{Class, IndexEntry, KeyedOpOf, partition_at};
 use fkv_records::Address;
 use fkv_texts::ChainPosition;
@@ -89,6 +90,16 @@ impl<F: Mergeable, R: Receipt> Core<F, R> {
         relocation_at(&self.contexts, slot, context)
     }
 
+    /// Whether a relocation is open in a context.
+    pub fn holds_relocation(&self, slot: usize, context: usize) -> bool
+        ensures { result ≡ is_some (relocation_in self.now slot context) }
+    {
+        if !self.records.is_entered(slot) {
+            return false;
+        }
+        holds_relocation(&self.contexts, slot, context)
+    }
+
     /// The lowest context of a slot in which a relocation stands.
     pub fn first_relocation(&self, slot: usize) -> Option<usize>
         requires { slot < 16 }
@@ -146,17 +157,17 @@ impl<F: Mergeable, R: Receipt> Core<F, R> {
 
     /// The address to which the final entry of a key's class leads.
     #[inline(always)]
-    pub(crate) fn leads(&self, functions: &F, key: &F::Key) -> Option<Address>
+    pub(crate) fn entry_address(&self, functions: &F, key: &F::Key) -> Option<Address>
         ensures { result ≡ entry_for F.code self.now key.now }
     {
         let class = self.records.class(functions, key);
-        self.records.leads(&class)
+        self.records.entry_address(&class)
     }
 
     /// The last record of a key that the session at a slot reads in memory, by the address to which the entry of the key's
     /// class leads, or where the records of the class lead.
     #[inline(always)]
-    pub(crate) fn first(
+    pub(crate) fn newest_in_memory(
         &self,
         slot: usize,
         key: &F::Key,
@@ -164,27 +175,31 @@ impl<F: Mergeable, R: Receipt> Core<F, R> {
     ) -> ChainPosition<F::Key, F::Value>
         requires entered { IsEntered self.now slot }
         requires entry { entry ≡ entry_for F.code self.now key.now }
-        ensures { result ≡ first_from F.Key.cmp F.code self.now slot key.now (entry_for F.code self.now key.now) }
+        ensures { result ≡ newest_in_memory F.Key.cmp F.code self.now slot key.now (entry_for F.code self.now key.now) }
     {
         match entry {
             None => ChainPosition::Below(NOWHERE),
             Some(address) => {
                 let low = self.lowest(slot);
-                self.records.first(address, key, low)
+                self.records.newest_in_memory(address, key, low)
             }
         }
     }
 
-    /// Whether a session is entered at a slot and the last record of a key that it reads in memory is a delta. Then an update of
-    /// the key would collect its parts, down to a page on the device, it may be.
-    pub fn is_at_delta(&self, slot: usize, functions: &F, key: &F::Key) -> bool
-        ensures { IsTrue result ↔ IsAtDelta F.Key.cmp F.code self.now slot key.now }
+    /// Whether a session is entered at a slot and the last record of a key that it reads in memory, if any, has no value of the
+    /// key: it is a delta, or the records of the key's class go on in a page on the device. Then an update of the key reads a
+    /// page, or collects parts, down to a page, it may be.
+    pub fn may_need_page(&self, slot: usize, functions: &F, key: &F::Key) -> bool
+        ensures { IsTrue result ↔ MayNeedPage F.Key.cmp F.code self.now slot key.now }
     {
         if !self.is_session(slot) {
             return false;
         }
-        let entry = self.leads(functions, key);
-        is_delta(&self.first(slot, key, entry))
+        let entry = self.entry_address(functions, key);
+        match self.newest_in_memory(slot, key, entry) {
+            ChainPosition::Found(newest) => newest.delta,
+            ChainPosition::Below(address) => self.records.begin() <= address,
+        }
     }
 
     /// The lowest address that the session at a slot reads in memory.
@@ -207,7 +222,7 @@ impl<F: Mergeable, R: Receipt> Core<F, R> {
         key: &F::Key,
         low: Address,
         entry: Option<Address>,
-    ) -> Gathered<F::Key, F::Value>
+    ) -> ChainResult<F::Key, F::Value>
         requires begin { self.now.records.begin ≤ low }
         requires closed { self.now.records.regions.offsets.closed ≤ low }
         requires entry { entry ≡ entry_for F.code self.now key.now }
@@ -216,12 +231,12 @@ impl<F: Mergeable, R: Receipt> Core<F, R> {
     {
         let _slot = slot;
         match entry {
-            None => Gathered {
+            None => ChainResult {
                 parts: None,
                 position: ChainPosition::Below(NOWHERE),
             },
             Some(address) => {
-                let first = self.records.first(address, key, low);
+                let first = self.records.newest_in_memory(address, key, low);
                 self.records.gather(functions, address, first, key, low)
             }
         }
@@ -240,7 +255,7 @@ impl<F: Mergeable, R: Receipt> Core<F, R> {
     ) -> LookupResult<F::Value>
         requires entered { IsEntered self.now slot }
         requires entry { entry ≡ entry_for F.code self.now key.now }
-        requires first { first.now ≡ first_from F.Key.cmp F.code self.now slot key.now
+        requires first { first.now ≡ newest_in_memory F.Key.cmp F.code self.now slot key.now
             (entry_for F.code self.now key.now) }
         ensures { result ≡ met_at F.Key.cmp F.parts.joined F.code self.now slot key.now }
     {
@@ -267,7 +282,7 @@ impl<F: Mergeable, R: Receipt> Core<F, R> {
         requires entered { IsEntered self.now slot }
         requires merging { is_merge op.now ≡ true → self.now.merges ≡ true }
         requires entry { entry ≡ entry_for F.code self.now (key_of op.now) }
-        requires first { first.now ≡ first_from F.Key.cmp F.code self.now slot (key_of op.now)
+        requires first { first.now ≡ newest_in_memory F.Key.cmp F.code self.now slot (key_of op.now)
             (entry_for F.code self.now (key_of op.now)) }
         ensures { result ≡ decision F.meaning op.now
             (met_at F.Key.cmp F.parts.joined F.code self.now slot (key_of op.now)) }

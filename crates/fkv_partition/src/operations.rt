@@ -105,9 +105,10 @@ impl<F: Mergeable, R: Receipt> Partition<F, R> {
     {
         pendings_stay::<F::Key, F::Value, F::Input, F::Output, R>();
         self.known();
-        match self.relocation(slot, context) {
-            None => self.go_on_key(slot, context, functions, now),
-            Some(_relocation) => self.go_on(slot, context, functions, now),
+        if self.holds_relocation(slot, context) {
+            self.go_on(slot, context, functions, now)
+        } else {
+            self.go_on_key(slot, context, functions, now)
         }
     }
 
@@ -138,9 +139,10 @@ impl<F: Mergeable, R: Receipt> Partition<F, R> {
     {
         pendings_stay::<F::Key, F::Value, F::Input, F::Output, R>();
         self.known();
-        match self.relocation(slot, context) {
-            None => self.install_on_key(slot, context, built, functions, now),
-            Some(_relocation) => Err(Refused::NotReady),
+        if self.holds_relocation(slot, context) {
+            Err(Refused::NotReady)
+        } else {
+            self.install_on_key(slot, context, built, functions, now)
         }
     }
 
@@ -185,9 +187,10 @@ impl<F: Mergeable, R: Receipt> Partition<F, R> {
     {
         loads_end::<F, R>();
         self.known();
-        match self.relocation(slot, context) {
-            None => self.load_on_key(slot, context, came, functions, now),
-            Some(_relocation) => self.resume_load(slot, context, came, functions, now),
+        if self.holds_relocation(slot, context) {
+            self.resume_load(slot, context, came, functions, now)
+        } else {
+            self.load_on_key(slot, context, came, functions, now)
         }
     }
 
@@ -231,9 +234,10 @@ impl<F: Mergeable, R: Receipt> Partition<F, R> {
     {
         loads_end::<F, R>();
         self.known();
-        match self.relocation(slot, context) {
-            None => self.load_by_on_key(slot, context, functions, reader, now),
-            Some(_relocation) => self.resume_load_by(slot, context, functions, reader, now),
+        if self.holds_relocation(slot, context) {
+            self.resume_load_by(slot, context, functions, reader, now)
+        } else {
+            self.load_by_on_key(slot, context, functions, reader, now)
         }
     }
 
@@ -267,9 +271,10 @@ impl<F: Mergeable, R: Receipt> Partition<F, R> {
     {
         loads_end::<F, R>();
         self.known();
-        match self.relocation(slot, context) {
-            None => self.load_on_key(slot, context, Ok(loaded), functions, now),
-            Some(_relocation) => self.resume_load_own(slot, context, loaded, functions, now),
+        if self.holds_relocation(slot, context) {
+            self.resume_load_own(slot, context, loaded, functions, now)
+        } else {
+            self.load_on_key(slot, context, Ok(loaded), functions, now)
         }
     }
 
@@ -286,9 +291,10 @@ impl<F: Mergeable, R: Receipt> Partition<F, R> {
     {
         pendings_stay::<F::Key, F::Value, F::Input, F::Output, R>();
         self.known();
-        match self.relocation(slot, context) {
-            None => self.give_up_on_key(slot, context, now),
-            Some(_relocation) => self.drop_relocation(slot, context, now),
+        if self.holds_relocation(slot, context) {
+            self.drop_relocation(slot, context, now)
+        } else {
+            self.give_up_on_key(slot, context, now)
         }
     }
 }

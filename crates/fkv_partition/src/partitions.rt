@@ -5,7 +5,7 @@ ghost use Rattle.fkv_partition.specs.CoreContexts.{joined};
 ghost use Rattle.fkv_partition.specs.Limits.{IsPartitionOf};
 ghost use Rattle.fkv_partition.specs.Effect.{asked};
 ghost use Rattle.fkv_partition.specs.CoreBeginning.{IsEntered};
-ghost use Rattle.fkv_partition.specs.CoreViews.{IsAtDelta, loading_at};
+ghost use Rattle.fkv_partition.specs.CoreViews.{MayNeedPage, loading_at};
 ghost use Rattle.fkv_partition.specs.CoreSound.{IsSound};
 ghost use Rattle.fkv_partition.specs.Views.{empty_partition, relocation_at};
 ghost use Rattle.fkv_partition.specs.Going.{is_awaiting};
@@ -73,11 +73,12 @@ impl<F: Mergeable, R: Receipt> Partition<F, R> {
         let _cleared = self.cleared;
     }
 
-    /// Whether a session is entered at a slot and the last record of a key that it reads in memory is a delta.
-    pub fn is_at_delta(&self, slot: usize, functions: &F, key: &F::Key) -> bool
-        ensures { IsTrue result ↔ IsAtDelta F.Key.cmp F.code self.now.core slot key.now }
+    /// Whether a session is entered at a slot and the last record of a key that it reads in memory, if any, has no value of the
+    /// key: it is a delta, or the records of the key's class go on in a page on the device.
+    pub fn may_need_page(&self, slot: usize, functions: &F, key: &F::Key) -> bool
+        ensures { IsTrue result ↔ MayNeedPage F.Key.cmp F.code self.now.core slot key.now }
     {
-        self.core.is_at_delta(slot, functions, key)
+        self.core.may_need_page(slot, functions, key)
     }
 
     /// Whether the functions merge.

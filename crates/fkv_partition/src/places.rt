@@ -1,5 +1,6 @@
 //! What events change of relocations and of what is cleared. Each change keeps what every partition keeps.
 ghost use Rattle.std.specs.Prelude.{IsSome, ◌≡◌, ◌+◌, ◌*◌, ◌<◌, ◌≤◌, ◌↔◌, ℕ, IsTrue, Some, None, slice_get};
+ghost use Rattle.std.specs.Bool.{OnTrue, OnFalse};
 ghost use Rattle.fkv_records.specs.Places.{IsRecordStart};
 ghost use Rattle.fkv_texts.specs.declared.entries.Entry.{Entry};
 ghost use Rattle.fkv_texts.specs.Text.{entry_at};
@@ -26,6 +27,14 @@ impl<F: Mergeable, R: Receipt> Partition<F, R> {
         ensures { IsTrue result ↔ IsFree self.now slot context }
     {
         self.core.is_vacant(slot, context)
+    }
+
+    /// Whether what is open in a context is a relocation.
+    pub(crate) fn holds_relocation(&self, slot: usize, context: usize) -> bool
+        ensures some { OnTrue result ((x : _) × (relocation_at self.now slot context ≡ Some x)) }
+        ensures none { OnFalse result (relocation_at self.now slot context ≡ None) }
+    {
+        self.core.holds_relocation(slot, context)
     }
 
     /// Whether a relocation of a session is open.

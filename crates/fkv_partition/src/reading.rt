@@ -290,7 +290,7 @@ impl<F: Mergeable, R: Receipt> Partition<F, R> {
                 self.append_again(slot, context, relocation, whole, loading.kept, now)
             }
             Liveness::Further(address, parts) => {
-                if !self.core.records().is_place(address) {
+                if !self.core.records().is_record_start(address) {
                     self.end(slot, context, now);
                     return Err(Refused::Damaged { page });
                 }

@@ -6,8 +6,8 @@ ghost use Rattle.fkv_partition.specs.Going.{awaited_by};
 
 use crate::contexts::Loading;
 use fkv_functions::{Functions, Mergeable};
-use fkv_lookups::Gathered;
-use fkv_lookups::gathered::onto;
+use fkv_lookups::ChainResult;
+use fkv_lookups::chain_results::onto;
 use fkv_operations::IndexEntry;
 use fkv_records::Address;
 use fkv_texts::{ChainPosition, Entry};
@@ -88,7 +88,7 @@ impl<V: Copy> Clone for Liveness<V> {
 }
 
 /// What the chain tells of the record at an address, by what it came to.
-pub fn liveness_of<K: Copy, V: Copy>(target: Address, came: &Gathered<K, V>) -> Liveness<V>
+pub fn liveness_of<K: Copy, V: Copy>(target: Address, came: &ChainResult<K, V>) -> Liveness<V>
     ensures { result ≡ liveness target came.now }
 {
     let parts = came.parts;

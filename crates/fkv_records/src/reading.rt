@@ -15,7 +15,7 @@ pub fn is_of<K: Fixed, V: Fixed>(bytes: &[u8], key: &K) -> bool
         → (IsTrue result ↔ (r.key ≡ key.now)) }
 {
     key.known();
-    key.stands_in(&bytes[8..8 + K::SIZE])
+    key.bytes_equal(&bytes[8..8 + K::SIZE])
 }
 
 /// The record's header: its previous address, and whether it is a tombstone or a delta.

@@ -99,7 +99,7 @@ impl Shape {
     }
 
     /// Whether a record may stand at an address: whether a run of [`Shape::next_place`] from 64 comes there.
-    pub fn is_place(&self, address: Address) -> bool
+    pub fn is_record_start(&self, address: Address) -> bool
         ensures value { IsTrue result ↔ IsRecordStart self.now.page_bits self.now.record_size address }
         ensures low { IsTrue result → FIRST ≤ address }
         ensures high { IsTrue result → address + self.now.record_size ≤ END }

@@ -19,7 +19,7 @@ use Rattle.fkv_lives.specs.declared.steps.Access.{Access}
 use Rattle.fkv_lives.specs.declared.steps.Step.{Step}
 use Rattle.fkv_lives.specs.declared.steps.Step.TheVariants as step
 use Rattle.fkv_lives.specs.Histories.{answer_by, answers_in}
-use Rattle.fkv_worlds.specs.Reports.{IsKept, RunsTo, RunsUntil, unkept, stalls, ends, goes_on, follows, first_step}
+use Rattle.fkv_worlds.specs.Reports.{IsStepTaken, RunsTo, RunsUntil, unkept, stalls, ends, goes_on, follows, first_step}
 use Rattle.fkv_scripts.specs.declared.lines.Line.{Line}
 use Rattle.fkv_scripts.specs.declared.lines.Line.TheVariants as line
 use Rattle.std.specs.Prelude.{true, IfOk, IfSome}
@@ -139,7 +139,7 @@ module _ {K V I O R : Type 0} (stands : R → Standing) (entry : ℕ → List �
   run-nothing : (v : WorldView K V I O R) → IsRun stands entry cmp join f code v v []
   run-nothing v = record { steps = []; ran = refl; answers = sym (append-nothing (answers_in v.outcomes)) }
 
-  run-one : (v w : WorldView K V I O R) (s : Step K V I) (t : Result (Outcome V O) Refused) → IsKept stands entry cmp join f code v w s t → IsRun stands entry cmp join f code v w (t ∷ [])
+  run-one : (v w : WorldView K V I O R) (s : Step K V I) (t : Result (Outcome V O) Refused) → IsStepTaken stands entry cmp join f code v w s t → IsRun stands entry cmp join f code v w (t ∷ [])
   run-one v w s t kept = record { steps = s ∷ []; ran = (w, t, kept, refl); answers = ap answers_in kept.outcomes ∙ answers-joined v.outcomes (t ∷ []) }
 
   run-joined : (v u w : WorldView K V I O R) (ts us : List (Result (Outcome V O) Refused)) → IsRun stands entry cmp join f code v u ts → IsRun stands entry cmp join f code u w us → IsRun stands entry cmp join f code v w (ts ++ us)
@@ -176,37 +176,37 @@ did-finish stands entry cmp join f code p slot c mid w issued (Some told) is h =
 
 module _ {V O R : Type 0} (stands : R → Standing) (entry : ℕ → List ℕ → ℕ → Entry Name V → Type 0) (cmp : Name → Name → Ordering) (join : V → V → V) (f : Meanings Name V ℤ O) (code : Name → ℕ) (written : ℤ → V) where
   run-issued : (p slot : ℕ) (mid w : WorldView Name V ℤ O R) (told issued : Result (Outcome V O) Refused) (v : WorldView Name V ℤ O R) (s : Step Name V ℤ)
-      → IsKept stands entry cmp join f code v mid s issued → FollowsIssue stands entry cmp join f code p slot mid w told issued → IsRun stands entry cmp join f code v w (told ∷ [])
+      → IsStepTaken stands entry cmp join f code v mid s issued → FollowsIssue stands entry cmp join f code p slot mid w told issued → IsRun stands entry cmp join f code v w (told ∷ [])
   run-issued p slot mid w told issued v s kept (finishes c is h) =
       run-told stands entry cmp join f code v w (issued ∷ told ∷ []) (told ∷ []) (answers-joined (issued ∷ []) (told ∷ []) ∙ ap (λ xs. xs ++ answers_in (told ∷ [])) (silent-issue c issued is))
       (run-joined stands entry cmp join f code v mid w (issued ∷ []) (told ∷ []) (run-one stands entry cmp join f code v mid s issued kept) (run-until stands entry cmp join f code _ _ w (Some told) 10000 _ mid told h refl))
   run-issued p slot mid w told issued v s kept (FollowsIssue.tells is same e) = rw (same, e) (run-one stands entry cmp join f code v mid s issued kept)
 
   run-taken : (p : ℕ) (access : Access) (mid w : WorldView Name V ℤ O R) (told taken : Result (Outcome V O) Refused) (v : WorldView Name V ℤ O R) (s : Step Name V ℤ)
-      → IsKept stands entry cmp join f code v mid s taken → FollowsTake stands entry cmp join f code p access mid w told taken → IsRun stands entry cmp join f code v w (told ∷ [])
+      → IsStepTaken stands entry cmp join f code v mid s taken → FollowsTake stands entry cmp join f code p access mid w told taken → IsRun stands entry cmp join f code v w (told ∷ [])
   run-taken p access mid w told taken v s kept (writes is h) =
       run-told stands entry cmp join f code v w (taken ∷ told ∷ []) (told ∷ []) (answers-joined (taken ∷ []) (told ∷ []) ∙ ap (λ xs. xs ++ answers_in (told ∷ [])) (silent-take taken is))
       (run-joined stands entry cmp join f code v mid w (taken ∷ []) (told ∷ []) (run-one stands entry cmp join f code v mid s taken kept) (run-one stands entry cmp join f code mid w (step.Write p access) told h))
   run-taken p access mid w told taken v s kept (FollowsTake.tells is same e) = rw (same, e) (run-one stands entry cmp join f code v mid s taken kept)
 
   pub did-issue : (p slot : ℕ) (op : KeyedOp Name ℤ ℤ) (v mid w : WorldView Name V ℤ O R) (issued : Result (Outcome V O) Refused) (r : Option (Result (Outcome V O) Refused))
-      → IsKept stands entry cmp join f code v mid (step.Issue p slot (op_of written op)) issued
+      → IsStepTaken stands entry cmp join f code v mid (step.Issue p slot (op_of written op)) issued
       → IfSome r (λ told. FollowsIssue stands entry cmp join f code p slot mid w told issued)
       → IfSome r (λ told. RunsLine stands entry cmp join f code written v w told (line.Do p slot op))
   did-issue p slot op v mid w issued None kept h = tt
   did-issue p slot op v mid w issued (Some told) kept h = (mid, issued, kept, h)
 
   pub did-relocate : (p slot : ℕ) (v mid w : WorldView Name V ℤ O R) (issued : Result (Outcome V O) Refused) (r : Option (Result (Outcome V O) Refused))
-      → IsKept stands entry cmp join f code v mid (step.Issue p slot Relocate) issued
+      → IsStepTaken stands entry cmp join f code v mid (step.Issue p slot Relocate) issued
       → IfSome r (λ told. FollowsIssue stands entry cmp join f code p slot mid w told issued)
       → IfSome r (λ told. RunsLine stands entry cmp join f code written v w told (line.Compact p slot))
   did-relocate p slot v mid w issued None kept h = tt
   did-relocate p slot v mid w issued (Some told) kept h = (mid, issued, kept, h)
 
   pub did-take : (p : ℕ) (access : Access) (v mid w : WorldView Name V ℤ O R) (taken : Result (Outcome V O) Refused) (r : Option (Result (Outcome V O) Refused))
-      → IsKept stands entry cmp join f code v mid (step.Take p) taken
+      → IsStepTaken stands entry cmp join f code v mid (step.Take p) taken
       → is_page taken ≡ true
-      → IfSome r (IsKept stands entry cmp join f code mid w (step.Write p access))
+      → IfSome r (IsStepTaken stands entry cmp join f code mid w (step.Write p access))
       → IfSome r (λ told. RunsLine stands entry cmp join f code written v w told (line.Flush p access))
   did-take p access v mid w taken None kept is h = tt
   did-take p access v mid w taken (Some told) kept is h = (mid, taken, kept, writes is h)

@@ -37,7 +37,7 @@ use Rattle.fkv_worlds.specs.States.{WorldView, empty_world}
 use Rattle.fkv_lives.specs.Histories.{backwards, issues_in, issue_of, answers_in}
 use Rattle.fkv_worlds.specs.Headline.{IsHeadline}
 use Rattle.fkv_partition.specs.Unions.{union_of}
-use Rattle.fkv_worlds.specs.Reports.{IsKept, RunsTo, RunsUntil, first_step}
+use Rattle.fkv_worlds.specs.Reports.{IsStepTaken, RunsTo, RunsUntil, first_step}
 use Rattle.fkv_steps.specs.Bytes.{standing_of, IsNamedEntry}
 use Rattle.fkv_steps.specs.Printing.{steps_text, map_text}
 
@@ -74,7 +74,7 @@ pub data FollowsTake {V O R : Type 0} (stands : R → Standing) (entry : ℕ →
     (access : Access) (mid new : WorldView Name V ℤ O R) (told taken : Result (Outcome V O) Refused) : Type 0 where
   -- the page that was taken is written
   writes : is_page taken ≡ true
-      → IsKept stands entry cmp join f code mid new (step.Write p access) told
+      → IsStepTaken stands entry cmp join f code mid new (step.Write p access) told
       → FollowsTake stands entry cmp join f code p access mid new told taken
   -- no page was taken
   tells : is_page taken ≡ false
@@ -95,42 +95,42 @@ abbrev pub RunsLine : {V O R : Type 0} → (R → Standing) → (ℕ → List �
     → (Name → Name → Ordering) → (V → V → V) → Meanings Name V ℤ O → (Name → ℕ) → (ℤ → V) → WorldView Name V ℤ O R
     → WorldView Name V ℤ O R → Result (Outcome V O) Refused → Line → Type 0
 RunsLine stands entry cmp join f code written old new told (line.Enter p) =
-    IsKept stands entry cmp join f code old new (step.Enter p) told
+    IsStepTaken stands entry cmp join f code old new (step.Enter p) told
 RunsLine stands entry cmp join f code written old new told (line.Leave p slot) =
-    IsKept stands entry cmp join f code old new (step.Leave p slot) told
+    IsStepTaken stands entry cmp join f code old new (step.Leave p slot) told
 RunsLine stands entry cmp join f code written old new told (line.Refresh p slot) =
-    IsKept stands entry cmp join f code old new (step.Refresh p slot) told
+    IsStepTaken stands entry cmp join f code old new (step.Refresh p slot) told
 RunsLine stands entry cmp join f code written old new told (line.ReadOnly p page) =
-    IsKept stands entry cmp join f code old new (step.ReadOnly p page) told
+    IsStepTaken stands entry cmp join f code old new (step.ReadOnly p page) told
 RunsLine stands entry cmp join f code written old new told (line.Head p page) =
-    IsKept stands entry cmp join f code old new (step.Head p page) told
+    IsStepTaken stands entry cmp join f code old new (step.Head p page) told
 RunsLine {V} {O} {R} stands entry cmp join f code written old new told (line.Flush p access) =
     (mid : WorldView Name V ℤ O R)
     × (taken : Result (Outcome V O) Refused)
-    × IsKept stands entry cmp join f code old mid (step.Take p) taken
+    × IsStepTaken stands entry cmp join f code old mid (step.Take p) taken
     × FollowsTake stands entry cmp join f code p access mid new told taken
 RunsLine stands entry cmp join f code written old new told (line.Truncate p) =
-    IsKept stands entry cmp join f code old new (step.Truncate p) told
+    IsStepTaken stands entry cmp join f code old new (step.Truncate p) told
 RunsLine stands entry cmp join f code written old new told (line.Issue p slot op) =
-    IsKept stands entry cmp join f code old new (step.Issue p slot (op_of written op)) told
+    IsStepTaken stands entry cmp join f code old new (step.Issue p slot (op_of written op)) told
 RunsLine {V} {O} {R} stands entry cmp join f code written old new told (line.Do p slot op) =
     (mid : WorldView Name V ℤ O R)
     × (issued : Result (Outcome V O) Refused)
-    × IsKept stands entry cmp join f code old mid (step.Issue p slot (op_of written op)) issued
+    × IsStepTaken stands entry cmp join f code old mid (step.Issue p slot (op_of written op)) issued
     × FollowsIssue stands entry cmp join f code p slot mid new told issued
 RunsLine {V} {O} {R} stands entry cmp join f code written old new told (line.Compact p slot) =
     (mid : WorldView Name V ℤ O R)
     × (issued : Result (Outcome V O) Refused)
-    × IsKept stands entry cmp join f code old mid (step.Issue p slot Relocate) issued
+    × IsStepTaken stands entry cmp join f code old mid (step.Issue p slot Relocate) issued
     × FollowsIssue stands entry cmp join f code p slot mid new told issued
 RunsLine stands entry cmp join f code written old new told (line.Go w) =
-    IsKept stands entry cmp join f code old new (step.Go w) told
+    IsStepTaken stands entry cmp join f code old new (step.Go w) told
 RunsLine stands entry cmp join f code written old new told (line.Install w) =
-    IsKept stands entry cmp join f code old new (step.Install w) told
+    IsStepTaken stands entry cmp join f code old new (step.Install w) told
 RunsLine stands entry cmp join f code written old new told (line.Load w access) =
-    IsKept stands entry cmp join f code old new (step.Load w access) told
+    IsStepTaken stands entry cmp join f code old new (step.Load w access) told
 RunsLine stands entry cmp join f code written old new told (line.GiveUp w) =
-    IsKept stands entry cmp join f code old new (step.GiveUp w) told
+    IsStepTaken stands entry cmp join f code old new (step.GiveUp w) told
 RunsLine stands entry cmp join f code written old new told (line.Ready w) =
     RunsUntil stands entry cmp join f code until.Ready w new (Some told) 10000
     (first_step old.state.partitions until.Ready w) old

@@ -6,7 +6,7 @@ use Rattle.fkv_functions.specs.declared.refusals.Refused.{Refused}
 use Rattle.fkv_functions.specs.declared.refusals.Refused.TheVariants.{NoMemory, NoSlot, Unknown, Stranger, Worn, Device, Damaged, Stalled}
 use Rattle.fkv_functions.specs.declared.refusals.What.TheVariants as what
 use Rattle.fkv_store.specs.Passes.{PassView, IsStrange}
-use Rattle.fkv_store.specs.Stores.{StoreView, IsTold, IsUnentered, IsUnseated, IsUntidy, IsUndone, IsStopped, IsUnrun, IsUncompacted}
+use Rattle.fkv_store.specs.Stores.{StoreView, IsTold, IsUnentered, IsUnrefreshed, IsUntidy, IsUndone, IsStopped, IsUnrun, IsUncompacted}
 
 pub undone_stopped : (known : ℕ) (why : Refused) → IsUndone known why → IsStopped known why
 undone_stopped known NoMemory h = tt
@@ -26,20 +26,20 @@ untidy_stopped known Worn h = tt
 untidy_stopped known (Device code page) h = inl h
 untidy_stopped known other h = absurd h
 
-pub unseated_stopped : (known : ℕ) (why : Refused) → IsUnseated why → IsStopped known why
-unseated_stopped known Unknown h = tt
-unseated_stopped known Worn h = tt
-unseated_stopped known other h = absurd h
+pub unrefreshed_stopped : (known : ℕ) (why : Refused) → IsUnrefreshed why → IsStopped known why
+unrefreshed_stopped known Unknown h = tt
+unrefreshed_stopped known Worn h = tt
+unrefreshed_stopped known other h = absurd h
 
 pub unentered_stopped : (known : ℕ) (why : Refused) → IsUnentered why → IsStopped known why
 unentered_stopped known NoSlot h = tt
 unentered_stopped known Worn h = tt
 unentered_stopped known other h = absurd h
 
-pub unseated_untidy : (why : Refused) → IsUnseated why → IsUntidy why
-unseated_untidy Unknown h = tt
-unseated_untidy Worn h = tt
-unseated_untidy other h = absurd h
+pub unrefreshed_untidy : (why : Refused) → IsUnrefreshed why → IsUntidy why
+unrefreshed_untidy Unknown h = tt
+unrefreshed_untidy Worn h = tt
+unrefreshed_untidy other h = absurd h
 
 -- an operation alone stalls
 pub undone_on : (known : ℕ) (why : Refused) → IsUndone known why → why ≢ Stalled
@@ -48,8 +48,8 @@ undone_on known why h is = subst (IsUndone known) is h
 pub untidy_on : (why : Refused) → IsUntidy why → why ≢ Stalled
 untidy_on why h is = subst IsUntidy is h
 
-pub unseated_on : (why : Refused) → IsUnseated why → why ≢ Stalled
-unseated_on why h is = subst IsUnseated is h
+pub unrefreshed_on : (why : Refused) → IsUnrefreshed why → why ≢ Stalled
+unrefreshed_on why h is = subst IsUnrefreshed is h
 
 pub unentered_on : (why : Refused) → IsUnentered why → why ≢ Stalled
 unentered_on why h is = subst IsUnentered is h
@@ -95,6 +95,6 @@ unrun_told s p merges op known why keyed (inr (inr h)) = absurd (cc)
 pub untidy_told : (why : Refused) → IsUntidy why → IsTold why
 untidy_told why h = stopped_told 0 why (untidy_stopped 0 why h)
 
-pub rest_told : {K V I O : Type 0} (s : StoreView) (p : PassView K V I O) (why : Refused) → IsStrange s p why ⊎ IsUnseated why → IsTold why
+pub rest_told : {K V I O : Type 0} (s : StoreView) (p : PassView K V I O) (why : Refused) → IsStrange s p why ⊎ IsUnrefreshed why → IsTold why
 rest_told s p why (inl h) = strange_told s p why h
-rest_told s p why (inr h) = stopped_told 0 why (unseated_stopped 0 why h)
+rest_told s p why (inr h) = stopped_told 0 why (unrefreshed_stopped 0 why h)

@@ -1,7 +1,7 @@
 -- What a caller learns of a turn.
 use Rattle.std.proofs.Common.{ℕ, Bool, List}
 use Rattle.fkv_locked.specs.Turns.{Noted, Turns, IsTurnOf}
-use Rattle.fkv_locked.specs.declared.seats.OpenOperation.{OpenOperation}
+use Rattle.fkv_locked.specs.declared.open_operations.OpenOperation.{OpenOperation}
 use Rattle.fkv_locked.specs.declared.turns.Turn.{Turn}
 use Rattle.fkv_locked.specs.declared.turns.Turn.TheVariants.{Done, Next, NeedsBuild, NeedsLoad, Waits}
 

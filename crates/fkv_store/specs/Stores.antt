@@ -40,10 +40,10 @@ heard other = Unknown
 
 -- what a session is refused by that is refreshed or left: its partition's clock has no next moment; or another caller took the
 -- session for its own
-abbrev pub IsUnseated : Refused → Type 0
-IsUnseated Unknown = ⊤
-IsUnseated Worn = ⊤
-IsUnseated other = ⊥
+abbrev pub IsUnrefreshed : Refused → Type 0
+IsUnrefreshed Unknown = ⊤
+IsUnrefreshed Worn = ⊤
+IsUnrefreshed other = ⊥
 
 -- what moving a partition's pages on is refused by: no page is read, no session is entered and nothing is waited for
 abbrev pub IsUntidy : Refused → Type 0

@@ -2,7 +2,7 @@
 ghost use Rattle.std.specs.Prelude.{◌≡◌, ◌≢◌, ◌<◌, ◌≤◌, ◌+◌, ◌-◌, ◌^◌, IfOk, IfErr, IfSome, OnOk};
 ghost use Rattle.fkv_operations.specs.declared.operations.KeyedOp.TheVariants.{Read, Rmw};
 ghost use Rattle.fkv_locked.specs.Turns.{IsOf, IsTurnOf};
-ghost use Rattle.fkv_store.specs.Stores.{IsUnentered, IsUndone, IsUnseated};
+ghost use Rattle.fkv_store.specs.Stores.{IsUnentered, IsUndone, IsUnrefreshed};
 
 use crate::gates::{Gate, Place};
 use crate::refusals::{told, told_of};
@@ -45,7 +45,7 @@ pub(crate) struct Issued<K, V, I> {
 }
 
 impl<K, V, I> Model for Issued<K, V, I> {
-    ghost use Rattle.fkv_locked.specs.declared.seats.OpenOperation.{OpenOperation};
+    ghost use Rattle.fkv_locked.specs.declared.open_operations.OpenOperation.{OpenOperation};
 
     ghost Value = { OpenOperation K V I };
 
@@ -99,7 +99,7 @@ pub(crate) fn enter<F: Mergeable, D: Disk, H: Recorder<F>, G: Gate>(
     let mut held = store.locks[at.partition].lock(rt);
     gate.pass(at.worker, at.locked());
     match held.enter() {
-        Ok(seat) => Ok(seat),
+        Ok(session) => Ok(session),
         Err(refused) => Err(told(refused)),
     }
 }
@@ -109,15 +109,15 @@ pub(crate) fn refresh<F: Mergeable, D: Disk, H: Recorder<F>, G: Gate>(
     rt: &impl Wait,
     store: &Store<F, D, H>,
     at: At,
-    seat: SessionId,
+    session: SessionId,
     gate: &G,
 ) -> Result<(), Refused>
     requires { at.partition < store.now.count }
-    ensures only { IfErr result IsUnseated }
+    ensures only { IfErr result IsUnrefreshed }
 {
     let mut held = store.locks[at.partition].lock(rt);
     gate.pass(at.worker, at.locked());
-    match held.refresh(seat) {
+    match held.refresh(session) {
         Ok(()) => Ok(()),
         Err(refused) => Err(told(refused)),
     }
@@ -128,15 +128,15 @@ pub(crate) fn leave<F: Mergeable, D: Disk, H: Recorder<F>, G: Gate>(
     rt: &impl Wait,
     store: &Store<F, D, H>,
     at: At,
-    seat: SessionId,
+    session: SessionId,
     gate: &G,
 ) -> Result<(), Refused>
     requires { at.partition < store.now.count }
-    ensures only { IfErr result IsUnseated }
+    ensures only { IfErr result IsUnrefreshed }
 {
     let mut held = store.locks[at.partition].lock(rt);
     gate.pass(at.worker, at.locked());
-    match held.leave(seat) {
+    match held.leave(session) {
         Ok(()) => Ok(()),
         Err(refused) => Err(told(refused)),
     }
@@ -147,7 +147,7 @@ pub(crate) fn issue<F: Mergeable, D: Disk, H: Recorder<F>, G: Gate>(
     rt: &impl Wait,
     store: &Store<F, D, H>,
     at: At,
-    seat: SessionId,
+    session: SessionId,
     op: KeyedOpOf<F>,
     known: u64,
     gate: &G,
@@ -159,7 +159,7 @@ pub(crate) fn issue<F: Mergeable, D: Disk, H: Recorder<F>, G: Gate>(
 {
     let mut held = store.locks[at.partition].lock(rt);
     gate.pass(at.worker, at.locked());
-    match held.issue(seat, op, known, &store.functions) {
+    match held.issue(session, op, known, &store.functions) {
         Ok(mine) => Ok(Issued { mine }),
         Err(refused) => Err(told_of(refused, known)),
     }
@@ -171,7 +171,7 @@ pub(crate) fn try_update_in_place<F: Mergeable, D: Disk, H: Recorder<F>, G: Gate
     rt: &impl Wait,
     store: &Store<F, D, H>,
     at: At,
-    seat: SessionId,
+    session: SessionId,
     key: &F::Key,
     input: &F::Input,
     known: u64,
@@ -185,7 +185,7 @@ pub(crate) fn try_update_in_place<F: Mergeable, D: Disk, H: Recorder<F>, G: Gate
 {
     let mut held = store.locks[at.partition].lock(rt);
     gate.pass(at.worker, at.locked());
-    match held.try_update_in_place(seat, key, input, known, &store.functions) {
+    match held.try_update_in_place(session, key, input, known, &store.functions) {
         Ok(entry) => Ok(entry),
         Err(refused) => Err(told_of(refused, known)),
     }
@@ -197,7 +197,7 @@ pub(crate) fn try_read_in_memory<F: Mergeable, D: Disk, H: Recorder<F>, G: Gate>
     rt: &impl Wait,
     store: &Store<F, D, H>,
     at: At,
-    seat: SessionId,
+    session: SessionId,
     key: &F::Key,
     input: &F::Input,
     known: u64,
@@ -211,10 +211,26 @@ pub(crate) fn try_read_in_memory<F: Mergeable, D: Disk, H: Recorder<F>, G: Gate>
 {
     let mut held = store.locks[at.partition].lock(rt);
     gate.pass(at.worker, at.locked());
-    match held.try_read_in_memory(seat, key, input, known, &store.functions) {
+    match held.try_read_in_memory(session, key, input, known, &store.functions) {
         Ok(entry) => Ok(entry),
         Err(refused) => Err(told_of(refused, known)),
     }
+}
+
+/// Whether an update of a key may need a page, as [`fkv_locked::Locked::may_need_page`] tells.
+pub(crate) fn may_need_page<F: Mergeable, D: Disk, H: Recorder<F>, G: Gate>(
+    rt: &impl Wait,
+    store: &Store<F, D, H>,
+    at: At,
+    session: SessionId,
+    key: &F::Key,
+    gate: &G,
+) -> bool
+    requires { at.partition < store.now.count }
+{
+    let held = store.locks[at.partition].lock(rt);
+    gate.pass(at.worker, at.locked());
+    held.may_need_page(session, key, &store.functions)
 }
 
 /// Makes the next event of an operation of a caller, with what is at hand, and counts a turn of it. Refused as

@@ -16,13 +16,13 @@ pub(crate) fn zeros(alloc: Global, count: usize) -> Result<Vec<u64>, Refused>
     Ok(told)
 }
 
-/// No seat, for each of so many partitions. Refused: `NoMemory`.
-pub(crate) fn no_seats(alloc: Global, count: usize) -> Result<Vec<Option<SessionId>>, Refused>
-    ensures ok { IfOk result (λ seats. seats.items ≡ replicate count None) }
+/// No session, for each of so many partitions. Refused: `NoMemory`.
+pub(crate) fn no_sessions(alloc: Global, count: usize) -> Result<Vec<Option<SessionId>>, Refused>
+    ensures ok { IfOk result (λ sessions. sessions.items ≡ replicate count None) }
     ensures only { IfErr result (λ refused. refused ≡ Refused.NoMemory) }
 {
-    let Ok(seats) = vec![in alloc; None; count] else {
+    let Ok(sessions) = vec![in alloc; None; count] else {
         return Err(Refused::NoMemory);
     };
-    Ok(seats)
+    Ok(sessions)
 }

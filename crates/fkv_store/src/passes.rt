@@ -3,7 +3,7 @@ ghost use Rattle.std.specs.Prelude.{◌≡◌, ◌≢◌, ◌+◌, ◌-◌, ◌^
 ghost use Rattle.fkv_partition.specs.CoreViews.{partition_of};
 ghost use Rattle.fkv_operations.specs.After.{key_of, is_merge};
 ghost use Rattle.fkv_operations.specs.declared.operations.KeyedOp.{KeyedOp};
-ghost use Rattle.fkv_store.specs.Stores.{IsUnentered, IsUnseated, IsStopped, IsUnrun};
+ghost use Rattle.fkv_store.specs.Stores.{IsUnentered, IsUnrefreshed, IsStopped, IsUnrun};
 ghost use Rattle.fkv_store.specs.Passes.{IsPassOf, IsStrange, Runs, Updates};
 ghost use Rattle.fkv_store.specs.Runs.{IsRunAs};
 
@@ -31,7 +31,7 @@ pub struct Pass<F: Mergeable, D: Disk, H: Recorder<F>> {
     pub(crate) store: u64,
     pub(crate) worker: u32,
     pub(crate) owns: Owns<F, H>,
-    pub(crate) seats: Vec<Option<SessionId>>,
+    pub(crate) sessions: Vec<Option<SessionId>>,
     /// For each partition how often its pages had been moved when its session was refreshed.
     pub(crate) seen: Vec<u64>,
     pub(crate) readers: Vec<D::Reader>,
@@ -57,31 +57,31 @@ impl<F: Mergeable, D: Disk, H: Recorder<F>> Model for Pass<F, D, H> {
     } };
 
     ghost invariant = { λ p. (length p.owns.told ≡ length p.owns.lists)
-        × (length p.seats.items ≡ length p.owns.lists)
+        × (length p.sessions.items ≡ length p.owns.lists)
         × (length p.seen.items ≡ length p.owns.lists)
         × (length p.readers.items ≡ length p.owns.lists) };
 }
 
-/// The seat in a partition: that which is there, or that of a session which is entered now.
-fn seat_in<F: Mergeable, D: Disk, H: Recorder<F>, G: Gate>(
+/// The session in a partition: that which is there, or that of a session which is entered now.
+fn session_in<F: Mergeable, D: Disk, H: Recorder<F>, G: Gate>(
     rt: &impl Wait,
     store: &Store<F, D, H>,
-    seats: &mut Vec<Option<SessionId>>,
+    sessions: &mut Vec<Option<SessionId>>,
     at: At,
     gate: &G,
 ) -> Result<SessionId, Refused>
     requires within { at.partition < store.now.count }
-    requires seats { length seats.old.items ≡ store.now.count }
-    ensures seats { length seats.new.items ≡ length seats.old.items }
+    requires sessions { length sessions.old.items ≡ store.now.count }
+    ensures sessions { length sessions.new.items ≡ length sessions.old.items }
     ensures only { IfErr result IsUnentered }
 {
-    if let Some(seat) = seats[at.partition] {
-        return Ok(seat);
+    if let Some(session) = sessions[at.partition] {
+        return Ok(session);
     }
     match enter(rt, store, at, gate) {
-        Ok(seat) => {
-            seats[at.partition] = Some(seat);
-            Ok(seat)
+        Ok(session) => {
+            sessions[at.partition] = Some(session);
+            Ok(session)
         }
         Err(refused) => Err(refused),
     }
@@ -92,22 +92,22 @@ fn seat_in<F: Mergeable, D: Disk, H: Recorder<F>, G: Gate>(
 fn refresh_at_times<F: Mergeable, D: Disk, H: Recorder<F>, G: Gate>(
     rt: &impl Wait,
     store: &Store<F, D, H>,
-    seats: &[Option<SessionId>],
+    sessions: &[Option<SessionId>],
     seen: &mut Vec<u64>,
     worker: u32,
     answered: &mut u8,
     gate: &G,
 ) -> Result<(), Refused>
-    requires seats { length seats.now ≡ store.now.count }
+    requires sessions { length sessions.now ≡ store.now.count }
     requires seen { length seen.old.items ≡ store.now.count }
     ensures seen { length seen.new.items ≡ length seen.old.items }
     ensures few { OnOk result (answered.new < 64) }
-    ensures only { IfErr result IsUnseated }
+    ensures only { IfErr result IsUnrefreshed }
 {
     if *answered < ANSWERS {
         return Ok(());
     }
-    match refresh_moved(rt, store, seats, seen, worker, gate) {
+    match refresh_moved(rt, store, sessions, seen, worker, gate) {
         Ok(()) => {
             *answered = 0;
             Ok(())
@@ -174,9 +174,10 @@ impl<F: Mergeable, D: Disk, H: Recorder<F>> Pass<F, D, H> {
         self.run_as(rt, alloc, store, op, Loads::Read, gate)
     }
 
-    /// Updates a key by an input as [`Pass::run`] does, but where the functions merge it reads no page: where the update
-    /// would read one it is given up, without effect, and a merge of the key by the same input runs in its place. Either takes
-    /// at most the turns of the configuration.
+    /// Updates a key by an input as [`Pass::run`] does, but where the functions merge it reads no page: a merge of the key by
+    /// the same input runs in its place where the last record of the key in memory, if any, has no value of it, since it is a
+    /// delta or the records go on in a page, and where the update would read a page after all, and is given up, without effect.
+    /// Either takes at most the turns of the configuration.
     ///
     /// # Errors
     ///
@@ -246,7 +247,7 @@ impl<F: Mergeable, D: Disk, H: Recorder<F>> Pass<F, D, H> {
         match refresh_at_times(
             rt,
             store,
-            &self.seats,
+            &self.sessions,
             &mut self.seen,
             at.worker,
             &mut self.answered,
@@ -255,16 +256,16 @@ impl<F: Mergeable, D: Disk, H: Recorder<F>> Pass<F, D, H> {
             Ok(()) => {}
             Err(refused) => return Err(refused),
         }
-        let seat = match seat_in(rt, store, &mut self.seats, at, gate) {
-            Ok(seat) => seat,
+        let session = match session_in(rt, store, &mut self.sessions, at, gate) {
+            Ok(session) => session,
             Err(refused) => return Err(refused),
         };
         let known = self.owns.told_at(partition);
         let run = Run {
             alloc,
             at,
-            seats: &self.seats,
-            seat,
+            sessions: &self.sessions,
+            session,
             known,
         };
         let finished = match run_in(
@@ -295,14 +296,14 @@ impl<F: Mergeable, D: Disk, H: Recorder<F>> Pass<F, D, H> {
     pub fn refresh(&mut self, rt: &impl Wait, store: &Store<F, D, H>) -> Result<(), Refused>
         ensures foreign { ¬ IsPassOf store.now self.old → IfErr result (IsStrange store.now self.old) }
         ensures own { OnOk result (IsPassOf store.now self.old) }
-        ensures only { IfErr result (λ why. IsStrange store.now self.old why ⊎ IsUnseated why) }
+        ensures only { IfErr result (λ why. IsStrange store.now self.old why ⊎ IsUnrefreshed why) }
         ensures same { self.new ≡ self.old }
     {
         match self.known_to(store) {
             Ok(()) => {}
             Err(refused) => return Err(refused),
         }
-        match refresh_all(rt, store, &self.seats, self.worker, &Open) {
+        match refresh_all(rt, store, &self.sessions, self.worker, &Open) {
             Ok(()) => {
                 self.answered = 0;
                 Ok(())
@@ -319,14 +320,14 @@ impl<F: Mergeable, D: Disk, H: Recorder<F>> Pass<F, D, H> {
     pub fn rest(&mut self, rt: &impl Wait, store: &Store<F, D, H>) -> Result<(), Refused>
         ensures foreign { ¬ IsPassOf store.now self.old → IfErr result (IsStrange store.now self.old) }
         ensures own { OnOk result (IsPassOf store.now self.old) }
-        ensures only { IfErr result (λ why. IsStrange store.now self.old why ⊎ IsUnseated why) }
+        ensures only { IfErr result (λ why. IsStrange store.now self.old why ⊎ IsUnrefreshed why) }
         ensures same { self.new ≡ self.old }
     {
         match self.known_to(store) {
             Ok(()) => {}
             Err(refused) => return Err(refused),
         }
-        leave_all(rt, store, &mut self.seats, self.worker)
+        leave_all(rt, store, &mut self.sessions, self.worker)
     }
 }
 
@@ -334,19 +335,19 @@ impl<F: Mergeable, D: Disk, H: Recorder<F>> Pass<F, D, H> {
 fn leave_all<F: Mergeable, D: Disk, H: Recorder<F>>(
     rt: &impl Wait,
     store: &Store<F, D, H>,
-    seats: &mut Vec<Option<SessionId>>,
+    sessions: &mut Vec<Option<SessionId>>,
     worker: u32,
 ) -> Result<(), Refused>
-    requires { length seats.old.items ≡ store.now.count }
-    ensures seats { length seats.new.items ≡ length seats.old.items }
-    ensures only { IfErr result IsUnseated }
+    requires { length sessions.old.items ≡ store.now.count }
+    ensures sessions { length sessions.new.items ≡ length sessions.old.items }
+    ensures only { IfErr result IsUnrefreshed }
 {
-    for partition in 0..seats.len() {
-        let Some(seat) = seats[partition] else {
+    for partition in 0..sessions.len() {
+        let Some(session) = sessions[partition] else {
             continue;
         };
-        match leave(rt, store, At { partition, worker }, seat, &Open) {
-            Ok(()) => seats[partition] = None,
+        match leave(rt, store, At { partition, worker }, session, &Open) {
+            Ok(()) => sessions[partition] = None,
             Err(refused) => return Err(refused),
         }
     }

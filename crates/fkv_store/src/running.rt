@@ -2,13 +2,13 @@
 ghost use Rattle.std.specs.Prelude.{◌≡◌, ◌≢◌, ◌<◌, ◌≤◌, ◌+◌, ◌-◌, ◌^◌, true, false, length, IsTrue, IfOk, IfErr, IfSome, OnOk, IsSome};
 ghost use Rattle.fkv_operations.specs.After.{is_merge};
 ghost use Rattle.fkv_locked.specs.Turns.{IsOf, IsTurnOf};
-ghost use Rattle.fkv_store.specs.Stores.{IsUndone, IsUnseated, IsUntidy, IsStopped, IsUnrun};
+ghost use Rattle.fkv_store.specs.Stores.{IsUndone, IsUnrefreshed, IsUntidy, IsStopped, IsUnrun};
 ghost use Rattle.fkv_store.specs.Runs.{IsRunAs, IsEntryOf};
 
 use crate::gates::{Gate, Place};
 use crate::holds::{
-    At, EventInput, IssuedOf, Turned, close, give_up, install, issue, refresh, try_read_in_memory,
-    try_update_in_place, turn,
+    At, EventInput, IssuedOf, Turned, close, give_up, install, issue, may_need_page, refresh,
+    try_read_in_memory, try_update_in_place, turn,
 };
 use crate::stores::Store;
 use crate::waiting::Patience;
@@ -37,8 +37,8 @@ pub(crate) enum Loads {
 pub(crate) struct Run<'a> {
     pub alloc: Global,
     pub at: At,
-    pub seats: &'a [Option<SessionId>],
-    pub seat: SessionId,
+    pub sessions: &'a [Option<SessionId>],
+    pub session: SessionId,
     pub known: u64,
 }
 
@@ -46,18 +46,18 @@ pub(crate) struct Run<'a> {
 pub(crate) fn refresh_all<F: Mergeable, D: Disk, H: Recorder<F>, G: Gate>(
     rt: &impl Wait,
     store: &Store<F, D, H>,
-    seats: &[Option<SessionId>],
+    sessions: &[Option<SessionId>],
     worker: u32,
     gate: &G,
 ) -> Result<(), Refused>
-    requires { length seats.now ≡ store.now.count }
-    ensures only { IfErr result IsUnseated }
+    requires { length sessions.now ≡ store.now.count }
+    ensures only { IfErr result IsUnrefreshed }
 {
-    for (partition, seat) in seats.iter().enumerate() {
-        let Some(seat) = seat else {
+    for (partition, session) in sessions.iter().enumerate() {
+        let Some(session) = session else {
             continue;
         };
-        match refresh(rt, store, At { partition, worker }, *seat, gate) {
+        match refresh(rt, store, At { partition, worker }, *session, gate) {
             Ok(()) => {}
             Err(refused) => return Err(refused),
         }
@@ -69,25 +69,25 @@ pub(crate) fn refresh_all<F: Mergeable, D: Disk, H: Recorder<F>, G: Gate>(
 pub(crate) fn refresh_moved<F: Mergeable, D: Disk, H: Recorder<F>, G: Gate>(
     rt: &impl Wait,
     store: &Store<F, D, H>,
-    seats: &[Option<SessionId>],
+    sessions: &[Option<SessionId>],
     seen: &mut Vec<u64>,
     worker: u32,
     gate: &G,
 ) -> Result<(), Refused>
-    requires seats { length seats.now ≡ store.now.count }
+    requires sessions { length sessions.now ≡ store.now.count }
     requires seen { length seen.old.items ≡ store.now.count }
     ensures seen { length seen.new.items ≡ length seen.old.items }
-    ensures only { IfErr result IsUnseated }
+    ensures only { IfErr result IsUnrefreshed }
 {
-    for (partition, seat) in seats.iter().enumerate() {
-        let Some(seat) = seat else {
+    for (partition, session) in sessions.iter().enumerate() {
+        let Some(session) = session else {
             continue;
         };
         let moves = store.moves_of(partition);
         if seen[partition] == moves {
             continue;
         }
-        match refresh(rt, store, At { partition, worker }, *seat, gate) {
+        match refresh(rt, store, At { partition, worker }, *session, gate) {
             Ok(()) => seen[partition] = moves,
             Err(refused) => return Err(refused),
         }
@@ -144,7 +144,7 @@ fn wait<F: Mergeable, D: Disk, H: Recorder<F>, G: Gate>(
     gate: &G,
 ) -> Result<(), Refused>
     requires within { run.now.at.partition < store.now.count }
-    requires seats { length run.now.seats.now ≡ store.now.count }
+    requires sessions { length run.now.sessions.now ≡ store.now.count }
     ensures only { IfErr result IsUntidy }
 {
     patience.give_way(rt, store.moves_of(run.at.partition));
@@ -153,7 +153,7 @@ fn wait<F: Mergeable, D: Disk, H: Recorder<F>, G: Gate>(
             Ok(_head) => {}
             Err(refused) => return Err(refused),
         }
-        match refresh_all(rt, store, run.seats, run.at.worker, gate) {
+        match refresh_all(rt, store, run.sessions, run.at.worker, gate) {
             Ok(()) => {}
             Err(refused) => return Err(refused),
         }
@@ -174,7 +174,7 @@ fn run_on<F: Mergeable, D: Disk, H: Recorder<F>, G: Gate>(
     gate: &G,
 ) -> Result<Option<FinishedOf<F>>, Refused>
     requires within { run.now.at.partition < store.now.count }
-    requires seats { length run.now.seats.now ≡ store.now.count }
+    requires sessions { length run.now.sessions.now ≡ store.now.count }
     ensures of { IfOk result (λ done. IfSome done (IsOf issued.now)) }
     ensures read { IsTrue reads → IfOk result IsSome }
     ensures only { IfErr result (IsStopped issued.now.told) }
@@ -227,10 +227,28 @@ fn try_at_once<F: Mergeable, D: Disk, H: Recorder<F>, G: Gate>(
 {
     match op {
         KeyedOp::Rmw(key, input) => {
-            try_update_in_place(rt, store, run.at, run.seat, &key, &input, run.known, gate)
+            try_update_in_place(
+                rt,
+                store,
+                run.at,
+                run.session,
+                &key,
+                &input,
+                run.known,
+                gate,
+            )
         }
         KeyedOp::Read(key, input) => {
-            try_read_in_memory(rt, store, run.at, run.seat, &key, &input, run.known, gate)
+            try_read_in_memory(
+                rt,
+                store,
+                run.at,
+                run.session,
+                &key,
+                &input,
+                run.known,
+                gate,
+            )
         }
         KeyedOp::Upsert(..) | KeyedOp::Delete(_) | KeyedOp::Merge(..) => Ok(None),
     }
@@ -249,13 +267,13 @@ fn run_out<F: Mergeable, D: Disk, H: Recorder<F>, G: Gate>(
     gate: &G,
 ) -> Result<Option<FinishedOf<F>>, Refused>
     requires within { run.now.at.partition < store.now.count }
-    requires seats { length run.now.seats.now ≡ store.now.count }
+    requires sessions { length run.now.sessions.now ≡ store.now.count }
     ensures of { IfOk result (λ done. IfSome done (IsEntryOf op run.now.known)) }
     ensures read { IsTrue reads → IfOk result IsSome }
     ensures only { IfErr result (IsStopped run.now.known) }
     ensures stalled { IfErr result (λ why. why ≡ Refused.Stalled → turned.new ≡ store.now.turns) }
 {
-    let issued = match issue(rt, store, run.at, run.seat, op, run.known, gate) {
+    let issued = match issue(rt, store, run.at, run.session, op, run.known, gate) {
         Ok(issued) => issued,
         Err(refused) => return Err(refused),
     };
@@ -272,6 +290,30 @@ fn run_out<F: Mergeable, D: Disk, H: Recorder<F>, G: Gate>(
             give_up(rt, store, run.at, issued, gate);
             Err(refused)
         }
+    }
+}
+
+/// Issues an operation and runs it to its end, and reads the pages that it needs. Where it is not finished it is given up, without
+/// effect.
+fn run_reading<F: Mergeable, D: Disk, H: Recorder<F>, G: Gate>(
+    rt: &(impl Wait + Clock),
+    store: &Store<F, D, H>,
+    run: &Run<'_>,
+    reader: &mut D::Reader,
+    op: KeyedOpOf<F>,
+    turned: &mut Turned,
+    gate: &G,
+) -> Result<FinishedOf<F>, Refused>
+    requires within { run.now.at.partition < store.now.count }
+    requires sessions { length run.now.sessions.now ≡ store.now.count }
+    ensures of { IfOk result (IsEntryOf op run.now.known) }
+    ensures only { IfErr result (IsStopped run.now.known) }
+    ensures stalled { IfErr result (λ why. why ≡ Refused.Stalled → turned.new ≡ store.now.turns) }
+{
+    match run_out(rt, store, run, reader, op, true, turned, gate) {
+        Ok(Some(entry)) => Ok(entry),
+        Ok(None) => unreachable!(),
+        Err(refused) => Err(refused),
     }
 }
 
@@ -300,7 +342,7 @@ pub(crate) fn run_in<F: Mergeable, D: Disk, H: Recorder<F>, G: Gate>(
     gate: &G,
 ) -> Result<FinishedOf<F>, Refused>
     requires within { run.now.at.partition < store.now.count }
-    requires seats { length run.now.seats.now ≡ store.now.count }
+    requires sessions { length run.now.sessions.now ≡ store.now.count }
     requires readers { length readers.old.items ≡ store.now.count }
     ensures readers { length readers.new.items ≡ length readers.old.items }
     ensures op { IfOk result (λ e. IsRunAs loads op e.op) }
@@ -317,7 +359,8 @@ pub(crate) fn run_in<F: Mergeable, D: Disk, H: Recorder<F>, G: Gate>(
     }
 }
 
-/// Runs an operation as [`run_in`] does, but always by its events.
+/// Runs an operation as [`run_in`] does, but always by its events. An update that may need a page is made a merge at once, where that
+/// is asked for: where the last record of its key in memory, if any, has no value of it ([`may_need_page`]).
 #[inline(never)]
 fn run_by_turns<F: Mergeable, D: Disk, H: Recorder<F>, G: Gate>(
     rt: &(impl Wait + Clock),
@@ -330,7 +373,7 @@ fn run_by_turns<F: Mergeable, D: Disk, H: Recorder<F>, G: Gate>(
     gate: &G,
 ) -> Result<FinishedOf<F>, Refused>
     requires within { run.now.at.partition < store.now.count }
-    requires seats { length run.now.seats.now ≡ store.now.count }
+    requires sessions { length run.now.sessions.now ≡ store.now.count }
     requires readers { length readers.old.items ≡ store.now.count }
     ensures readers { length readers.new.items ≡ length readers.old.items }
     ensures op { IfOk result (λ e. IsRunAs loads op e.op) }
@@ -344,16 +387,15 @@ fn run_by_turns<F: Mergeable, D: Disk, H: Recorder<F>, G: Gate>(
         return Err(Refused::NoMerge);
     }
     let reader = &mut readers[run.at.partition];
-    let merge = merge_for::<F>(&op, loads);
-    match run_out(rt, store, run, reader, op, merge.is_none(), turned, gate) {
-        Ok(Some(entry)) => return Ok(entry),
-        Ok(None) => {}
-        Err(refused) => return Err(refused),
+    let Some(merge) = merge_for::<F>(&op, loads) else {
+        return run_reading(rt, store, run, reader, op, turned, gate);
+    };
+    if !may_need_page(rt, store, run.at, run.session, &op.key(), gate) {
+        match run_out(rt, store, run, reader, op, false, turned, gate) {
+            Ok(Some(entry)) => return Ok(entry),
+            Ok(None) => {}
+            Err(refused) => return Err(refused),
+        }
     }
-    let Some(merge) = merge else { unreachable!() };
-    match run_out(rt, store, run, reader, merge, true, turned, gate) {
-        Ok(Some(entry)) => Ok(entry),
-        Ok(None) => unreachable!(),
-        Err(refused) => Err(refused),
-    }
+    run_reading(rt, store, run, reader, merge, turned, gate)
 }

@@ -7,7 +7,7 @@ ghost use Rattle.fkv_device.specs.Failing.{FailsOnlyBy};
 ghost use Rattle.fkv_store.specs.Stores.{AreReaders, IsUnopened};
 
 use crate::holds::Turned;
-use crate::lists::{no_seats, zeros};
+use crate::lists::{no_sessions, zeros};
 use crate::passes::Pass;
 use fkv_device::Disk;
 use fkv_functions::{Functions, Mergeable, Refused};
@@ -224,8 +224,8 @@ impl<F: Mergeable, D: Disk, H: Recorder<F>> Store<F, D, H> {
             Ok(owns) => owns,
             Err(refused) => return Err(refused),
         };
-        let seats = match no_seats(alloc, count) {
-            Ok(seats) => seats,
+        let sessions = match no_sessions(alloc, count) {
+            Ok(sessions) => sessions,
             Err(refused) => return Err(refused),
         };
         let seen = match zeros(alloc, count) {
@@ -236,7 +236,7 @@ impl<F: Mergeable, D: Disk, H: Recorder<F>> Store<F, D, H> {
             store: self.id,
             worker,
             owns,
-            seats,
+            sessions,
             seen,
             readers,
             answered: 0,

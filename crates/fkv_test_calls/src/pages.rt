@@ -66,7 +66,7 @@ fn is_low<K: Fixed, V: Fixed, R: Receipt>(pages: &Pages<K, V, R>, address: Addre
     ensures frozen { IsTrue result → address ≤ pages.now.frozen }
 {
     let shape = pages.shape();
-    shape.is_place(address)
+    shape.is_record_start(address)
         && shape.page_of(address) <= pages.unflushed()
         && address <= pages.frozen()
 }

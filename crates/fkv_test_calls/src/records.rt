@@ -47,7 +47,7 @@ impl Fixed for Byte {
         Some(Byte(bytes[0]))
     }
 
-    fn stands_in(&self, bytes: &[u8]) -> bool {
+    fn bytes_equal(&self, bytes: &[u8]) -> bool {
         bytes == [self.0].as_slice()
     }
 

@@ -10,7 +10,7 @@ pub struct ShapeCalls;
 fn write_places(shape: Shape, limit: u64, out: &mut String) -> Result<(), AllocError> {
     let mut next = Some(64);
     for address in 0..limit.min(1 << 20) {
-        if shape.is_place(address) {
+        if shape.is_record_start(address) {
             write!(out, "{address} ")?;
         }
         if next == Some(address) {
@@ -30,7 +30,7 @@ impl Subject for ShapeCalls {
         match line.word {
             "shape" => writeln!(out, "{}", shape.page_size()),
             "next" => writeln!(out, "{:?}", shape.next_place(number)),
-            "is_place" => writeln!(out, "{}", shape.is_place(number)),
+            "is_place" => writeln!(out, "{}", shape.is_record_start(number)),
             "places" => write_places(shape, number, out),
             "page" => writeln!(out, "{} {}", shape.page_of(number), shape.offset_of(number)),
             "start" if number < 1 << 40 => match number.checked_mul(shape.page_size() as u64) {

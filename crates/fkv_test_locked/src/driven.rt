@@ -65,7 +65,7 @@ pub struct Driven<H: Recorder<SumFns>> {
     locked: Locked<SumFns, MemoryReceipt, H>,
     reader: MemoryReader,
     writer: MemoryWriter,
-    seat: SessionId,
+    session: SessionId,
     compactor: Compactor,
     /// What the caller was answered, in one partition.
     owns: Owns<SumFns, H>,
@@ -78,14 +78,14 @@ impl<H: Recorder<SumFns>> Driven<H> {
         let writer = device.writer(0)?;
         let reader = device.reader(0)?;
         let mut locked = Locked::new(alloc, &CONFIG, 0)?;
-        let seat = locked.enter()?;
+        let session = locked.enter()?;
         let compactor = locked.join()?;
         let owns = Owns::fresh(alloc, 1)?;
         Ok(Driven {
             locked,
             reader,
             writer,
-            seat,
+            session,
             compactor,
             owns,
         })
@@ -104,7 +104,7 @@ impl<H: Recorder<SumFns>> Driven<H> {
     /// An operation of the caller, issued.
     pub fn issued(&mut self, op: KeyedOpOf<SumFns>) -> Result<OpenOperationOf<SumFns>, Refused> {
         let told = self.owns.told_at(0);
-        self.locked.issue(self.seat, op, told, &SumFns)
+        self.locked.issue(self.session, op, told, &SumFns)
     }
 
     /// The receipt of the page that an operation needs after its next event, if it needs one.
@@ -153,7 +153,7 @@ impl<H: Recorder<SumFns>> Driven<H> {
         let told = self.owns.told_at(0);
         match self
             .locked
-            .try_update_in_place(self.seat, &key, &amount, told, &SumFns)?
+            .try_update_in_place(self.session, &key, &amount, told, &SumFns)?
         {
             Some(finished) => Ok(Told::Done(self.owns.take(0, finished))),
             None => Ok(Told::Ok),
@@ -167,7 +167,7 @@ impl<H: Recorder<SumFns>> Driven<H> {
         let told = self.owns.told_at(0);
         match self
             .locked
-            .try_read_in_memory(self.seat, &key, &0, told, &SumFns)?
+            .try_read_in_memory(self.session, &key, &0, told, &SumFns)?
         {
             Some(finished) => Ok(Told::Done(self.owns.take(0, finished))),
             None => Ok(Told::Ok),
@@ -216,7 +216,7 @@ impl<H: Recorder<SumFns>> Driven<H> {
                 Ok(Told::Ok)
             }
             Call::Refresh => {
-                self.locked.refresh(self.seat)?;
+                self.locked.refresh(self.session)?;
                 Ok(Told::Ok)
             }
             Call::Flush => self.flushed(alloc),

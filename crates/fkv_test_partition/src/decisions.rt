@@ -1,7 +1,7 @@
 //! The table of decisions, row by row, for a sum, and what a session's view makes of what a look-up comes to.
 use crate::calls::on_name;
 use fkv_functions::{Name, SumFns};
-use fkv_lookups::{Decision, Gathered, LookupResult, Payload, decide, low_of, met_by};
+use fkv_lookups::{ChainResult, Decision, LookupResult, Payload, decide, low_of, met_by};
 use fkv_operations::{Answer, KeyedOp};
 use fkv_records::Address;
 use fkv_regions::View;
@@ -340,7 +340,7 @@ const MEETINGS: [Meeting; 22] = [
 ];
 
 /// What the look-up of a key comes to, with these parts.
-fn gathered(key: Name, parts: Option<i128>, came: Came) -> Gathered<Name, i128> {
+fn gathered(key: Name, parts: Option<i128>, came: Came) -> ChainResult<Name, i128> {
     let position = match came {
         Came::Below(address) => ChainPosition::Below(address),
         Came::Found(address, value) => ChainPosition::Found(Entry {
@@ -351,7 +351,7 @@ fn gathered(key: Name, parts: Option<i128>, came: Came) -> Gathered<Name, i128> 
             delta: false,
         }),
     };
-    Gathered { parts, position }
+    ChainResult { parts, position }
 }
 
 fn is_met(row: &Meeting) -> bool {

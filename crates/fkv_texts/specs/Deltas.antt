@@ -1,5 +1,5 @@
 -- What deltas stand for. A delta is an entry whose value is a part, to be joined with what its key had before.
-use Rattle.std.specs.Prelude.{◌≡◌, ℕ, ◌<◌, ◌&&◌, ◌⊎◌, Bool, true, false, cond, List, [], ◌∷◌, filter, reverse}
+use Rattle.std.specs.Prelude.{◌≡◌, ℕ, ◌<◌, ◌≤◌, ◌&&◌, ◌⊎◌, Bool, true, false, cond, List, [], ◌∷◌, filter, reverse}
 use Rattle.std.specs.Prelude.{Option, Some, None, IsSome, nat_le, nat_lt, slice_get}
 use Rattle.std.specs.declared.cmp.Ordering.{Ordering}
 use Rattle.fkv_functions.specs.Plain.{PlainMap, with_at}
@@ -42,6 +42,11 @@ AreWhole {K} {V} es = (i : ℕ) (e : Entry K V) → slice_get es i ≡ Some e �
 -- each delta has a part
 abbrev pub AreValued : {K V : Type 0} → List (Entry K V) → Type 0
 AreValued {K} {V} es = (i : ℕ) (e : Entry K V) → slice_get es i ≡ Some e → e.delta ≡ true → IsSome e.value
+
+-- of a key's entries above one address, up to another, each is a delta
+abbrev pub AreDeltasBetween : {K V : Type 0} → (K → K → Ordering) → List (Entry K V) → K → ℕ → ℕ → Type 0
+AreDeltasBetween {K} {V} cmp es k low high =
+    (e : Entry K V) → IsIn es e → has_key cmp k e ≡ true → low < e.address → e.address ≤ high → e.delta ≡ true
 
 -- a test that does not look at values
 abbrev pub IgnoresValues : {K V : Type 0} → (Entry K V → Bool) → Type 0

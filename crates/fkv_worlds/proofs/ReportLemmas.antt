@@ -11,12 +11,12 @@ use Rattle.fkv_hybrid.specs.Scans.{MayFail, IsScanRefusal}
 use Rattle.fkv_lives.specs.declared.outcomes.Outcome.{Outcome}
 use Rattle.fkv_lives.specs.declared.steps.Step.{Step}
 use Rattle.fkv_worlds.specs.States.{WorldView}
-use Rattle.fkv_worlds.specs.Reports.{IsKept, RunsTo}
+use Rattle.fkv_worlds.specs.Reports.{IsStepTaken, RunsTo}
 
 -- steps in turn
 pub runs-append : {K V I O R : Type 0} (stands : R → Standing) (entry : ℕ → List ℕ → ℕ → Entry K V → Type 0) (cmp : K → K → Ordering) (join : V → V → V) (f : Meanings K V I O) (code : K → ℕ) (v u w : WorldView K V I O R) (ss : List (Step K V I)) (s : Step K V I) (r : Result (Outcome V O) Refused)
-    → RunsTo stands entry cmp join f code v ss u → IsKept stands entry cmp join f code u w s r → RunsTo stands entry cmp join f code v (ss ++ s ∷ []) w
-runs-append stands entry cmp join f code v u w [] s r run kept = (w, r, subst (λ x. IsKept stands entry cmp join f code x w s r) run kept, refl)
+    → RunsTo stands entry cmp join f code v ss u → IsStepTaken stands entry cmp join f code u w s r → RunsTo stands entry cmp join f code v (ss ++ s ∷ []) w
+runs-append stands entry cmp join f code v u w [] s r run kept = (w, r, subst (λ x. IsStepTaken stands entry cmp join f code x w s r) run kept, refl)
 runs-append stands entry cmp join f code v u w (t ∷ ss) s r run kept = (run.0, run.1, run.2, runs-append stands entry cmp join f code run.0 u w ss s r run.3 kept)
 
 pub take-all : {A : Type 0} (n : ℕ) (xs : List A) → length xs ≤ n → take n xs ≡ xs

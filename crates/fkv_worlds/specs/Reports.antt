@@ -37,7 +37,7 @@ pub record IsReport {K V I O R : Type 0} (cmp : K → K → Ordering) (code : K 
   pub rising : IsStrictlySortedBy cmp (keys_of pairs)
 
 -- a step that was done, or refused, and kept; the world that it leads to keeps the headline
-pub record IsKept {K V I O R : Type 0} (stands : R → Standing) (entry : ℕ → List ℕ → ℕ → Entry K V → Type 0)
+pub record IsStepTaken {K V I O R : Type 0} (stands : R → Standing) (entry : ℕ → List ℕ → ℕ → Entry K V → Type 0)
     (cmp : K → K → Ordering) (join : V → V → V) (f : Meanings K V I O) (code : K → ℕ) (old new : WorldView K V I O R)
     (step : Step K V I) (r : Result (Outcome V O) Refused) : Type 0 where
   pub acts : Acts stands entry cmp join f code old.state new.state step r
@@ -51,7 +51,7 @@ RunsTo stands entry cmp join f code v [] w = w ≡ v
 RunsTo {K} {V} {I} {O} {R} stands entry cmp join f code v (s ∷ ss) w =
     (u : WorldView K V I O R)
     × (r : Result (Outcome V O) Refused)
-    × IsKept stands entry cmp join f code v u s r
+    × IsStepTaken stands entry cmp join f code v u s r
     × RunsTo stands entry cmp join f code u ss w
 
 -- a replay: the steps in turn from a world with nothing in it, where each world along the list keeps the headline, and the
@@ -117,12 +117,12 @@ pub data RunsUntil {K V I O R : Type 0} (stands : R → Standing) (entry : ℕ �
       → result ≡ Some (Err Stalled)
       → RunsUntil stands entry cmp join f code until place new result zero s v
   ends : (n : ℕ) (s : Step K V I) (v : WorldView K V I O R) (x : Result (Outcome V O) Refused)
-      → IsKept stands entry cmp join f code v new s x
+      → IsStepTaken stands entry cmp join f code v new s x
       → follows {K = K} {I = I} until place x ≡ None
       → result ≡ Some x
       → RunsUntil stands entry cmp join f code until place new result (suc n) s v
   goes_on : (n : ℕ) (s t : Step K V I) (v u : WorldView K V I O R) (x : Result (Outcome V O) Refused)
-      → IsKept stands entry cmp join f code v u s x
+      → IsStepTaken stands entry cmp join f code v u s x
       → follows until place x ≡ Some t
       → RunsUntil stands entry cmp join f code until place new result n t u
       → RunsUntil stands entry cmp join f code until place new result (suc n) s v

@@ -5,7 +5,7 @@ ghost use Rattle.fkv_pages.specs.Spelled.{IsEntryIn};
 ghost use Rattle.fkv_partition.specs.Limits.{IsWithinLimits};
 ghost use Rattle.fkv_worlds.specs.States.{empty_world};
 ghost use Rattle.fkv_worlds.specs.Acts.{Steps};
-ghost use Rattle.fkv_worlds.specs.Reports.{IsKept};
+ghost use Rattle.fkv_worlds.specs.Reports.{IsStepTaken};
 ghost use Rattle.fkv_worlds.specs.Headline.{IsHeadline};
 
 use crate::states::State;
@@ -63,7 +63,7 @@ impl<F: Mergeable> World<F> {
         functions: &F,
         step: StepOf<F>,
     ) -> Option<Result<OutcomeOf<F>, Refused>>
-        ensures kept { IfSome result (IsKept ⟦<MemoryReceipt as Receipt>⟧.stands (IsEntryIn F.Key.codec F.Value.codec) F.Key.cmp F.parts.joined F.meaning F.code self.old self.new step) }
+        ensures kept { IfSome result (IsStepTaken ⟦<MemoryReceipt as Receipt>⟧.stands (IsEntryIn F.Key.codec F.Value.codec) F.Key.cmp F.parts.joined F.meaning F.code self.old self.new step) }
         ensures none { IfNone result (self.new ≡ self.old) }
     {
         let Ok(()) = self.outcomes.try_reserve(1) else {

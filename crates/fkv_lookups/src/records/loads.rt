@@ -7,10 +7,10 @@ ghost use Rattle.fkv_texts.specs.declared.entries.Entry.{Entry};
 ghost use Rattle.fkv_texts.specs.Text.{entry_at};
 ghost use Rattle.fkv_pages.specs.Spelled.{IsEntryIn};
 ghost use Rattle.fkv_pages.specs.Loads.{IsHeldBy, first_place};
-ghost use Rattle.fkv_lookups.specs.declared.gathered.Gathered.{Gathered};
-ghost use Rattle.fkv_lookups.specs.Lookups.{IsOfClass, IsGathered, GoesOn};
+ghost use Rattle.fkv_lookups.specs.declared.chain_results.ChainResult.{ChainResult};
+ghost use Rattle.fkv_lookups.specs.Lookups.{IsOfClass, ComesToInPage, ComesTo};
 
-use crate::gathered::{Gathered, delta_at, onto};
+use crate::chain_results::{ChainResult, delta_at, onto};
 use crate::records::Records;
 use fkv_device::{Loaded, Receipt};
 use fkv_functions::{Mergeable, Refused};
@@ -26,10 +26,10 @@ impl<F: Mergeable, R: Receipt> Records<F, R> {
     }
 
     /// Whether a record may stand at an address.
-    pub fn is_place(&self, address: Address) -> bool
+    pub fn is_record_start(&self, address: Address) -> bool
         ensures { IsTrue result ↔ IsRecordStart self.now.page_bits self.now.record_size address }
     {
-        self.log.pages().shape().is_place(address)
+        self.log.pages().shape().is_record_start(address)
     }
 
     /// Whether a page was read by the receipt that is kept of it. Refused: `Stranger` where it was read by another.
@@ -85,18 +85,18 @@ impl<F: Mergeable, R: Receipt> Records<F, R> {
         from: Address,
         low: Address,
         parts: Option<F::Value>,
-    ) -> Result<Gathered<F::Key, F::Value>, Refused>
+    ) -> Result<ChainResult<F::Key, F::Value>, Refused>
         requires own { IsHeldBy self.now.receipts (page_at self.now.page_bits from) (R.stands loaded.now.receipt) }
         requires floor { first_place self.now.page_bits (page_at self.now.page_bits from) ≤ low }
         ensures damaged { IfErr result (λ refused. refused ≡ Refused.Damaged (page_at self.now.page_bits from)) }
-        ensures read { IsGathered F.parts.joined (IsEntryIn F.Key.codec F.Value.codec self.now.page_bits loaded.now.bytes) F.Key.cmp key.now self.now.page_bits low
+        ensures read { ComesToInPage F.parts.joined (IsEntryIn F.Key.codec F.Value.codec self.now.page_bits loaded.now.bytes) F.Key.cmp key.now self.now.page_bits low
             from parts result }
         ensures kept { IsTrue R.keeps
             → self.now.begin ≤ from
             → IsOfClass F.code self.now key.now from
-            → (r : Gathered F.Key F.Value)
+            → (r : ChainResult F.Key F.Value)
             × (result ≡ Ok r)
-            × GoesOn F.Key.cmp F.parts.joined F.code self.now key.now low from parts r }
+            × ComesTo F.Key.cmp F.parts.joined F.code self.now key.now low from parts r }
     {
         let page = self.page_of(from);
         let pages = self.log.pages();
@@ -112,6 +112,6 @@ impl<F: Mergeable, R: Receipt> Records<F, R> {
                 Err(refused) => return Err(refused),
             };
         }
-        Ok(Gathered { parts, position })
+        Ok(ChainResult { parts, position })
     }
 }

@@ -25,10 +25,10 @@ returns-in-NeedsLoad-clause-kept g c k old new now event kept =
     let a = c.requires.within.0 in
     let b = c.requires.within.1 in
     let l = c.requires.marks.1 in
-    let low : place_of c.args.mine.now.seat.slot c.args.mine.now.context < length c.args.looks.now.items = omega arith in
+    let low : place_of c.args.mine.now.session.slot c.args.mine.now.context < length c.args.looks.now.items = omega arith in
     went_load g.F.Key.Ord.cmp g.F.Functions.meaning old new (g.H.Recorder.entries c.args.history.now) c.args.lows.now.items c.args.looks.now.items c.args.book.now now kept c.args.mine.now
     c.in-NeedsLoad.receipt c.in-NeedsLoad.address c.set_mark.new.marks.items (rw c.in-NeedsLoad.is at event)
-    (c.set_mark.ensures ∙ ap (slice_set c.args.looks.now.items (place_of c.args.mine.now.seat.slot c.args.mine.now.context)) count) low
+    (c.set_mark.ensures ∙ ap (slice_set c.args.looks.now.items (place_of c.args.mine.now.session.slot c.args.mine.now.context)) count) low
 
 pub returns-in-Done-clause-kept : goal.returns-in-Done-clause-kept
 returns-in-Done-clause-kept g c k old new now event kept =
@@ -36,7 +36,7 @@ returns-in-Done-clause-kept g c k old new now event kept =
     rw c.finish.ensures.book
     (went_done g.F.Key.Ord.cmp g.F.Functions.meaning old new (g.H.Recorder.entries c.args.history.now) c.args.lows.now.items c.args.looks.now.items c.args.book.now now kept c.args.mine.now
     c.in-Done.answer c.in-Done._effect
-    (record { session = c.args.mine.now.seat.session; number = c.args.mine.now.number; op = c.args.mine.now.op; answer = c.in-Done.answer; low = c.mark_at.result; at = c.updates-at.result; high = c.updates-at.result })
+    (record { session = c.args.mine.now.session.number; number = c.args.mine.now.number; op = c.args.mine.now.op; answer = c.in-Done.answer; low = c.mark_at.result; at = c.updates-at.result; high = c.updates-at.result })
     (g.H.Recorder.entries c.finish.new.history) (rw c.in-Done.is at event) refl refl count count c.mark_at.ensures (c.finish.ensures.entries k))
 
 pub returns-in-Done-clause-tells : goal.returns-in-Done-clause-tells

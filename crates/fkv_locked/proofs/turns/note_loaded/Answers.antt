@@ -29,7 +29,7 @@ returns-in-Done-clause-kept g c k old new looks is event kept =
     rw c.finish.ensures.book
     (came_done g.F.Key.Ord.cmp g.F.Functions.meaning old new (g.H.Recorder.entries c.args.history.now) c.args.lows.now.items looks c.args.book.now 0 kept c.args.mine.now
     c.in-Done.answer c.in-Done._effect
-    (record { session = c.args.mine.now.seat.session; number = c.args.mine.now.number; op = c.args.mine.now.op; answer = c.in-Done.answer; low = c.mark_at.result; at = c.args.look; high = c.updates-high.result })
+    (record { session = c.args.mine.now.session.number; number = c.args.mine.now.number; op = c.args.mine.now.op; answer = c.in-Done.answer; low = c.mark_at.result; at = c.args.look; high = c.updates-high.result })
     (g.H.Recorder.entries c.finish.new.history) (rw c.in-Done.is at event) refl refl is count c.mark_at.ensures (c.finish.ensures.entries k))
 
 pub returns-in-Done-clause-tells : goal.returns-in-Done-clause-tells

@@ -21,7 +21,7 @@ invariant_of-self-2 g c =
           let count = ready.at ∙ g.met.H.Recorder.counted c.self.inside.history k in
           rw (c.finish.ensures.book, c.finish.ensures.entries k, ready.entries)
           (kept_read cmp f (seen cmp c.self.inside.partition) (g.H.Recorder.entries c.self.inside.history) c.self.inside.lows.items c.self.inside.looks.items c.self.inside.book (c.self.invariant.3 k held)
-          (record { session = c.args.seat.session; number = now - 1; op = Read c.args.key.now c.args.input.now; answer = c.in-Some.answer; low = at; at = at; high = at })
+          (record { session = c.args.session.number; number = now - 1; op = Read c.args.key.now c.args.input.now; answer = c.in-Some.answer; low = at; at = at; high = at })
           c.args.key.now c.args.input.now refl c.in-Some.ensures.done.read.shows count count count),
     )
 

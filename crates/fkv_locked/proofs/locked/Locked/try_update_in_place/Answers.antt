@@ -26,7 +26,7 @@ invariant_of-self-2 g c =
           let stands = g.R.Receipt.stands in
           let code = g.F.Functions.code in
           let keeps = g.R.Receipt.keeps in
-          let slot = c.args.seat.slot in
+          let slot = c.args.session.slot in
           let op = Rmw c.args.key.now c.args.input.now in
           let now = c.in-Ok.ready.now in
           let issued = now - 1 in
@@ -40,7 +40,7 @@ invariant_of-self-2 g c =
           (λ p q h. c.pendings_stay.ensures.issues cmp code p q slot done.context op issued h)
           (λ p q s h. c.pendings_stay.ensures.goes keeps stands cmp join f code p q slot done.context now (Ok (Done (Value shown) now)) held order s h)
           (g.H.Recorder.entries c.self.inside.history) c.self.inside.lows.items c.self.inside.looks.items c.self.inside.book (c.self.invariant.3 k held) c.self.invariant.1
-          (record { session = c.args.seat.session; number = issued; op = op; answer = Value shown; low = at; at = at; high = at })
+          (record { session = c.args.session.number; number = issued; op = op; answer = Value shown; low = at; at = at; high = at })
           refl refl count count count),
     )
 

@@ -4,8 +4,8 @@ use Rattle.fkv_records.specs.Places.{IsShape}
 use Rattle.fkv_records.specs.Records.{size_of}
 use Rattle.fkv_pages.proofs.FrameLemmas.{page_rises}
 use Rattle.fkv_lookups.specs.Traced.{IsTraced}
-use Rattle.fkv_lookups.specs.Lookups.IsGathered.{refused}
-use Rattle.fkv_lookups.proofs.LookupLemmas.{raw-traced, FirstGoesOn}
+use Rattle.fkv_lookups.specs.Lookups.ComesToInPage.{refused}
+use Rattle.fkv_lookups.proofs.LookupLemmas.{raw-traced, FirstComesTo}
 use Rattle.fkv_lookups.proofs.WayLemmas.{kept-told, kept-begins, kept-class, kept-on, kept-end, read-begins, read-falls, read-low, read-smaller, read-on, read-refused, read-end}
 use Rattle.fkv_lookups.proofs.records.Records.trace_in.Goals as goal
 
@@ -39,7 +39,7 @@ loop-last-init g c =
           let both = sym told.1 ∙ c.in-Ok.is in
           let same : told.0 ≡ c.in-Ok.position = cc in
           kept-begins g.F.Key.Ord.cmp g.F.Mergeable.parts.joined g.F.Functions.code v c.args.key.now c.args.low c.args.from c.args.parts c.in-Ok.position
-          (subst (FirstGoesOn g.F.Key.Ord.cmp g.F.Functions.code v c.args.key.now c.args.low c.args.from) same told.2);
+          (subst (FirstComesTo g.F.Key.Ord.cmp g.F.Functions.code v c.args.key.now c.args.low c.args.from) same told.2);
     }
 
 pub own_first_in_page-requires-in-Some-clause-within :
@@ -107,7 +107,7 @@ loop-last-preserved g c =
           let same : told.0 ≡ c.in-Ok-own_first_in_page.position = cc in
           kept-on g.F.Key.Ord.cmp g.F.Mergeable.parts.joined g.F.Functions.code v c.args.key.now c.args.low c.args.from c.args.parts c.loop-last.parts c.loop-last.position w
           c.in-Some.last c.in-Some.ensures.some.0 c.in-Some.ensures.some.1 c.in-Ok-own_first_in_page.position
-          (subst (FirstGoesOn g.F.Key.Ord.cmp g.F.Functions.code v c.args.key.now c.args.low c.in-Some.last.previous) same told.2);
+          (subst (FirstComesTo g.F.Key.Ord.cmp g.F.Functions.code v c.args.key.now c.args.low c.in-Some.last.previous) same told.2);
     })
 
 pub returns-clause-read : goal.returns-clause-read

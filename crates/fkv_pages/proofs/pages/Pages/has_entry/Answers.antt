@@ -9,8 +9,8 @@ returns g c =
     let low : i.closed ≤ c.args.address = omega arith in
     let high : c.args.address < i.tail = omega arith in
     rw (← c.self.view_is) (
-      (λ yes. (low, place_entry g.K.Fixed.codec g.V.Fixed.codec g.R.Receipt.keeps i.shape i.begin i.closed i.frozen i.tail _ i.frames i.text.0.0 c.args.address c.self.invariant begun low high (c.is_place.ensures.value.0 yes))),
-      (λ h. let s = entry_place g.K.Fixed.codec g.V.Fixed.codec g.R.Receipt.keeps i.shape i.begin i.closed i.frozen i.tail _ i.frames i.text.0.0 c.args.address c.self.invariant h.1 in c.is_place.ensures.value.1 s.place),
+      (λ yes. (low, place_entry g.K.Fixed.codec g.V.Fixed.codec g.R.Receipt.keeps i.shape i.begin i.closed i.frozen i.tail _ i.frames i.text.0.0 c.args.address c.self.invariant begun low high (c.is_record_start.ensures.value.0 yes))),
+      (λ h. let s = entry_place g.K.Fixed.codec g.V.Fixed.codec g.R.Receipt.keeps i.shape i.begin i.closed i.frozen i.tail _ i.frames i.text.0.0 c.args.address c.self.invariant h.1 in c.is_record_start.ensures.value.1 s.place),
     )
 
 pub returns-then-address-self-2 : goal.returns-then-address-self-2

@@ -9,13 +9,13 @@ use Rattle.fkv_texts.specs.declared.entries.Entry.{Entry}
 use Rattle.fkv_texts.specs.declared.entries.ChainPosition.{ChainPosition}
 use Rattle.fkv_texts.specs.declared.entries.ChainPosition.TheVariants.{Found, Below}
 use Rattle.fkv_lookups.specs.Decisions.{low_of}
-use Rattle.fkv_lookups.specs.Lookups.{first_up, looked_up, IsFirst}
+use Rattle.fkv_lookups.specs.Lookups.{newest_above, looked_up, StartsAt}
 use Rattle.fkv_lookups.specs.RecordsViews.{RecordsView, class_in, entry_of}
 use Rattle.fkv_lookups.specs.Traced.{IsTraced, IsStood}
 use Rattle.fkv_lookups.specs.declared.decisions.LookupResult.TheVariants.{Mutable}
 use Rattle.fkv_partition.specs.CoreContexts.{is_session}
 use Rattle.fkv_partition.specs.CoreSound.{IsSound}
-use Rattle.fkv_partition.specs.CoreViews.{CoreView, entry_for, first_from, met_at, seen_at, slots_of}
+use Rattle.fkv_partition.specs.CoreViews.{CoreView, entry_for, newest_in_memory, met_at, seen_at, slots_of}
 use Rattle.fkv_partition.proofs.DecidedLemmas.{seen-begun, found-same, mutable-first, met-first, IsAtFirst}
 use Rattle.fkv_partition.proofs.cores.Core.at_hand.Goals as goal
 
@@ -23,9 +23,9 @@ some-none : {A : Type 0} (x : A) → Some x ≡ None → ⊥
 some-none x h = cc
 
 -- what is met as mutable is the record that is read first
-module _ {K V I : Type 0} {keeps : Bool} (cmp : K → K → Ordering) (join : V → V → V) (code : K → ℕ) (v : CoreView K V I) (slot : ℕ) (k : K) (first : ChainPosition K V) (order : IsKeyOrder cmp) (s : IsSound keeps cmp join code v) (entered : is_session (slots_of v) slot ≡ true) (read : first ≡ first_from cmp code v slot k (entry_for code v k))
-    (firsts : (keeps : Bool) (cmp : K → K → Ordering) (join : V → V → V) (code : K → ℕ) (v : RecordsView K V) (k : K) (low a : ℕ) → IsKeyOrder cmp → IsTraced keeps code v → IsStood cmp join v → entry_of v (class_in code v k) ≡ Some a → v.from ≤ low → IsFirst (first_up cmp code v low k a) (looked_up cmp join code v low k a)) where
-  tells-here : (a : ℕ) → entry_for code v k ≡ Some a → IsFirst (first_up cmp code v.records (low_of v.records.begin (seen_at v slot)) k a) (looked_up cmp join code v.records (low_of v.records.begin (seen_at v slot)) k a)
+module _ {K V I : Type 0} {keeps : Bool} (cmp : K → K → Ordering) (join : V → V → V) (code : K → ℕ) (v : CoreView K V I) (slot : ℕ) (k : K) (first : ChainPosition K V) (order : IsKeyOrder cmp) (s : IsSound keeps cmp join code v) (entered : is_session (slots_of v) slot ≡ true) (read : first ≡ newest_in_memory cmp code v slot k (entry_for code v k))
+    (firsts : (keeps : Bool) (cmp : K → K → Ordering) (join : V → V → V) (code : K → ℕ) (v : RecordsView K V) (k : K) (low a : ℕ) → IsKeyOrder cmp → IsTraced keeps code v → IsStood cmp join v → entry_of v (class_in code v k) ≡ Some a → v.from ≤ low → StartsAt (newest_above cmp code v low k a) (looked_up cmp join code v low k a)) where
+  tells-here : (a : ℕ) → entry_for code v k ≡ Some a → StartsAt (newest_above cmp code v.records (low_of v.records.begin (seen_at v slot)) k a) (looked_up cmp join code v.records (low_of v.records.begin (seen_at v slot)) k a)
   tells-here a entry = firsts keeps cmp join code v.records k (low_of v.records.begin (seen_at v slot)) a order s.traced s.stood entry (seen-begun v slot s.traced entered)
 
   none-below : (b : ℕ) → first ≡ Below b → (held : V) → met_at cmp join code v slot k ≡ Mutable held → ⊥
@@ -60,40 +60,40 @@ module _ {K V I : Type 0} {keeps : Bool} (cmp : K → K → Ordering) (join : V 
       is-mutable : b ≡ true → last.delta ≡ false → (held : V) → last.value ≡ Some held → met_at cmp join code v slot k ≡ Mutable held
       is-mutable here whole held value = mutable-first cmp join code v slot k tells-here last held (sym read ∙ found) whole value (ap (λ w. region_of w last.address) (sym seen) ∙ mutable.0 here)
 
-pub first-requires-clause-entry : goal.first-requires-clause-entry
-first-requires-clause-entry g c = c.leads-entry.ensures
+pub newest_in_memory-requires-clause-entry : goal.newest_in_memory-requires-clause-entry
+newest_in_memory-requires-clause-entry g c = c.entry_address-entry.ensures
 
 pub returns-in_default-clause-none : goal.returns-in_default-clause-none
 returns-in_default-clause-none g c = λ none.
     let ord = g.met.F.Key.Ord in
     let known = g.met.F.Key.FixedKey in
     let order = key_order g.F.Key.PartialEq.eq g.F.Key.Ord.cmp ord.matches_eq known.exact ord.total in
-    none-below g.F.Key.Ord.cmp g.F.Mergeable.parts.joined g.F.Functions.code c.args.self.now c.args.slot c.args.key.now c.first.result order c.known.ensures c.requires c.first.ensures c.lookups_tell.ensures.first _ c.in_default.is
+    none-below g.F.Key.Ord.cmp g.F.Mergeable.parts.joined g.F.Functions.code c.args.self.now c.args.slot c.args.key.now c.newest_in_memory.result order c.known.ensures c.requires c.newest_in_memory.ensures c.lookups_tell.ensures.first _ c.in_default.is
 
 pub returns-then-last-clause-none : goal.returns-then-last-clause-none
 returns-then-last-clause-none g c = λ none.
     let ord = g.met.F.Key.Ord in
     let known = g.met.F.Key.FixedKey in
     let order = key_order g.F.Key.PartialEq.eq g.F.Key.Ord.cmp ord.matches_eq known.exact ord.total in
-    none-delta g.F.Key.Ord.cmp g.F.Mergeable.parts.joined g.F.Functions.code c.args.self.now c.args.slot c.args.key.now c.first.result order c.known.ensures c.requires c.first.ensures c.lookups_tell.ensures.first c.in-Found.last c.in-Found.is c.if-last.true
+    none-delta g.F.Key.Ord.cmp g.F.Mergeable.parts.joined g.F.Functions.code c.args.self.now c.args.slot c.args.key.now c.newest_in_memory.result order c.known.ensures c.requires c.newest_in_memory.ensures c.lookups_tell.ensures.first c.in-Found.last c.in-Found.is c.if-last.true
 
 pub returns-in_default-value-clause-none : goal.returns-in_default-value-clause-none
 returns-in_default-value-clause-none g c = λ none.
     let ord = g.met.F.Key.Ord in
     let known = g.met.F.Key.FixedKey in
     let order = key_order g.F.Key.PartialEq.eq g.F.Key.Ord.cmp ord.matches_eq known.exact ord.total in
-    none-value g.F.Key.Ord.cmp g.F.Mergeable.parts.joined g.F.Functions.code c.args.self.now c.args.slot c.args.key.now c.first.result order c.known.ensures c.requires c.first.ensures c.lookups_tell.ensures.first c.in-Found.last c.in-Found.is c.in_default-value.is
+    none-value g.F.Key.Ord.cmp g.F.Mergeable.parts.joined g.F.Functions.code c.args.self.now c.args.slot c.args.key.now c.newest_in_memory.result order c.known.ensures c.requires c.newest_in_memory.ensures c.lookups_tell.ensures.first c.in-Found.last c.in-Found.is c.in_default-value.is
 
 pub returns-then-not-is_mutable-clause-none : goal.returns-then-not-is_mutable-clause-none
 returns-then-not-is_mutable-clause-none g c = λ none.
     let ord = g.met.F.Key.Ord in
     let known = g.met.F.Key.FixedKey in
     let order = key_order g.F.Key.PartialEq.eq g.F.Key.Ord.cmp ord.matches_eq known.exact ord.total in
-    none-mutable g.F.Key.Ord.cmp g.F.Mergeable.parts.joined g.F.Functions.code c.args.self.now c.args.slot c.args.key.now c.first.result order c.known.ensures c.requires c.first.ensures c.lookups_tell.ensures.first c.in-Found.last c.in-Found.is
+    none-mutable g.F.Key.Ord.cmp g.F.Mergeable.parts.joined g.F.Functions.code c.args.self.now c.args.slot c.args.key.now c.newest_in_memory.result order c.known.ensures c.requires c.newest_in_memory.ensures c.lookups_tell.ensures.first c.in-Found.last c.in-Found.is
     c.view.result (c.view.ensures.value ∙ ap (λ u. seen_at u c.args.slot) c.self.view_is) c.is_mutable.result c.is_mutable.ensures c.if-not-is_mutable.true
 
 pub returns-clause-first : goal.returns-clause-first
-returns-clause-first g c = sym c.first.ensures ∙ c.in-Found.is
+returns-clause-first g c = sym c.newest_in_memory.ensures ∙ c.in-Found.is
 
 pub returns-clause-whole : goal.returns-clause-whole
 returns-clause-whole g c = c.if-last.false
@@ -103,7 +103,7 @@ returns-clause-met g c =
     let ord = g.met.F.Key.Ord in
     let known = g.met.F.Key.FixedKey in
     let order = key_order g.F.Key.PartialEq.eq g.F.Key.Ord.cmp ord.matches_eq known.exact ord.total in
-    is-mutable g.F.Key.Ord.cmp g.F.Mergeable.parts.joined g.F.Functions.code c.args.self.now c.args.slot c.args.key.now c.first.result order c.known.ensures c.requires c.first.ensures c.lookups_tell.ensures.first c.in-Found.last c.in-Found.is
+    is-mutable g.F.Key.Ord.cmp g.F.Mergeable.parts.joined g.F.Functions.code c.args.self.now c.args.slot c.args.key.now c.newest_in_memory.result order c.known.ensures c.requires c.newest_in_memory.ensures c.lookups_tell.ensures.first c.in-Found.last c.in-Found.is
     c.view.result (c.view.ensures.value ∙ ap (λ u. seen_at u c.args.slot) c.self.view_is) c.is_mutable.result c.is_mutable.ensures c.if-not-is_mutable.false c.if-last.false c.in-Some.held c.in-Some.is
 
 pub returns-clause-none : goal.returns-clause-none

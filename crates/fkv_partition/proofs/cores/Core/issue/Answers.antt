@@ -1,4 +1,4 @@
-use Rattle.std.proofs.Common.{◌∙◌, refl, ap}
+use Rattle.std.proofs.Common.{◌∙◌, ap}
 use Rattle.fkv_partition.specs.CoreContexts.{joined, claim_of}
 use Rattle.fkv_partition.specs.CoreViews.{slots_of}
 use Rattle.fkv_partition.proofs.AskedLemmas.{free-here}

@@ -20,7 +20,7 @@ use Rattle.fkv_operations.specs.declared.operations.Answer.{Answer}
 use Rattle.fkv_lookups.specs.RecordsViews.{RecordsView, class_in, entry_of, IsEntryOf}
 use Rattle.fkv_lookups.specs.Decisions.{low_of, decision}
 use Rattle.fkv_lookups.specs.DecisionLaws.{append-entry, prepare-entry, load-met, replace-met}
-use Rattle.fkv_lookups.specs.Lookups.{first_up, looked_up, IsFirst}
+use Rattle.fkv_lookups.specs.Lookups.{newest_above, looked_up, StartsAt}
 use Rattle.fkv_lookups.specs.Meeting as meeting
 use Rattle.fkv_lookups.specs.Meeting.{met_from, IsMetAt}
 use Rattle.fkv_lookups.specs.Traced.{IsTraced, IsStood}
@@ -33,7 +33,7 @@ use Rattle.fkv_partition.specs.declared.contexts.Wait.TheVariants.{Fuzzy}
 use Rattle.fkv_partition.specs.CoreContexts.{is_session}
 use Rattle.fkv_partition.specs.CoreGoing.{done, claims, unclaimed, waits}
 use Rattle.fkv_partition.specs.CoreSound.{IsSound}
-use Rattle.fkv_partition.specs.CoreViews.{CoreView, context_at, slots_of, seen_at, entry_for, found_for, first_from, met_at, partition_of}
+use Rattle.fkv_partition.specs.CoreViews.{CoreView, context_at, slots_of, seen_at, entry_for, found_for, newest_in_memory, met_at, partition_of}
 use Rattle.fkv_partition.proofs.AskedLemmas.{key_at}
 use Rattle.fkv_partition.proofs.DecidedLemmas.{replaced-at, seen-begun, first-met, met-first}
 use Rattle.fkv_partition.proofs.EventLemmas.{decides-at, event-quiet, event-claims, event-waits, claims-none, merging-at, own-at}
@@ -66,16 +66,16 @@ found-stands code v key (Some d) e is stands = let same : d ≡ e = cc in subst 
 found-stands code v key None e is stands = absurd (cc)
 
 -- what is changed in place is the record that was read first
-module _ {K V I O : Type 0} {keeps : Bool} (cmp : K → K → Ordering) (join : V → V → V) (f : Meanings K V I O) (code : K → ℕ) (v : CoreView K V I) (slot c : ℕ) (x : Context K V I) (key : K) (first : ChainPosition K V) (order : IsKeyOrder cmp) (s : IsSound keeps cmp join code v) (here : context_at v slot c ≡ Some x) (own : key ≡ key_of x.op) (read : first ≡ first_from cmp code v slot key (entry_for code v key))
-    (firsts : (keeps : Bool) (cmp : K → K → Ordering) (join : V → V → V) (code : K → ℕ) (v : RecordsView K V) (k : K) (low a : ℕ) → IsKeyOrder cmp → IsTraced keeps code v → IsStood cmp join v → entry_of v (class_in code v k) ≡ Some a → v.from ≤ low → IsFirst (first_up cmp code v low k a) (looked_up cmp join code v low k a))
+module _ {K V I O : Type 0} {keeps : Bool} (cmp : K → K → Ordering) (join : V → V → V) (f : Meanings K V I O) (code : K → ℕ) (v : CoreView K V I) (slot c : ℕ) (x : Context K V I) (key : K) (first : ChainPosition K V) (order : IsKeyOrder cmp) (s : IsSound keeps cmp join code v) (here : context_at v slot c ≡ Some x) (own : key ≡ key_of x.op) (read : first ≡ newest_in_memory cmp code v slot key (entry_for code v key))
+    (firsts : (keeps : Bool) (cmp : K → K → Ordering) (join : V → V → V) (code : K → ℕ) (v : RecordsView K V) (k : K) (low a : ℕ) → IsKeyOrder cmp → IsTraced keeps code v → IsStood cmp join v → entry_of v (class_in code v k) ≡ Some a → v.from ≤ low → StartsAt (newest_above cmp code v low k a) (looked_up cmp join code v low k a))
     (value : Option V) (told : Answer O) (d : Decision V I O) (met : d ≡ decision f x.op (met_at cmp join code v slot (key_of x.op))) (is : d ≡ Replace value told) where
   inside-here : is_session (slots_of v) slot ≡ true
   inside-here = (key_at (slots_of v) v.contexts slot c x here).inside
 
-  first-here : first ≡ first_from cmp code v slot (key_of x.op) (entry_for code v (key_of x.op))
-  first-here = read ∙ ap (λ k. first_from cmp code v slot k (entry_for code v k)) own
+  first-here : first ≡ newest_in_memory cmp code v slot (key_of x.op) (entry_for code v (key_of x.op))
+  first-here = read ∙ ap (λ k. newest_in_memory cmp code v slot k (entry_for code v k)) own
 
-  tells-here : (a : ℕ) → entry_for code v (key_of x.op) ≡ Some a → IsFirst (first_up cmp code v.records (low_of v.records.begin (seen_at v slot)) (key_of x.op) a) (looked_up cmp join code v.records (low_of v.records.begin (seen_at v slot)) (key_of x.op) a)
+  tells-here : (a : ℕ) → entry_for code v (key_of x.op) ≡ Some a → StartsAt (newest_above cmp code v.records (low_of v.records.begin (seen_at v slot)) (key_of x.op) a) (looked_up cmp join code v.records (low_of v.records.begin (seen_at v slot)) (key_of x.op) a)
   tells-here a entry = firsts keeps cmp join code v.records (key_of x.op) (low_of v.records.begin (seen_at v slot)) a order s.traced s.stood entry (seen-begun v slot s.traced inside-here)
 
   replace-found : (b : ℕ) → first ≡ Below b → ⊥
@@ -101,13 +101,13 @@ module _ {K V I O : Type 0} {keeps : Bool} (cmp : K → K → Ordering) (join : 
     replace-last : IsReplaced
     replace-last = record { last_is = rw last-here mutable-here.1.last; stands = rw last-here mutable-here.1.stands; whole = rw last-here mutable-here.1.whole }
 
-pub first-first-requires-clause-entered : goal.first-first-requires-clause-entered
-first-first-requires-clause-entered g c =
+pub newest_in_memory-first-requires-clause-entered : goal.newest_in_memory-first-requires-clause-entered
+newest_in_memory-first-requires-clause-entered g c =
     let v = c.args.self.now in
     (key_at (slots_of v) v.contexts c.args.slot c.args.context c.args.operation.now c.requires.here).inside
 
-pub first-first-requires-clause-entry : goal.first-first-requires-clause-entry
-first-first-requires-clause-entry g c = c.address_of-address.ensures ∙ c.find-entry.ensures.address
+pub newest_in_memory-first-requires-clause-entry : goal.newest_in_memory-first-requires-clause-entry
+newest_in_memory-first-requires-clause-entry g c = c.address_of-address.ensures ∙ c.find-entry.ensures.address
 
 pub decided-requires-clause-entered : goal.decided-requires-clause-entered
 decided-requires-clause-entered g c =
@@ -127,7 +127,7 @@ decided-requires-clause-entry g c =
 pub decided-requires-clause-first : goal.decided-requires-clause-first
 decided-requires-clause-first g c =
     let v = c.args.self.now in
-    c.first-first.ensures ∙ ap (λ k. first_from g.F.Key.Ord.cmp g.F.Functions.code v c.args.slot k (entry_for g.F.Functions.code v k)) c.key-key.ensures
+    c.newest_in_memory-first.ensures ∙ ap (λ k. newest_in_memory g.F.Key.Ord.cmp g.F.Functions.code v c.args.slot k (entry_for g.F.Functions.code v k)) c.key-key.ensures
 
 pub free-requires-clause-unclaimed : goal.free-requires-clause-unclaimed
 free-requires-clause-unclaimed g c = claims-none c.args.self.now c.args.slot c.args.context c.args.operation.now c.requires.here c.requires.unclaimed
@@ -219,7 +219,7 @@ unreachable-requires-in_default-first g c =
     let ord = g.met.F.Key.Ord in
     let known = g.met.F.Key.FixedKey in
     let order = key_order g.F.Key.PartialEq.eq g.F.Key.Ord.cmp ord.matches_eq known.exact ord.total in
-    replace-found g.F.Key.Ord.cmp g.F.Mergeable.parts.joined g.F.Functions.meaning g.F.Functions.code c.args.self.now c.args.slot c.args.context c.args.operation.now c.key-key.result c.first-first.result order c.known.ensures c.requires.here c.key-key.ensures c.first-first.ensures c.lookups_tell.ensures.first c.in-Replace.value c.in-Replace.answer c.decided.result c.decided.ensures c.in-Replace.is c.in_default-first.field-0 c.in_default-first.is
+    replace-found g.F.Key.Ord.cmp g.F.Mergeable.parts.joined g.F.Functions.meaning g.F.Functions.code c.args.self.now c.args.slot c.args.context c.args.operation.now c.key-key.result c.newest_in_memory-first.result order c.known.ensures c.requires.here c.key-key.ensures c.newest_in_memory-first.ensures c.lookups_tell.ensures.first c.in-Replace.value c.in-Replace.answer c.decided.result c.decided.ensures c.in-Replace.is c.in_default-first.field-0 c.in_default-first.is
 
 pub rewrite-requires-clause-decided : goal.rewrite-requires-clause-decided
 rewrite-requires-clause-decided g c =
@@ -231,21 +231,21 @@ rewrite-requires-clause-last g c =
     let ord = g.met.F.Key.Ord in
     let known = g.met.F.Key.FixedKey in
     let order = key_order g.F.Key.PartialEq.eq g.F.Key.Ord.cmp ord.matches_eq known.exact ord.total in
-    (replace-last g.F.Key.Ord.cmp g.F.Mergeable.parts.joined g.F.Functions.meaning g.F.Functions.code c.args.self.now c.args.slot c.args.context c.args.operation.now c.key-key.result c.first-first.result order c.known.ensures c.requires.here c.key-key.ensures c.first-first.ensures c.lookups_tell.ensures.first c.in-Replace.value c.in-Replace.answer c.decided.result c.decided.ensures c.in-Replace.is c.meetings_tell.ensures.mutable c.in-Found.last c.in-Found.is).last_is
+    (replace-last g.F.Key.Ord.cmp g.F.Mergeable.parts.joined g.F.Functions.meaning g.F.Functions.code c.args.self.now c.args.slot c.args.context c.args.operation.now c.key-key.result c.newest_in_memory-first.result order c.known.ensures c.requires.here c.key-key.ensures c.newest_in_memory-first.ensures c.lookups_tell.ensures.first c.in-Replace.value c.in-Replace.answer c.decided.result c.decided.ensures c.in-Replace.is c.meetings_tell.ensures.mutable c.in-Found.last c.in-Found.is).last_is
 
 pub rewrite-requires-clause-stands : goal.rewrite-requires-clause-stands
 rewrite-requires-clause-stands g c =
     let ord = g.met.F.Key.Ord in
     let known = g.met.F.Key.FixedKey in
     let order = key_order g.F.Key.PartialEq.eq g.F.Key.Ord.cmp ord.matches_eq known.exact ord.total in
-    (replace-last g.F.Key.Ord.cmp g.F.Mergeable.parts.joined g.F.Functions.meaning g.F.Functions.code c.args.self.now c.args.slot c.args.context c.args.operation.now c.key-key.result c.first-first.result order c.known.ensures c.requires.here c.key-key.ensures c.first-first.ensures c.lookups_tell.ensures.first c.in-Replace.value c.in-Replace.answer c.decided.result c.decided.ensures c.in-Replace.is c.meetings_tell.ensures.mutable c.in-Found.last c.in-Found.is).stands
+    (replace-last g.F.Key.Ord.cmp g.F.Mergeable.parts.joined g.F.Functions.meaning g.F.Functions.code c.args.self.now c.args.slot c.args.context c.args.operation.now c.key-key.result c.newest_in_memory-first.result order c.known.ensures c.requires.here c.key-key.ensures c.newest_in_memory-first.ensures c.lookups_tell.ensures.first c.in-Replace.value c.in-Replace.answer c.decided.result c.decided.ensures c.in-Replace.is c.meetings_tell.ensures.mutable c.in-Found.last c.in-Found.is).stands
 
 pub rewrite-requires-clause-whole : goal.rewrite-requires-clause-whole
 rewrite-requires-clause-whole g c =
     let ord = g.met.F.Key.Ord in
     let known = g.met.F.Key.FixedKey in
     let order = key_order g.F.Key.PartialEq.eq g.F.Key.Ord.cmp ord.matches_eq known.exact ord.total in
-    (replace-last g.F.Key.Ord.cmp g.F.Mergeable.parts.joined g.F.Functions.meaning g.F.Functions.code c.args.self.now c.args.slot c.args.context c.args.operation.now c.key-key.result c.first-first.result order c.known.ensures c.requires.here c.key-key.ensures c.first-first.ensures c.lookups_tell.ensures.first c.in-Replace.value c.in-Replace.answer c.decided.result c.decided.ensures c.in-Replace.is c.meetings_tell.ensures.mutable c.in-Found.last c.in-Found.is).whole
+    (replace-last g.F.Key.Ord.cmp g.F.Mergeable.parts.joined g.F.Functions.meaning g.F.Functions.code c.args.self.now c.args.slot c.args.context c.args.operation.now c.key-key.result c.newest_in_memory-first.result order c.known.ensures c.requires.here c.key-key.ensures c.newest_in_memory-first.ensures c.lookups_tell.ensures.first c.in-Replace.value c.in-Replace.answer c.decided.result c.decided.ensures c.in-Replace.is c.meetings_tell.ensures.mutable c.in-Found.last c.in-Found.is).whole
 
 pub returns-in-Found-clause-effect : goal.returns-in-Found-clause-effect
 returns-in-Found-clause-effect g c = c.rewrite.ensures.effect

@@ -3,23 +3,23 @@ use Rattle.std.specs.declared.cmp.Ordering.{Ordering}
 use Rattle.fkv_regions.specs.declared.offsets.View.{View}
 use Rattle.fkv_texts.specs.declared.entries.ChainPosition.{ChainPosition}
 use Rattle.fkv_lookups.specs.declared.decisions.LookupResult.{LookupResult}
-use Rattle.fkv_lookups.specs.declared.gathered.Gathered.{Gathered}
+use Rattle.fkv_lookups.specs.declared.chain_results.ChainResult.{ChainResult}
 use Rattle.fkv_lookups.specs.Decisions.{low_of, met_by}
-use Rattle.fkv_lookups.specs.Lookups.{first_up, looked_up}
+use Rattle.fkv_lookups.specs.Lookups.{newest_above, looked_up}
 use Rattle.fkv_lookups.specs.Meeting.{met_from}
-use Rattle.fkv_partition.specs.CoreViews.{CoreView, entry_for, first_from, met_at, seen_at}
+use Rattle.fkv_partition.specs.CoreViews.{CoreView, entry_for, newest_in_memory, met_at, seen_at}
 use Rattle.fkv_partition.proofs.cores.Core.met.Goals as goal
 
 -- what the parts of a partition say of it
 module _ {K V I : Type 0} (cmp : K → K → Ordering) (join : V → V → V) (code : K → ℕ) (inside v : CoreView K V I) (slot : ℕ) (k : K) (a low : ℕ) (same : inside ≡ v) (leads : entry_for code v k ≡ Some a) (lowest : low ≡ low_of v.records.begin (seen_at v slot)) where
-  first-of : (first : ChainPosition K V) → first ≡ first_from cmp code v slot k (entry_for code v k) → first ≡ first_up cmp code inside.records low k a
+  first-of : (first : ChainPosition K V) → first ≡ newest_in_memory cmp code v slot k (entry_for code v k) → first ≡ newest_above cmp code inside.records low k a
   first-of first is =
       is
-      ∙ ap (first_from cmp code v slot k) leads
-      ∙ ap (λ n. first_up cmp code v.records n k a) (sym lowest)
-      ∙ ap (λ (u : CoreView K V I). first_up cmp code u.records low k a) (sym same)
+      ∙ ap (newest_in_memory cmp code v slot k) leads
+      ∙ ap (λ n. newest_above cmp code v.records n k a) (sym lowest)
+      ∙ ap (λ (u : CoreView K V I). newest_above cmp code u.records low k a) (sym same)
 
-  met-of : (begin : ℕ) (view : View) (came : Gathered K V) (r : LookupResult V) → begin ≡ inside.records.begin → view ≡ seen_at inside slot → came ≡ looked_up cmp join code inside.records low k a → r ≡ met_by join (Some a) begin view came
+  met-of : (begin : ℕ) (view : View) (came : ChainResult K V) (r : LookupResult V) → begin ≡ inside.records.begin → view ≡ seen_at inside slot → came ≡ looked_up cmp join code inside.records low k a → r ≡ met_by join (Some a) begin view came
       → r ≡ met_at cmp join code v slot k
   met-of begin view came r begins seen reached is =
       is

@@ -1,8 +1,8 @@
-use Rattle.std.proofs.Common.{None, cond, ◌+◌, ◌*◌, length, nat_lt, slice_get, refl, sym, ap, ◌∙◌}
+use Rattle.std.proofs.Common.{None, cond, ◌+◌, ◌*◌, length, nat_lt, slice_get, sym, ap, ◌∙◌}
 use Rattle.fkv_partition.specs.CoreContexts.{is_session, joined, relocating}
 use Rattle.fkv_partition.specs.CoreViews.{relocation_in, slots_of}
 use Rattle.fkv_partition.proofs.AskedLemmas.{context-outside, context-entered}
-use Rattle.fkv_partition.proofs.EventLemmas.{some-all}
+use Rattle.fkv_partition.proofs.ApartLemmas.{some-all}
 use Rattle.fkv_partition.proofs.cores.Core.relocation.Goals as goal
 
 pub returns-then-not-is_entered-clause-value : goal.returns-then-not-is_entered-clause-value

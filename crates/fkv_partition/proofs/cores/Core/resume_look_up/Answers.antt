@@ -156,8 +156,8 @@ returns-then-address-begin-clause-effect g c =
     (record { reached = (record { parts = parts; position = Below b }); reads = reads-on g.F.Key.Ord.cmp g.F.Mergeable.parts.joined g.F.Functions.code order v c.known.ensures c.args.slot c.args.context x l a (IsEntryIn g.F.Key.Fixed.codec g.F.Value.Fixed.codec) (g.R.Receipt.stands p.receipt) p.bytes c.trace_in.result came (Ok (record { parts = parts; position = Below b })) is; tells = ended b parts under })
     c.tell-then-address-begin.ensures.read c.tell-then-address-begin.ensures.update
 
-pub free-requires-then-not-is_place-clause-unclaimed : goal.free-requires-then-not-is_place-clause-unclaimed
-free-requires-then-not-is_place-clause-unclaimed g c =
+pub free-requires-then-not-is_record_start-clause-unclaimed : goal.free-requires-then-not-is_record_start-clause-unclaimed
+free-requires-then-not-is_record_start-clause-unclaimed g c =
     let v = c.args.self.now in
     let x = c.args.operation.now in
     let l = c.args.loading in
@@ -165,8 +165,8 @@ free-requires-then-not-is_place-clause-unclaimed g c =
     let p = c.args.loaded in
     claims-none v c.args.slot c.args.context x a.here (ap claim_by a.loading)
 
-pub returns-then-not-is_place-clause-effect : goal.returns-then-not-is_place-clause-effect
-returns-then-not-is_place-clause-effect g c =
+pub returns-then-not-is_record_start-clause-effect : goal.returns-then-not-is_record_start-clause-effect
+returns-then-not-is_record_start-clause-effect g c =
     let ord = g.met.F.Key.Ord in
     let known = g.met.F.Key.FixedKey in
     let order = key_order g.F.Key.PartialEq.eq g.F.Key.Ord.cmp ord.matches_eq known.exact ord.total in
@@ -182,8 +182,8 @@ returns-then-not-is_place-clause-effect g c =
     let is = c.in-Ok.is ∙ ap (λ q. Ok (record { parts = parts; position = q })) c.in-Below.is in
     let begins : c.begin.result ≡ v.records.begin = c.begin.ensures ∙ ap (λ u. u.records.begin) c.self.view_is in
     let high : v.records.begin ≤ b = omega (arith, c.if-address-begin.false, begins) in
-    let bad_link : ¬ IsRecordStart v.records.page_bits v.records.record_size b = (λ h. let yes_place = c.is_place.ensures.1 (subst (λ u. IsRecordStart u.records.page_bits u.records.record_size b) (sym c.self.view_is) h) in let bad : false ≡ true = sym c.if-not-is_place.true ∙ yes_place in cc) in
-    rw (c.free-then-not-is_place.ensures, page) (Loads.bad_link x l p b parts (reads-on g.F.Key.Ord.cmp g.F.Mergeable.parts.joined g.F.Functions.code order v c.known.ensures c.args.slot c.args.context x l a (IsEntryIn g.F.Key.Fixed.codec g.F.Value.Fixed.codec) (g.R.Receipt.stands p.receipt) p.bytes c.trace_in.result came (Ok (record { parts = parts; position = Below b })) is) refl high bad_link refl refl)
+    let bad_link : ¬ IsRecordStart v.records.page_bits v.records.record_size b = (λ h. let yes_place = c.is_record_start.ensures.1 (subst (λ u. IsRecordStart u.records.page_bits u.records.record_size b) (sym c.self.view_is) h) in let bad : false ≡ true = sym c.if-not-is_record_start.true ∙ yes_place in cc) in
+    rw (c.free-then-not-is_record_start.ensures, page) (Loads.bad_link x l p b parts (reads-on g.F.Key.Ord.cmp g.F.Mergeable.parts.joined g.F.Functions.code order v c.known.ensures c.args.slot c.args.context x l a (IsEntryIn g.F.Key.Fixed.codec g.F.Value.Fixed.codec) (g.R.Receipt.stands p.receipt) p.bytes c.trace_in.result came (Ok (record { parts = parts; position = Below b })) is) refl high bad_link refl refl)
 
 pub look_further-requires-clause-asks : goal.look_further-requires-clause-asks
 look_further-requires-clause-asks g c =
@@ -249,7 +249,7 @@ returns-clause-effect g c =
     let is = c.in-Ok.is ∙ ap (λ q. Ok (record { parts = parts; position = q })) c.in-Below.is in
     let begins : c.begin.result ≡ v.records.begin = c.begin.ensures ∙ ap (λ u. u.records.begin) c.self.view_is in
     let high : v.records.begin ≤ b = omega (arith, c.if-address-begin.false, begins) in
-    let place = subst (λ u. IsRecordStart u.records.page_bits u.records.record_size b) c.self.view_is (c.is_place.ensures.0 c.if-not-is_place.false) in
+    let place = subst (λ u. IsRecordStart u.records.page_bits u.records.record_size b) c.self.view_is (c.is_record_start.ensures.0 c.if-not-is_record_start.false) in
     further-done g.R.Receipt.stands (IsEntryIn g.F.Key.Fixed.codec g.F.Value.Fixed.codec) g.F.Key.Ord.cmp g.F.Mergeable.parts.joined g.F.Functions.meaning v c.look_further.new.self c.args.slot c.args.context c.args.now x l p b parts (reads-on g.F.Key.Ord.cmp g.F.Mergeable.parts.joined g.F.Functions.code order v c.known.ensures c.args.slot c.args.context x l a (IsEntryIn g.F.Key.Fixed.codec g.F.Value.Fixed.codec) (g.R.Receipt.stands p.receipt) p.bytes c.trace_in.result came (Ok (record { parts = parts; position = Below b })) is) high place c.look_further.result c.look_further.ensures.asked c.look_further.ensures.effect c.look_further.ensures.only c.look_further.ensures.unchanged
 
 pub returns-in-Found-clause-event : goal.returns-in-Found-clause-event
@@ -306,8 +306,8 @@ tell-requires-then-address-begin-clause-awaits g c = c.requires.awaits
 pub returns-then-address-begin-clause-moment : goal.returns-then-address-begin-clause-moment
 returns-then-address-begin-clause-moment g c = c.tell-then-address-begin.ensures.moment
 
-pub returns-then-not-is_place-clause-moment : goal.returns-then-not-is_place-clause-moment
-returns-then-not-is_place-clause-moment g c = rw c.free-then-not-is_place.ensures (le_refl c.args.now)
+pub returns-then-not-is_record_start-clause-moment : goal.returns-then-not-is_record_start-clause-moment
+returns-then-not-is_record_start-clause-moment g c = rw c.free-then-not-is_record_start.ensures (le_refl c.args.now)
 
 pub look_further-requires-clause-awaits : goal.look_further-requires-clause-awaits
 look_further-requires-clause-awaits g c = c.requires.awaits
@@ -333,11 +333,11 @@ tell-requires-then-address-begin-clause-session g c = c.requires.session
 pub tell-requires-then-address-begin-clause-context : goal.tell-requires-then-address-begin-clause-context
 tell-requires-then-address-begin-clause-context g c = c.requires.context
 
-pub free-requires-then-not-is_place-clause-session : goal.free-requires-then-not-is_place-clause-session
-free-requires-then-not-is_place-clause-session g c = c.requires.session
+pub free-requires-then-not-is_record_start-clause-session : goal.free-requires-then-not-is_record_start-clause-session
+free-requires-then-not-is_record_start-clause-session g c = c.requires.session
 
-pub free-requires-then-not-is_place-clause-context : goal.free-requires-then-not-is_place-clause-context
-free-requires-then-not-is_place-clause-context g c = c.requires.context
+pub free-requires-then-not-is_record_start-clause-context : goal.free-requires-then-not-is_record_start-clause-context
+free-requires-then-not-is_record_start-clause-context g c = c.requires.context
 
 pub look_further-requires-clause-session : goal.look_further-requires-clause-session
 look_further-requires-clause-session g c = c.requires.session

@@ -1,5 +1,5 @@
-use Rattle.std.proofs.Common.{◌≡◌, ◌+◌, ◌*◌, None, Option, slice_get, ap, ◌∙◌}
-use Rattle.fkv_partition.specs.CoreContexts.{joined, on_key, claim_at}
+use Rattle.std.proofs.Common.{◌≡◌, ◌+◌, ◌*◌, None, slice_get}
+use Rattle.fkv_partition.specs.CoreContexts.{joined, on_key}
 use Rattle.fkv_partition.proofs.SoundLemmas.{sound-relocated}
 use Rattle.fkv_partition.proofs.AskedLemmas.{keyless-claims}
 use Rattle.fkv_partition.proofs.cores.Core.set_relocation.Goals as goal

@@ -1,5 +1,5 @@
 use Rattle.std.proofs.Common.{◌≡◌, ◌+◌, ◌*◌, Some, subst}
-use Rattle.fkv_partition.specs.declared.contexts.Open.TheVariants.{Relocating}
+use Rattle.fkv_partition.specs.declared.contexts.OpenWork.TheVariants.{Relocating}
 use Rattle.fkv_partition.specs.Inside.{view_of}
 use Rattle.fkv_partition.specs.Stages.{RelocationStands}
 use Rattle.fkv_partition.proofs.KeepLemmas.{keep-changed, rises-not}

@@ -1,6 +1,5 @@
 use Rattle.std.proofs.Common.{refl, ap}
 use Rattle.fkv_partition.specs.Inside.{view_of}
-use Rattle.fkv_partition.specs.Views.{with_core}
 use Rattle.fkv_partition.proofs.SteadyLemmas.{gives-up-steady}
 use Rattle.fkv_partition.proofs.KeepLemmas.{keep-seated, on-err}
 use Rattle.fkv_partition.proofs.partitions.Partition.give_up_untimed.Goals as goal

@@ -1,4 +1,4 @@
-use Rattle.std.proofs.Common.{◌≡◌, ◌∙◌, ◌+◌, ◌*◌, ◌<◌, arith, None, subst, refl, sym, ap}
+use Rattle.std.proofs.Common.{◌≡◌, ◌∙◌, ◌<◌, arith, None, subst, refl, sym, ap}
 use Rattle.std.proofs.lemmas.Bool.{OnTrue_at, OnFalse_at}
 use Rattle.fkv_operations.specs.After.{key_of}
 use Rattle.fkv_partition.specs.CoreViews.{partition_of, slots_of, held_at}
@@ -7,8 +7,7 @@ use Rattle.fkv_partition.specs.CoreBeginning.{IsEntered}
 use Rattle.fkv_partition.specs.CoreEffect.{IsIssue}
 use Rattle.fkv_partition.specs.Inside.{view_of}
 use Rattle.fkv_partition.specs.Beginning.{IssuesOnKey}
-use Rattle.fkv_partition.specs.Views.{with_core}
-use Rattle.fkv_partition.proofs.ApartLemmas.{no-later, is-before}
+use Rattle.fkv_partition.proofs.ApartLemmas.{no-later}
 use Rattle.fkv_partition.proofs.SteadyLemmas.{issues-steady}
 use Rattle.fkv_partition.proofs.KeepLemmas.{keep-seated, issues-told}
 use Rattle.fkv_partition.proofs.MoveLemmas.{open-free}

@@ -1,4 +1,4 @@
-use Rattle.std.proofs.Common.{inr, refl, sym}
+use Rattle.std.proofs.Common.{refl, sym}
 use Rattle.fkv_partition.proofs.ApartLemmas.{err-ok, err-as}
 use Rattle.fkv_partition.proofs.KeepLemmas.{compacting-empty}
 use Rattle.fkv_partition.proofs.partitions.Partition.new.Goals as goal

@@ -138,8 +138,8 @@ append_again-requires-clause-stands g c =
     subst (λ q. StageStands g.R.Receipt.keeps g.F.Key.Ord.cmp g.F.Mergeable.parts.joined g.F.Functions.code v.core x.target (Ready q l.kept)) (sym c.renewed-whole.ensures)
     (way-last g.F.Key.Ord.cmp g.F.Mergeable.parts.joined g.F.Functions.code order v sound s c.args.slot c.args.context x e l a at (IsEntryIn g.F.Key.Fixed.codec g.F.Value.Fixed.codec) (g.R.Receipt.stands p.receipt) p.bytes c.trace_in.result came r c.in-Last.parts is j)
 
-pub returns-then-not-is_place-clause-effect : goal.returns-then-not-is_place-clause-effect
-returns-then-not-is_place-clause-effect g c =
+pub returns-then-not-is_record_start-clause-effect : goal.returns-then-not-is_record_start-clause-effect
+returns-then-not-is_record_start-clause-effect g c =
     let ord = g.met.F.Key.Ord in
     let known = g.met.F.Key.FixedKey in
     let order = key_order g.F.Key.PartialEq.eq g.F.Key.Ord.cmp ord.matches_eq known.exact ord.total in
@@ -160,7 +160,7 @@ returns-then-not-is_place-clause-effect g c =
     let b = c.in-Further.address in
     let j = sym c.liveness_of.ensures ∙ c.in-Further.is in
     LoadsOn.bad_link x e l p b c.in-Further.parts at (has-page g.F.Key.Ord.cmp g.F.Mergeable.parts.joined g.F.Functions.code order v sound s c.args.slot c.args.context x e l a at (IsEntryIn g.F.Key.Fixed.codec g.F.Value.Fixed.codec) (g.R.Receipt.stands p.receipt) p.bytes c.trace_in.result came) refl (way-below g.F.Key.Ord.cmp g.F.Mergeable.parts.joined g.F.Functions.code order v sound s c.args.slot c.args.context x e l a at (IsEntryIn g.F.Key.Fixed.codec g.F.Value.Fixed.codec) (g.R.Receipt.stands p.receipt) p.bytes c.trace_in.result came r b c.in-Further.parts is j) (above-place g.F.Key.Ord.cmp g.F.Mergeable.parts.joined g.F.Functions.code order v sound s c.args.slot c.args.context x e l a at (IsEntryIn g.F.Key.Fixed.codec g.F.Value.Fixed.codec) (g.R.Receipt.stands p.receipt) p.bytes c.trace_in.result came r b c.in-Further.parts is j)
-    (λ place. false≢true (sym c.if-not-is_place.true ∙ c.is_place.ensures.1 (subst (λ r. IsRecordStart r.page_bits r.record_size b) (sym (c.records-in-Further.ensures ∙ moved)) place))) c.end-then-not-is_place.ensures (ap (λ n. Err (Damaged n)) page)
+    (λ place. false≢true (sym c.if-not-is_record_start.true ∙ c.is_record_start.ensures.1 (subst (λ r. IsRecordStart r.page_bits r.record_size b) (sym (c.records-in-Further.ensures ∙ moved)) place))) c.end-then-not-is_record_start.ensures (ap (λ n. Err (Damaged n)) page)
 
 pub ask-requires-clause-flushed : goal.ask-requires-clause-flushed
 ask-requires-clause-flushed g c =
@@ -276,8 +276,8 @@ returns-in-Last-clause-effect g c =
     let j = sym c.liveness_of.ensures ∙ c.in-Last.is in
     LoadsOn.ends x e l p r c.in-Last.parts at (has-page g.F.Key.Ord.cmp g.F.Mergeable.parts.joined g.F.Functions.code order v sound s c.args.slot c.args.context x e l a at (IsEntryIn g.F.Key.Fixed.codec g.F.Value.Fixed.codec) (g.R.Receipt.stands p.receipt) p.bytes c.trace_in.result came) refl (traces-to g.F.Key.Ord.cmp g.F.Mergeable.parts.joined g.F.Functions.code order v sound s c.args.slot c.args.context x e l a at (IsEntryIn g.F.Key.Fixed.codec g.F.Value.Fixed.codec) (g.R.Receipt.stands p.receipt) p.bytes c.trace_in.result came (Ok r) is) j (subst (λ q. Ends v c.append_again.new.self c.args.slot c.args.context x q l.kept c.args.now c.append_again.result) c.renewed-whole.ensures c.append_again.ensures.effect)
 
-pub returns-else-not-is_place-clause-effect : goal.returns-else-not-is_place-clause-effect
-returns-else-not-is_place-clause-effect g c =
+pub returns-else-not-is_record_start-clause-effect : goal.returns-else-not-is_record_start-clause-effect
+returns-else-not-is_record_start-clause-effect g c =
     let ord = g.met.F.Key.Ord in
     let known = g.met.F.Key.FixedKey in
     let order = key_order g.F.Key.PartialEq.eq g.F.Key.Ord.cmp ord.matches_eq known.exact ord.total in
@@ -296,7 +296,7 @@ returns-else-not-is_place-clause-effect g c =
     let is = c.in-Ok.is in
     let b = c.in-Further.address in
     let j = sym c.liveness_of.ensures ∙ c.in-Further.is in
-    let place = subst (λ r. IsRecordStart r.page_bits r.record_size b) (c.records-in-Further.ensures ∙ moved) (c.is_place.ensures.0 c.if-not-is_place.false) in
+    let place = subst (λ r. IsRecordStart r.page_bits r.record_size b) (c.records-in-Further.ensures ∙ moved) (c.is_record_start.ensures.0 c.if-not-is_record_start.false) in
     LoadsOn.further x e l p b c.in-Further.parts at (has-page g.F.Key.Ord.cmp g.F.Mergeable.parts.joined g.F.Functions.code order v sound s c.args.slot c.args.context x e l a at (IsEntryIn g.F.Key.Fixed.codec g.F.Value.Fixed.codec) (g.R.Receipt.stands p.receipt) p.bytes c.trace_in.result came) refl (way-below g.F.Key.Ord.cmp g.F.Mergeable.parts.joined g.F.Functions.code order v sound s c.args.slot c.args.context x e l a at (IsEntryIn g.F.Key.Fixed.codec g.F.Value.Fixed.codec) (g.R.Receipt.stands p.receipt) p.bytes c.trace_in.result came r b c.in-Further.parts is j) (above-place g.F.Key.Ord.cmp g.F.Mergeable.parts.joined g.F.Functions.code order v sound s c.args.slot c.args.context x e l a at (IsEntryIn g.F.Key.Fixed.codec g.F.Value.Fixed.codec) (g.R.Receipt.stands p.receipt) p.bytes c.trace_in.result came r b c.in-Further.parts is j) place c.ask.ensures.effect
 
 pub overflow_add-target : goal.overflow_add-target
@@ -313,17 +313,17 @@ returns-in-Err-clause-cleared g c = err-ok
 pub returns-in-Err-clause-moment : goal.returns-in-Err-clause-moment
 returns-in-Err-clause-moment g c = has-come c.end.ensures refl
 
-pub returns-then-not-is_place-clause-cleared : goal.returns-then-not-is_place-clause-cleared
-returns-then-not-is_place-clause-cleared g c = err-ok
+pub returns-then-not-is_record_start-clause-cleared : goal.returns-then-not-is_record_start-clause-cleared
+returns-then-not-is_record_start-clause-cleared g c = err-ok
 
-pub returns-then-not-is_place-clause-moment : goal.returns-then-not-is_place-clause-moment
-returns-then-not-is_place-clause-moment g c = has-come c.end-then-not-is_place.ensures refl
+pub returns-then-not-is_record_start-clause-moment : goal.returns-then-not-is_record_start-clause-moment
+returns-then-not-is_record_start-clause-moment g c = has-come c.end-then-not-is_record_start.ensures refl
 
 pub returns-in-Superseded-clause-moment : goal.returns-in-Superseded-clause-moment
 returns-in-Superseded-clause-moment g c = has-come c.finish.ensures refl
 
-pub returns-else-not-is_place-clause-cleared : goal.returns-else-not-is_place-clause-cleared
-returns-else-not-is_place-clause-cleared g c = λ is. absurd (c.ask.ensures.uncleared is)
+pub returns-else-not-is_record_start-clause-cleared : goal.returns-else-not-is_record_start-clause-cleared
+returns-else-not-is_record_start-clause-cleared g c = λ is. absurd (c.ask.ensures.uncleared is)
 
 pub returns-in-Last-clause-event : goal.returns-in-Last-clause-event
 returns-in-Last-clause-event g c = c.append_again.ensures.event
@@ -334,11 +334,11 @@ returns-in-Last-clause-cleared g c = c.append_again.ensures.cleared
 pub returns-in-Last-clause-moment : goal.returns-in-Last-clause-moment
 returns-in-Last-clause-moment g c = c.append_again.ensures.moment
 
-pub returns-else-not-is_place-clause-event : goal.returns-else-not-is_place-clause-event
-returns-else-not-is_place-clause-event g c = c.ask.ensures.event
+pub returns-else-not-is_record_start-clause-event : goal.returns-else-not-is_record_start-clause-event
+returns-else-not-is_record_start-clause-event g c = c.ask.ensures.event
 
-pub returns-else-not-is_place-clause-moment : goal.returns-else-not-is_place-clause-moment
-returns-else-not-is_place-clause-moment g c = c.ask.ensures.moment
+pub returns-else-not-is_record_start-clause-moment : goal.returns-else-not-is_record_start-clause-moment
+returns-else-not-is_record_start-clause-moment g c = c.ask.ensures.moment
 
 pub finish-requires-clause-session : goal.finish-requires-clause-session
 finish-requires-clause-session g c = c.requires.session
@@ -352,11 +352,11 @@ end-requires-clause-session g c = c.requires.session
 pub end-requires-clause-context : goal.end-requires-clause-context
 end-requires-clause-context g c = c.requires.context
 
-pub end-requires-then-not-is_place-clause-session : goal.end-requires-then-not-is_place-clause-session
-end-requires-then-not-is_place-clause-session g c = c.requires.session
+pub end-requires-then-not-is_record_start-clause-session : goal.end-requires-then-not-is_record_start-clause-session
+end-requires-then-not-is_record_start-clause-session g c = c.requires.session
 
-pub end-requires-then-not-is_place-clause-context : goal.end-requires-then-not-is_place-clause-context
-end-requires-then-not-is_place-clause-context g c = c.requires.context
+pub end-requires-then-not-is_record_start-clause-context : goal.end-requires-then-not-is_record_start-clause-context
+end-requires-then-not-is_record_start-clause-context g c = c.requires.context
 
 pub append_again-requires-clause-later : goal.append_again-requires-clause-later
 append_again-requires-clause-later g c = c.requires.later

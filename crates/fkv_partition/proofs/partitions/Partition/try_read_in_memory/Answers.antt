@@ -3,7 +3,7 @@ use Rattle.std.proofs.lemmas.Bool.{false≢true}
 use Rattle.std.proofs.lemmas.Option.{IfSome_then}
 use Rattle.fkv_partition.specs.CoreContexts.{is_session}
 use Rattle.fkv_partition.specs.CoreViews.{slots_of}
-use Rattle.fkv_partition.proofs.AtOnceLemmas.{told-some}
+use Rattle.fkv_partition.proofs.ApartLemmas.{some-all}
 use Rattle.fkv_partition.proofs.partitions.Partition.try_read_in_memory.Goals as goal
 
 pub returns-clause-done : goal.returns-clause-done
@@ -15,7 +15,7 @@ pub returns-clause-left : goal.returns-clause-left
 returns-clause-left g c = rw (← c.self.view_is) (λ none entered own. c.try_read_in_memory.ensures.left none own)
 
 pub returns-clause-within : goal.returns-clause-within
-returns-clause-within g c = told-some c.try_read_in_memory.result (c.is_session.ensures.within c.if-not-is_session.false)
+returns-clause-within g c = some-all c.try_read_in_memory.result (c.is_session.ensures.within c.if-not-is_session.false)
 
 pub returns-then-not-is_session-clause-left : goal.returns-then-not-is_session-clause-left
 returns-then-not-is_session-clause-left g c =

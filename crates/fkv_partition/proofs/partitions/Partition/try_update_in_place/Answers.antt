@@ -1,4 +1,4 @@
-use Rattle.std.proofs.Common.{◌≡◌, ◌∙◌, ◌+◌, ◌*◌, ◌<◌, false, None, refl, sym, ap, subst, Ok}
+use Rattle.std.proofs.Common.{◌≡◌, ◌∙◌, ◌<◌, false, None, refl, sym, ap, subst, Ok}
 use Rattle.std.proofs.lemmas.Bool.{false≢true}
 use Rattle.fkv_functions.proofs.KeyOrder.{key_order}
 use Rattle.fkv_operations.specs.declared.operations.KeyedOp.TheVariants.{Rmw}
@@ -9,8 +9,8 @@ use Rattle.fkv_partition.specs.CoreBeginning.{IsEntered}
 use Rattle.fkv_partition.specs.CoreViews.{slots_of, held_at}
 use Rattle.fkv_partition.specs.Inside.{view_of}
 use Rattle.fkv_partition.specs.Views.{with_core}
-use Rattle.fkv_partition.proofs.ApartLemmas.{later-still}
-use Rattle.fkv_partition.proofs.AtOnceLemmas.{done-at-once, kept-at-once, left-at-once, sound-issued, told-some}
+use Rattle.fkv_partition.proofs.ApartLemmas.{later-still, some-all}
+use Rattle.fkv_partition.proofs.AtOnceLemmas.{done-at-once, kept-at-once, left-at-once, sound-issued}
 use Rattle.fkv_partition.proofs.SteadyLemmas.{goes-steady, issues-steady}
 use Rattle.fkv_partition.proofs.KeepLemmas.{keep-seated}
 use Rattle.fkv_partition.proofs.MoveLemmas.{open-free}
@@ -62,7 +62,7 @@ returns-clause-left g c =
     rw (← c.self.view_is) (λ none. left-at-once g.F.Key.Ord.cmp g.F.Mergeable.parts.joined g.F.Functions.meaning g.F.Functions.code v c.args.slot c.args.key.now c.args.input.now (c.try_update_in_place-shown.ensures.left none))
 
 pub returns-clause-within : goal.returns-clause-within
-returns-clause-within g c = told-some c.try_update_in_place-shown.result (c.is_session.ensures.within c.if-not-is_session.false)
+returns-clause-within g c = some-all c.try_update_in_place-shown.result (c.is_session.ensures.within c.if-not-is_session.false)
 
 pub returns-then-not-is_session-clause-left : goal.returns-then-not-is_session-clause-left
 returns-then-not-is_session-clause-left g c =

@@ -7,13 +7,13 @@ use fkv_operations::KeyedOp;
 pub struct SessionId {
     pub slot: usize,
     /// The count of enters in the partition when it was entered, from 1: no other session has it.
-    pub session: u64,
+    pub number: u64,
 }
 
 /// An operation of a caller.
 #[derive(Clone, Copy, Debug)]
 pub struct OpenOperation<K, V, I> {
-    pub seat: SessionId,
+    pub session: SessionId,
     pub context: usize,
     /// The moment of its issue.
     pub number: u64,

@@ -1,5 +1,5 @@
 use Rattle.fkv_records.proofs.PlaceLemmas.{places, place_low, place_ends}
-use Rattle.fkv_records.proofs.shapes.Shape.is_place.Goals as goal
+use Rattle.fkv_records.proofs.shapes.Shape.is_record_start.Goals as goal
 
 pub returns : goal.returns
 returns c =

@@ -10,14 +10,14 @@ use std::alloc::AllocError;
 
 /// What a look-up of a key comes to.
 #[derive(Copy)]
-pub struct Gathered<K, V> {
+pub struct ChainResult<K, V> {
     /// The parts of the key's deltas on the way, joined, or `None` where none was met.
     pub parts: Option<V>,
     /// The first record of the key that is no delta, or where the way goes on.
     pub position: ChainPosition<K, V>,
 }
 
-impl<K: Copy, V: Copy> Clone for Gathered<K, V> {
+impl<K: Copy, V: Copy> Clone for ChainResult<K, V> {
     ghost is_clone = { λ x y. y ≡ x };
 
     ghost is_infallible = { λ _. ⊤ };

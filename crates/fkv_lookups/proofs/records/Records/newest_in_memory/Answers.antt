@@ -7,7 +7,7 @@ use Rattle.fkv_operations.specs.Classes.{class_at, same_class}
 use Rattle.fkv_operations.proofs.ClassLemmas.{class_test}
 use Rattle.fkv_lookups.proofs.TracedLemmas.{leads_of}
 use Rattle.fkv_lookups.proofs.LookupLemmas.{chain_of_all, begun, raw-traced}
-use Rattle.fkv_lookups.proofs.records.Records.first.Goals as goal
+use Rattle.fkv_lookups.proofs.records.Records.newest_in_memory.Goals as goal
 
 pub first_on_chain-requires-clause-chain : goal.first_on_chain-requires-clause-chain
 first_on_chain-requires-clause-chain g c =

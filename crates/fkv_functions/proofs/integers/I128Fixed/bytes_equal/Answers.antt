@@ -1,5 +1,5 @@
 use Rattle.std.proofs.Common.{sym}
-use Rattle.fkv_functions.proofs.integers.I128Fixed.stands_in.Goals as goal
+use Rattle.fkv_functions.proofs.integers.I128Fixed.bytes_equal.Goals as goal
 
 pub returns-in-None : goal.returns-in-None
 returns-in-None c = (

@@ -1,4 +1,0 @@
-use Rattle.fkv_partition.proofs.partitions.Partition.is_at_delta.Goals as goal
-
-pub returns : goal.returns
-returns g c = rw (← c.self.view_is) c.is_at_delta.ensures
