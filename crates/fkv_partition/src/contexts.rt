@@ -143,11 +143,11 @@ pub type ProgressOf<F, R> = Progress<
 
 /// The operation on a key that is open in a context.
 fn operation_in<K: Copy, V: Copy, I: Copy>(
-    open: &Option<OpenWork<K, V, I>>,
+    work: &Option<OpenWork<K, V, I>>,
 ) -> Option<Context<K, V, I>>
-    ensures { result ≡ on_key open.now }
+    ensures { result ≡ on_key work.now }
 {
-    match open {
+    match work {
         Some(OpenWork::OnKey(operation)) => Some(*operation),
         Some(OpenWork::Relocating(_)) | None => None,
     }
@@ -155,11 +155,11 @@ fn operation_in<K: Copy, V: Copy, I: Copy>(
 
 /// The relocation that is open in a context.
 fn relocation_in<K: Copy, V: Copy, I: Copy>(
-    open: &Option<OpenWork<K, V, I>>,
+    work: &Option<OpenWork<K, V, I>>,
 ) -> Option<Relocation<K, V>>
-    ensures { result ≡ relocating open.now }
+    ensures { result ≡ relocating work.now }
 {
-    match open {
+    match work {
         Some(OpenWork::Relocating(relocation)) => Some(*relocation),
         Some(OpenWork::OnKey(_)) | None => None,
     }
@@ -241,10 +241,10 @@ pub fn relocating_context<K, V, I>(
 }
 
 /// Whether a relocation is open in a context.
-fn is_relocating<K, V, I>(open: &Option<OpenWork<K, V, I>>) -> bool
-    ensures { result ≡ is_some (relocating open.now) }
+fn is_relocating<K, V, I>(work: &Option<OpenWork<K, V, I>>) -> bool
+    ensures { result ≡ is_some (relocating work.now) }
 {
-    match open {
+    match work {
         Some(OpenWork::Relocating(_)) => true,
         Some(OpenWork::OnKey(_)) | None => false,
     }
