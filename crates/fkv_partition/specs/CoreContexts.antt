@@ -1,4 +1,4 @@
--- OpenWork operations by session and context.
+-- What is open, by session and context.
 use Rattle.std.specs.Prelude.{Bool, cond, ◌&&◌, ◌+◌, ◌*◌, ℕ, List, Option, Some, None, nat_lt, slice_get, is_some}
 use Rattle.std.specs.Option.{option_flatten}
 use Rattle.fkv_functions.specs.declared.asks.Ask.{Ask}

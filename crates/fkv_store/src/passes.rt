@@ -62,7 +62,7 @@ impl<F: Mergeable, D: Disk, H: Recorder<F>> Model for Pass<F, D, H> {
         × (length p.readers.items ≡ length p.owns.lists) };
 }
 
-/// The session in a partition: that which is there, or that of a session which is entered now.
+/// The session of a pass in a partition: the one that it has there, or one that is entered now.
 fn session_in<F: Mergeable, D: Disk, H: Recorder<F>, G: Gate>(
     rt: &impl Wait,
     store: &Store<F, D, H>,
