@@ -43,7 +43,7 @@ enum {
     FKV_WORN = 10,        /* no address or no two moments are left */
     FKV_DEVICE = 11,      /* not in memory */
     FKV_DAMAGED = 12,     /* not in memory */
-    FKV_STALLED = 13,     /* no page came free in settings.turns tries: call again */
+    FKV_STALLED = 13,     /* never: an operation that finds no room makes some */
     FKV_NO_MERGE = 20,    /* a merge, of functions that do not merge */
     FKV_IS_CLOSED = 32,   /* the handle is closed */
     FKV_IN_USE = 33,      /* the handle that was to be opened is open */
@@ -123,7 +123,7 @@ typedef struct fkv_settings {
     uint64_t bucket_bits;    /* there are 2 to this many buckets in a partition's index: 0 to 20 */
     uint64_t page_bits;      /* a page has 2 to this many bytes: 8 to 20 */
     uint64_t frames;         /* the page frames of a partition: 2 to 1,024 */
-    uint64_t turns;          /* the tries of an operation: 1 to 1,000,000,000 */
+    uint64_t turns;          /* 1 to 1,000,000,000; a store for one thread makes no use of it */
 } fkv_settings;
 
 /* Some, for a store of up to a million names. */
@@ -187,8 +187,10 @@ static inline uint32_t fkv_merge(fkv_handle *store, const void *name, size_t len
     return store && name && answer ? fkv_c_merge(store, name, length, input, answer) : (uint32_t)FKV_NULL;
 }
 
-/* Gives back what superseded records take, as far as there is room, and tells whether any was given back. It is done by itself too. No
- * value changes, whatever the status. */
+/* Gives back what superseded records take in the pages that left the frames before the call: of those pages none is kept, and the
+ * records in them that live are written again. Tells whether any page was given back. It is done by itself too, as far as it pays: a
+ * store that is updated for ever takes its frames and buckets and, beside them, some four records for each name that has a value, and 64
+ * pages. No value changes, whatever the status; where it is not FKV_DONE, a part may be given back. */
 static inline uint32_t fkv_compact(fkv_handle *store, uint32_t *has_cut) {
     return store && has_cut ? fkv_c_compact(store, has_cut) : (uint32_t)FKV_NULL;
 }

@@ -223,7 +223,8 @@ class _AnyStore:
             yield name
 
     def compact(self):
-        """Gives back what superseded records take, as far as there is room. Returns whether any was given back."""
+        """Gives back what superseded records take in pages that left the frames before. Returns whether any was given back. It is
+        done by itself too, as far as it pays."""
         has_cut = ctypes.c_uint32()
         _call("compact", self._store, ctypes.byref(has_cut))
         return bool(has_cut.value)

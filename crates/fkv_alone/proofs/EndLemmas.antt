@@ -51,12 +51,12 @@ issue-stalled code old new slot now op why (IssuesOnKey.unmerged a b merge lacks
 issue-stalled code old new slot now op why (IssuesOnKey.full a b merges d is q) t = absurd (cc)
 issue-stalled code old new slot now op why (IssuesOnKey.issues d a b merges free is q) t = absurd (cc)
 
-pub stop-stalled : (tail before after : ℕ) (why : Refused) → IsStop tail before after why → why ≡ Stalled → ⊥
+pub stop-stalled : {keeping : Bool} (tail before after : ℕ) (why : Refused) → IsStop keeping tail before after why → why ≡ Stalled → ⊥
 stop-stalled tail before after why (IsStop.memory m g) t = absurd (cc)
 stop-stalled tail before after why (IsStop.worn m last g) t = absurd (cc)
 stop-stalled tail before after why (IsStop.device page m g) t = absurd (cc)
 stop-stalled tail before after why (IsStop.damaged page m g) t = absurd (cc)
-stop-stalled tail before after why (IsStop.misspelled page m g) t = absurd (cc)
+stop-stalled tail before after why (IsStop.misspelled page loose m g) t = absurd (cc)
 
 -- it is ready, and fresh
 pub record IsBegun {K V I : Type 0} (old new : PartitionView K V I) (slot c now : ℕ) (op : KeyedOp K V I) : Type 0 where

@@ -6,4 +6,4 @@ pub mod EndLemmas
 pub mod IndexLemmas
 pub mod CountLemmas
 pub mod BoundLemmas
-pub mod SpoiltLemmas
+pub mod MergeLemmas

@@ -1,5 +1,5 @@
 -- What each event makes of an operation that is driven alone.
-use Rattle.std.proofs.Common.{◌≡◌, ◌≢◌, ◌<◌, ◌^◌, ◌⊎◌, ◌==◌, inl, inr, ℕ, List, Bool, true, false, cond, IsTrue, Option, Some, None, option_map, Result, Ok, Err, IfOk, IfErr, OnOk, OnErr, slice_get, refl, sym, ◌∙◌, ap, subst, arith}
+use Rattle.std.proofs.Common.{◌≡◌, ◌≢◌, ◌+◌, ◌<◌, ◌^◌, ◌⊎◌, ◌==◌, inl, inr, ℕ, List, Bool, true, false, cond, IsTrue, Option, Some, None, option_map, Result, Ok, Err, IfOk, IfErr, OnOk, OnErr, slice_get, refl, sym, ◌∙◌, ap, subst, arith}
 use Rattle.std.specs.declared.cmp.Ordering.{Ordering}
 use Rattle.fkv_functions.specs.Meanings.{Meanings}
 use Rattle.fkv_functions.specs.Plain.{Same, PlainMap}
@@ -13,6 +13,7 @@ use Rattle.fkv_texts.specs.declared.entries.Entry.{Entry}
 use Rattle.fkv_texts.specs.Text.{live, newest, value_of}
 use Rattle.fkv_index.specs.Words.{address_of}
 use Rattle.fkv_pages.specs.Loads.{IsHeldBy}
+use Rattle.fkv_pages.specs.Views.{receipt_at}
 use Rattle.fkv_operations.specs.After.{key_of, after, answer, shown_of}
 use Rattle.fkv_operations.specs.declared.entries.IndexEntry.{IndexEntry}
 use Rattle.fkv_operations.specs.declared.operations.KeyedOp.{KeyedOp}
@@ -117,7 +118,7 @@ module _ {K V I : Type 0} (op : KeyedOp K V I) (old v : CoreView K V I) (slot c 
 words-alone : {K V : Type 0} (a b : RecordsView K V) (words : List (List Word)) → b ≡ record a { words = words } → b ≡ record a { words = b.words }
 words-alone a b words e = e ∙ ap (λ (ws : List (List Word)). record a { words = ws }) (sym (ap (λ (r : RecordsView _ _). r.words) e))
 
-stop-of : (tail page before after : ℕ) (why : Refused) → ReadFailsBy page before after why → IsStop tail before after why
+stop-of : {keeping : Bool} (tail page before after : ℕ) (why : Refused) → ReadFailsBy page before after why → IsStop keeping tail before after why
 stop-of tail page before after why h = elim h [
   | inl t ↦ elim t [ inl m ↦ IsStop.memory m.0 m.1 | inr d ↦ IsStop.device page d.0 d.1 ]
   | inr d ↦ IsStop.damaged page d.0 d.1
@@ -432,37 +433,39 @@ module _ {K V I O R : Type 0} (keeps : Bool) (stands : R → Standing) (cmp : K 
 
     -- why it is refused
     pub loads-stops : (page before after : ℕ) (came : Result (Joined R) Refused) → IfOk came (λ j. stands j.receipt ≡ s) → OnOk came (after ≡ before) → IfErr came (ReadFailsBy page before after)
-        → (why : Refused) → Loads {O = O} stands entry cmp join f v w slot c came now (Err why) → IsStop old.records.tail before after why × ((w ≡ v) ⊎ IsOver old w slot c)
-    loads-stops page before after came own steady counted why (Loads.unknown here is r) = absurd (some-none h.operation (context_at v slot c) h.open_is.here here)
-    loads-stops page before after came own steady counted why (Loads.not_ready x here q is r) =
+        → (why : Refused) → (IsTrue keeps → (n : ℕ) → why ≡ Damaged n → after ≡ before + 1) → Loads {O = O} stands entry cmp join f v w slot c came now (Err why) → IsStop keeps old.records.tail before after why × ((w ≡ v) ⊎ IsOver old w slot c)
+    loads-stops page before after came own steady counted why fine (Loads.unknown here is r) = absurd (some-none h.operation (context_at v slot c) h.open_is.here here)
+    loads-stops page before after came own steady counted why fine (Loads.not_ready x here q is r) =
         let same : h.operation ≡ x = some-same h.operation x (context_at v slot c) h.open_is.here here in
         let e : Some h.loading ≡ None = ap loading_by (sym h.awaits.loading) ∙ ap (λ (z : Context K V I). loading_by z.phase) same ∙ q in
         absurd (cc)
-    loads-stops page before after came own steady counted why (Loads.moved x l here phase begin is r) = absurd (cc)
-    loads-stops page before after came own steady counted why (Loads.failed x l y await e other is r) =
+    loads-stops page before after came own steady counted why fine (Loads.moved x l here phase begin is r) = absurd (cc)
+    loads-stops page before after came own steady counted why fine (Loads.failed x l y await e other is r) =
         let t : why ≡ y = cc in
         let o = open-same op old v slot c started h.operation x h.open_is await.here in
         (stop-of old.records.tail page before after why (subst (ReadFailsBy page before after) (sym t) (subst (λ (q : Result (Joined R) Refused). IfErr q (ReadFailsBy page before after)) e counted)), inr (over-is x o is))
-    loads-stops page before after came own steady counted why (Loads.unread x l await e is r) =
+    loads-stops page before after came own steady counted why fine (Loads.unread x l await e is r) =
         let t : why ≡ NoMemory = cc in
         (stop-of old.records.tail page before after why (subst (ReadFailsBy page before after) (sym t) (subst (λ (q : Result (Joined R) Refused). IfErr q (ReadFailsBy page before after)) e counted)), inl is)
-    loads-stops page before after came own steady counted why (Loads.stranger x l j t await e held other is r) =
+    loads-stops page before after came own steady counted why fine (Loads.stranger x l j t await e held other is r) =
         let mine : stands j.receipt ≡ s = subst (λ (q : Result (Joined R) Refused). IfOk q (λ j. stands j.receipt ≡ s)) e own in
         let wanted : a ≡ l.wanted = sym h.wanted ∙ ap (λ (z : Loading V). z.wanted) (await-same x l await.here await.loading) in
-        let there : slice_get v.records.receipts (page_at v.records.page_bits l.wanted) ≡ Some s = subst (λ n. IsHeldBy v.records.receipts (page_at v.records.page_bits n) s) wanted h.held in
-        absurd (other (some-same t s (slice_get v.records.receipts (page_at v.records.page_bits l.wanted)) held there ∙ sym mine))
-    loads-stops page before after came own steady counted why (Loads.damaged x l j y reads e is r) =
+        let there : receipt_at v.records.receipts (page_at v.records.page_bits l.wanted) ≡ Some s = subst (λ n. IsHeldBy v.records.receipts (page_at v.records.page_bits n) s) wanted h.held in
+        absurd (other (some-same t s (receipt_at v.records.receipts (page_at v.records.page_bits l.wanted)) held there ∙ sym mine))
+    loads-stops page before after came own steady counted why fine (Loads.damaged x l j y reads e is r) =
         let t : why ≡ Damaged (page_at v.records.page_bits l.wanted) = cc in
         let o = open-same op old v slot c started h.operation x h.open_is reads.awaits.here in
-        (IsStop.misspelled _ t (subst (λ (q : Result (Joined R) Refused). OnOk q (after ≡ before)) e steady), inr (over-is x o is))
-    loads-stops page before after came own steady counted why (Loads.bad_link x l j b parts reads e low place is r) =
+        let same : after ≡ before = subst (λ (q : Result (Joined R) Refused). OnOk q (after ≡ before)) e steady in
+        (IsStop.misspelled _ (λ yes_keeps. let more = fine yes_keeps _ t in omega arith) t same, inr (over-is x o is))
+    loads-stops page before after came own steady counted why fine (Loads.bad_link x l j b parts reads e low place is r) =
         let t : why ≡ Damaged (page_at v.records.page_bits l.wanted) = cc in
         let o = open-same op old v slot c started h.operation x h.open_is reads.awaits.here in
-        (IsStop.misspelled _ t (subst (λ (q : Result (Joined R) Refused). OnOk q (after ≡ before)) e steady), inr (over-is x o is))
-    loads-stops page before after came own steady counted why (Loads.done x l j k i value told e read is r) = absurd (cc)
-    loads-stops page before after came own steady counted why (Loads.prepares x l j k i value told e rmw is r) = absurd (cc)
-    loads-stops page before after came own steady counted why (Loads.goes_on x l j b parts receipt reads e low place held is r) = absurd (cc)
-    loads-stops page before after came own steady counted why (Loads.unshared x l j b parts reads e low place is r) =
+        let same : after ≡ before = subst (λ (q : Result (Joined R) Refused). OnOk q (after ≡ before)) e steady in
+        (IsStop.misspelled _ (λ yes_keeps. let more = fine yes_keeps _ t in omega arith) t same, inr (over-is x o is))
+    loads-stops page before after came own steady counted why fine (Loads.done x l j k i value told e read is r) = absurd (cc)
+    loads-stops page before after came own steady counted why fine (Loads.prepares x l j k i value told e rmw is r) = absurd (cc)
+    loads-stops page before after came own steady counted why fine (Loads.goes_on x l j b parts receipt reads e low place held is r) = absurd (cc)
+    loads-stops page before after came own steady counted why fine (Loads.unshared x l j b parts reads e low place is r) =
         let t : why ≡ NoMemory = cc in
         (IsStop.memory t (subst (λ (q : Result (Joined R) Refused). OnOk q (after ≡ before)) e steady), inl is)
 
@@ -472,10 +475,10 @@ module _ {K V I O R : Type 0} (keeps : Bool) (stands : R → Standing) (cmp : K 
     loads-steady page before after (Err why) steady p loads = absurd (came-in why p loads)
 
     pub loads-advances : (page before after : ℕ) (came : Result (Joined R) Refused) → IfOk came (λ j. stands j.receipt ≡ s) → OnOk came (after ≡ before) → IfErr came (ReadFailsBy page before after)
-        → (result : Result (Progress K V I O R) Refused) → Loads stands entry cmp join f v w slot c came now result → (IsTrue keeps → IfOk result (λ p. Tells cmp f v w slot c now p))
+        → (result : Result (Progress K V I O R) Refused) → (IsTrue keeps → (n : ℕ) → result ≡ Err (Damaged n) → after ≡ before + 1) → Loads stands entry cmp join f v w slot c came now result → (IsTrue keeps → IfOk result (λ p. Tells cmp f v w slot c now p))
         → Advances keeps stands cmp join f code op old v w slot c started before after result
-    loads-advances page before after came own steady counted (Ok p) loads load = (loads-told came p loads load, loads-steady page before after came steady p loads)
-    loads-advances page before after came own steady counted (Err why) loads load = loads-stops page before after came own steady counted why loads
+    loads-advances page before after came own steady counted (Ok p) fine loads load = (loads-told came p loads load, loads-steady page before after came steady p loads)
+    loads-advances page before after came own steady counted (Err why) fine loads load = loads-stops page before after came own steady counted why (λ yes_keeps n is. fine yes_keeps n (ap Err is)) loads
 
     -- the page that it waits for is the one that it asked for
     page-asked : (page : ℕ) (at : WaitsFor v slot c page) → page ≡ page_at v.records.page_bits a
@@ -484,12 +487,12 @@ module _ {K V I O R : Type 0} (keeps : Bool) (stands : R → Standing) (cmp : K 
         ∙ ap (λ (z : Loading V). page_at v.records.page_bits z.wanted) (sym (await-same at.operation at.loading at.awaits.here at.awaits.loading))
         ∙ ap (page_at v.records.page_bits) h.wanted
 
-    pub reads-advances : (before after : ℕ) (result : Result (Progress K V I O R) Refused) → LoadsBy stands entry cmp join f v w slot c now before after result → (IsTrue keeps → IfOk result (λ p. Tells cmp f v w slot c now p))
+    pub reads-advances : (before after : ℕ) (result : Result (Progress K V I O R) Refused) → (IsTrue keeps → (n : ℕ) → result ≡ Err (Damaged n) → after ≡ before + 1) → LoadsBy stands entry cmp join f v w slot c now before after result → (IsTrue keeps → IfOk result (λ p. Tells cmp f v w slot c now p))
         → Advances keeps stands cmp join f code op old v w slot c started before after result
-    reads-advances before after result (ReadsBy.idle unasked all same) load =
+    reads-advances before after result fine (ReadsBy.idle unasked all same) load =
         absurd (unasked (page_at v.records.page_bits a) (record { operation = h.operation; loading = h.loading; awaits = h.awaits; page_is = ap (page_at v.records.page_bits) (sym h.wanted) }))
-    reads-advances before after result (ReadsBy.came page p at own does same) load =
-        let held : slice_get v.records.receipts page ≡ Some s = subst (λ n. IsHeldBy v.records.receipts n s) (sym (page-asked page at)) h.held in
-        loads-advances page before after (Ok p) (some-same (stands p.receipt) s (slice_get v.records.receipts page) own held) same tt result does load
-    reads-advances before after result (ReadsBy.failed page why at fails is told) load =
+    reads-advances before after result fine (ReadsBy.came page p at own does same) load =
+        let held : receipt_at v.records.receipts page ≡ Some s = subst (λ n. IsHeldBy v.records.receipts n s) (sym (page-asked page at)) h.held in
+        loads-advances page before after (Ok p) (some-same (stands p.receipt) s (receipt_at v.records.receipts page) own held) same tt result fine does load
+    reads-advances before after result fine (ReadsBy.failed page why at fails is told) load =
         subst (λ (q : Result (Progress K V I O R) Refused). Advances keeps stands cmp join f code op old v w slot c started before after q) (sym told) (stop-of old.records.tail page before after why fails, inl is)

@@ -1,5 +1,5 @@
 -- How an operation ends that is driven alone: done, left waiting, or refused and then over without effect.
-use Rattle.std.specs.Prelude.{◌≡◌, ◌≢◌, ◌+◌, ◌-◌, ◌^◌, ◌≤◌, ◌⊎◌, ℕ, Bool, Some, None, Result, Ok, Err}
+use Rattle.std.specs.Prelude.{◌≡◌, ◌≢◌, ◌+◌, ◌-◌, ◌^◌, ◌≤◌, ◌⊎◌, ℕ, Bool, IsTrue, Some, None, Result, Ok, Err}
 use Rattle.std.specs.declared.cmp.Ordering.{Ordering}
 use Rattle.fkv_functions.specs.Meanings.{Meanings}
 use Rattle.fkv_functions.specs.declared.refusals.Refused.{Refused}
@@ -24,15 +24,20 @@ pub record IsOver {K V I : Type 0} (old new : CoreView K V I) (slot c : ℕ) : T
   pub records : new.records ≡ record old.records { words = new.records.words }
   pub frame : LeavesOthers old new slot c new.moment
 
--- why an event is refused, by the tail of the log, and the reader's count of failures before and after
-pub data IsStop (tail before after : ℕ) (why : Refused) : Type 0 where
-  memory : why ≡ NoMemory → after ≡ before → IsStop tail before after why
-  worn : why ≡ Worn → tail ≡ 2 ^ 48 → after ≡ before → IsStop tail before after why
-  device : (page : ℕ) → why ≡ Device 3 page → after ≡ before + 1 → IsStop tail before after why
+-- why an event is refused, on a device that keeps or not: by the tail of the log, and the reader's count of failures before
+-- and after
+pub data IsStop (keeps : Bool) (tail before after : ℕ) (why : Refused) : Type 0 where
+  memory : why ≡ NoMemory → after ≡ before → IsStop keeps tail before after why
+  worn : why ≡ Worn → tail ≡ 2 ^ 48 → after ≡ before → IsStop keeps tail before after why
+  device : (page : ℕ) → why ≡ Device 3 page → after ≡ before + 1 → IsStop keeps tail before after why
   -- the reader told of damage
-  damaged : (page : ℕ) → why ≡ Damaged page → after ≡ before + 1 → IsStop tail before after why
-  -- the bytes that were read spell no record on the way
-  misspelled : (page : ℕ) → why ≡ Damaged page → after ≡ before → IsStop tail before after why
+  damaged : (page : ℕ) → why ≡ Damaged page → after ≡ before + 1 → IsStop keeps tail before after why
+  -- the bytes that were read spell no record on the way, or lead to no place, which no keeping device comes to
+  misspelled : (page : ℕ)
+      → (IsTrue keeps → ⊥)
+      → why ≡ Damaged page
+      → after ≡ before
+      → IsStop keeps tail before after why
 
 -- one event of the operation, from `v`: it comes to what it tells, or it is refused, and then nothing has changed or
 -- the operation is over
@@ -42,7 +47,7 @@ abbrev pub Advances : {K V I O R : Type 0} → Bool → (R → Standing) → (K 
 Advances keeps stands cmp join f code op old v new slot c started before after (Ok progress) =
     HasCome keeps stands cmp join f code op old new slot c started progress × (after ≡ before)
 Advances keeps stands cmp join f code op old v new slot c started before after (Err why) =
-    IsStop old.records.tail before after why × ((new ≡ v) ⊎ IsOver old new slot c)
+    IsStop keeps old.records.tail before after why × ((new ≡ v) ⊎ IsOver old new slot c)
 
 -- the operation is to go on
 abbrev pub IsOn : {K V I O R : Type 0} → Progress K V I O R → Type 0
@@ -98,7 +103,7 @@ pub data Ends {K V I O R : Type 0} (keeps : Bool) (cmp : K → K → Ordering) (
       → Opens code old slot c op
       → IsOver old.core new.core slot c
       → end ≤ start + limit
-      → IsStop old.core.records.tail before after why
+      → IsStop keeps old.core.records.tail before after why
       → result ≡ Err why
       → Ends keeps cmp join f code op old new slot limit start end before after result
   -- all its events are made, and the operation is over
@@ -139,7 +144,7 @@ pub data Drives {K V I O R : Type 0} (keeps : Bool) (stands : R → Standing) (c
   refused : (why : Refused)
       → IsHalted old new slot c
       → end ≤ start + left
-      → IsStop old.records.tail before after why
+      → IsStop keeps old.records.tail before after why
       → result ≡ Err why
       → Drives keeps stands cmp join f code op old new slot c started left start end before after result
   stalled : IsHalted old new slot c

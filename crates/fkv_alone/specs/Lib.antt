@@ -1,4 +1,3 @@
 pub mod Stages
 pub mod Ending
 pub mod Bound
-pub mod Spoilt

@@ -5,13 +5,11 @@ ghost use Rattle.fkv_partition.specs.CoreViews.{CoreView};
 ghost use Rattle.fkv_partition.specs.Pending.{OthersPend, pending};
 ghost use Rattle.fkv_partition.specs.CoreContexts.{joined, relocating};
 ghost use Rattle.fkv_partition.specs.Events.{IsPassedOn};
-ghost use Rattle.fkv_pages.specs.Spelled.{IsEntryIn};
 ghost use Rattle.fkv_operations.specs.After.{is_merge};
 ghost use Rattle.fkv_operations.specs.declared.operations.KeyedOp.{KeyedOp};
 ghost use Rattle.fkv_alone.specs.Stages.{IsReady};
 ghost use Rattle.fkv_alone.specs.Bound.{IsNear, NoneClaims, rest_of};
 ghost use Rattle.fkv_alone.specs.Ending.{Ends, IsOn, Drives};
-ghost use Rattle.fkv_alone.specs.Spoilt.{IsSpoilt};
 
 use crate::outcomes::{Alone, AloneOf};
 use crate::stepping::step;
@@ -72,11 +70,6 @@ fn drive<F: Mergeable, R: Receipt, P: PageReader<Receipt = R>>(
         → IsNear {O = F.Output} {R = R} F.code partition.old.core slot context Progress.Next n
         → n ≤ left → result ≢ Err Refused.Stalled }
     ensures within { clock.new ≤ clock.old + left }
-    ensures spoilt { (op : KeyedOp F.Key F.Value F.Input) (old : CoreView F.Key F.Value F.Input) (started page : ℕ)
-        → IsReady op old partition.old.core slot context started
-        → result ≡ Err (Refused.Damaged page) → P.failures reader.new ≡ P.failures reader.old
-        → IsSpoilt (IsEntryIn F.Key.codec F.Value.codec)
-        F.Key.cmp page }
     ensures unread { (op : KeyedOp F.Key F.Value F.Input) (old : CoreView F.Key F.Value F.Input) (started : ℕ)
         → IsReady op old partition.old.core slot context started
         → is_merge op ≡ true → reader.new ≡ reader.old }
@@ -124,9 +117,6 @@ fn attempt<F: Mergeable, R: Receipt, P: PageReader<Receipt = R>>(
         → 4 + rest_of F.code partition.old.core.records op ≤ limit
         → result ≢ Err Refused.Stalled }
     ensures within { clock.new ≤ clock.old + limit }
-    ensures spoilt { (page : ℕ) → result ≡ Err (Refused.Damaged page) → P.failures reader.new ≡ P.failures reader.old
-        → IsSpoilt (IsEntryIn F.Key.codec F.Value.codec)
-        F.Key.cmp page }
     ensures unread { is_merge op ≡ true → reader.new ≡ reader.old }
     ensures rest { IsPassedOn partition.old partition.new }
     ensures past { partition.new.core.moment ≤ clock.new }
@@ -198,10 +188,6 @@ pub fn run_alone<F: Mergeable, R: Receipt, P: PageReader<Receipt = R>>(
     ensures enough { IsTrue R.keeps → NoneClaims partition.old.core
         → 4 + rest_of F.code partition.old.core.records op ≤ limit
         → result.progress ≢ Err Refused.Stalled }
-    // where it is damaged and the reader counted nothing, bytes that were read spell no record on the way
-    ensures spoilt { (page : ℕ) → result.progress ≡ Err (Refused.Damaged page) → P.failures reader.new ≡ P.failures reader.old
-        → IsSpoilt (IsEntryIn F.Key.codec F.Value.codec)
-        F.Key.cmp page }
     // a merge reads no page
     ensures unread { is_merge op ≡ true → reader.new ≡ reader.old }
     // relocations stay, and what is cleared

@@ -1,6 +1,5 @@
 //! One event of an operation that is driven alone: what it asked for is built and handed in, or read.
-ghost use Rattle.std.specs.Prelude.{◌≡◌, ◌+◌, ◌*◌, ◌<◌, ◌≤◌, ℕ, true, None, Err, IsTrue, IfOk, slice_get};
-ghost use Rattle.fkv_pages.specs.Spelled.{IsEntryIn};
+ghost use Rattle.std.specs.Prelude.{◌≡◌, ◌+◌, ◌*◌, ◌<◌, ◌≤◌, ℕ, true, None, IsTrue, IfOk, slice_get};
 ghost use Rattle.fkv_operations.specs.After.{is_merge};
 ghost use Rattle.fkv_operations.specs.declared.operations.KeyedOp.{KeyedOp};
 ghost use Rattle.fkv_partition.specs.CoreViews.{CoreView};
@@ -10,7 +9,6 @@ ghost use Rattle.fkv_partition.specs.Events.{IsPassedOn};
 ghost use Rattle.fkv_alone.specs.Stages.{HasCome};
 ghost use Rattle.fkv_alone.specs.Ending.{Advances, IsOn};
 ghost use Rattle.fkv_alone.specs.Bound.{IsNear, IsNearer};
-ghost use Rattle.fkv_alone.specs.Spoilt.{IsSpoilt};
 
 use fkv_device::{PageReader, Receipt};
 use fkv_functions::{Built, Mergeable, Refused};
@@ -41,10 +39,6 @@ pub(crate) fn step<F: Mergeable, R: Receipt, P: PageReader<Receipt = R>>(
     ensures nearer { (n : ℕ) → IsTrue R.keeps
         → IsNear F.code partition.old.core slot context told n
         → IfOk result (λ progress. IsOn progress → IsNearer F.code partition.new.core slot context progress n) }
-    // where it is damaged and the reader counted nothing, bytes that were read spell no record on the way
-    ensures spoilt { (page : ℕ) → result ≡ Err (Refused.Damaged page) → P.failures reader.new ≡ P.failures reader.old
-        → IsSpoilt (IsEntryIn F.Key.codec F.Value.codec)
-        F.Key.cmp page }
     // a merge reads no page
     ensures unread { (op : KeyedOp F.Key F.Value F.Input) (old : CoreView F.Key F.Value F.Input) (started : ℕ)
         → HasCome R.keeps R.stands F.Key.cmp F.parts.joined F.meaning F.code op old

@@ -1,7 +1,9 @@
 -- What runs of several workers are not refused by, and answers under a premise.
-use Rattle.std.proofs.Common.{◌≡◌, ◌≤◌, ◌↔◌, ℕ, true, min, List, Option, Result, Ok, Err, refl, sym, subst, ◌∙◌}
+use Rattle.std.proofs.Common.{◌≡◌, ◌≤◌, ◌↔◌, ◌⊎◌, ℕ, true, false, min, List, Option, Some, None, Result, Ok, Err, refl, sym, subst, ◌∙◌, inl, inr}
 use Rattle.std.proofs.Math.Nat.{max-eq_left}
-use Rattle.std.specs.Prelude.{◌≢◌, IfOk}
+use Rattle.std.specs.Prelude.{◌≢◌, IfOk, IfSome}
+use Rattle.fkv_device.specs.Known.{Pages, HasCollision, are_kept}
+use Rattle.fkv_device.proofs.KnownLemmas.{collision}
 use Rattle.fkv_functions.specs.declared.refusals.Refused.{Refused}
 use Rattle.fkv_functions.specs.declared.refusals.Refused.TheVariants.{BadConfig, Unwritable}
 use Rattle.fkv_feed_rows.specs.Feeds.{TellsUnread}
@@ -27,10 +29,19 @@ pub later : {T E K : Type 0} (r : Result T E) (P : T → Type 0) → (K → IfOk
 later (Ok x) P h = h
 later (Err e) P h = tt
 
--- a fact that stands under a premise in an answer, where the premise is given
-pub under : {T E K : Type 0} (r : Result T E) (P : T → Type 0) → IfOk r (λ x. K → P x) → K → IfOk r P
-under (Ok x) P h k = h k
-under (Err e) P h k = tt
+-- what an answer is under a premise, or what spoils it
+pub right : {T E : Type 0} (K : Type 0) (r : Result T E) (P : T → Type 0) (S : Type 0) → IfOk r (λ x. K → P x) → IfOk r (λ x. K → P x ⊎ S)
+right K (Ok x) P S h = λ k. inl (h k)
+right K (Err e) P S h = tt
+
+pub spoilt : {T E : Type 0} (K : Type 0) (r : Result T E) (P : T → Type 0) (S : Type 0) → S → IfOk r (λ x. K → P x ⊎ S)
+spoilt K (Ok x) P S s = λ k. inr s
+spoilt K (Err e) P S s = tt
+
+-- pages that are not kept collide, where they are known
+pub unkept : (pages : Option Pages) → are_kept pages ≡ false → IfSome pages HasCollision
+unkept None h = tt
+unkept (Some pages) h = collision pages h
 
 -- one worker is enough where no more have a feed
 pub one-plan : {R E : Type 0} (plan : R → Plan) (table : TableRequest) (feeds : ℕ) (mode : RowMode) (r : Result R E)

@@ -1,6 +1,7 @@
 -- What a run leaves on its output, by what was read.
-use Rattle.std.specs.Prelude.{◌≡◌, ◌⊎◌, true, List, [], ◌∷◌, map, length, ℕ, ℤ, Option, None, Some, IfSome, codes, option_map, string_bytes}
+use Rattle.std.specs.Prelude.{◌≡◌, ◌≢◌, ◌⊎◌, true, List, [], ◌∷◌, map, length, ℕ, ℤ, Option, None, Some, IfSome, codes, option_map, string_bytes}
 use Rattle.std.specs.Fmt.{decimal, signed_decimal}
+use Rattle.fkv_device.specs.Known.{Pages, HasCollision}
 use Rattle.fkv_functions.specs.Meanings.{Meanings}
 use Rattle.fkv_functions.specs.Sets.{counts, sums, maxima}
 use Rattle.fkv_functions.specs.declared.names.Name.{Name}
@@ -27,38 +28,39 @@ PrintsAll input old new = IfSome input (λ bytes. (text : List ℕ) × IsOutputO
 abbrev pub PrintsPart : Option (List ℕ) → Option (List ℕ) → Option (List ℕ) → Type 0
 PrintsPart input old new = IfSome input (λ bytes. (text : List ℕ) × IsOutputOf bytes text × AppendsPrefix old new text)
 
--- what is known of the table of a request: its pages stay in memory, and one feed comes in, one worker reads all, or
--- histories are kept
+-- the table of a request is known: one feed comes in, one worker reads all, or histories are kept
 abbrev pub IsKnown : TableRequest → Type 0
-IsKnown table =
-    (option_map string_bytes table.folder ≡ None)
-    × ((map string_bytes table.paths.items ≡ []) ⊎ (table.audit ≡ true) ⊎ (table.workers ≡ 1))
+IsKnown table = (map string_bytes table.paths.items ≡ []) ⊎ (table.audit ≡ true) ⊎ (table.workers ≡ 1)
 
--- the text of a table of these meanings, of these feeds where that is known
-abbrev pub IsTableBy : {V : Type 0} → Meanings Name V ℤ V → (V → List ℕ) → TableRequest → List (Option (List ℕ)) → List ℕ
+-- what may spoil it: its pages went to files, and of those that the files took and gave two have one SHA-256, where they are known
+abbrev pub IsSpoilt : Option Pages → TableRequest → Type 0
+IsSpoilt pages table = (option_map string_bytes table.folder ≢ None) × IfSome pages HasCollision
+
+-- the text of a table of these meanings, of these feeds where that is known, unless it is spoilt
+abbrev pub IsTableBy : {V : Type 0} → Meanings Name V ℤ V → (V → List ℕ) → Option Pages → TableRequest → List (Option (List ℕ)) → List ℕ
     → Type 0
-IsTableBy {V} f value table feeds text =
+IsTableBy {V} f value pages table feeds text =
     (pairs : List (Name × V))
-    × (IsKnown table → IsTableOf f feeds pairs)
+    × (IsKnown table → IsTableOf f feeds pairs ⊎ IsSpoilt pages table)
     × (text ≡ table_text (λ v. value v ∷ []) pairs)
 
 -- the text of the table that is asked for
-abbrev pub IsTableText : Shown → TableRequest → List (Option (List ℕ)) → List ℕ → Type 0
-IsTableText Count table feeds text = IsTableBy counts decimal table feeds text
-IsTableText Sum table feeds text = IsTableBy sums signed_decimal table feeds text
-IsTableText Max table feeds text = IsTableBy maxima signed_decimal table feeds text
+abbrev pub IsTableText : Shown → Option Pages → TableRequest → List (Option (List ℕ)) → List ℕ → Type 0
+IsTableText Count pages table feeds text = IsTableBy counts decimal pages table feeds text
+IsTableText Sum pages table feeds text = IsTableBy sums signed_decimal pages table feeds text
+IsTableText Max pages table feeds text = IsTableBy maxima signed_decimal pages table feeds text
 
 -- that text was written whole, and nothing else; or a part of it, from its front
-abbrev pub PrintsTable : TableRequest → List (Option (List ℕ)) → Option (List ℕ) → Option (List ℕ) → Type 0
-PrintsTable table feeds old new =
+abbrev pub PrintsTable : Option Pages → TableRequest → List (Option (List ℕ)) → Option (List ℕ) → Option (List ℕ) → Type 0
+PrintsTable pages table feeds old new =
     (text : List ℕ)
-    × IsTableText table.shown table feeds text
+    × IsTableText table.shown pages table feeds text
     × Appends old new text
 
-abbrev pub PrintsTablePart : TableRequest → List (Option (List ℕ)) → Option (List ℕ) → Option (List ℕ) → Type 0
-PrintsTablePart table feeds old new =
+abbrev pub PrintsTablePart : Option Pages → TableRequest → List (Option (List ℕ)) → Option (List ℕ) → Option (List ℕ) → Type 0
+PrintsTablePart pages table feeds old new =
     (text : List ℕ)
-    × IsTableText table.shown table feeds text
+    × IsTableText table.shown pages table feeds text
     × AppendsPrefix old new text
 
 -- the feeds of a request
@@ -73,25 +75,26 @@ IsReportOf table feeds told = (report : Report) × (told ≡ Some report) × IsP
 unfoldable pub version_line : List ℕ
 version_line = line (codes "fkv_cli 0.1.0")
 
--- The output of a run of these words, which was done, and its report, where paths lead to these bytes; help is not told.
-abbrev pub IsDone : (List ℕ → Option (List ℕ)) → List Text → Option (List ℕ) → Option (List ℕ) → Option (List ℕ) → Option Report → Type 0
-IsDone bytes words input old new told =
+-- The output of a run of these words, which was done, and its report, where files are known to take and give these pages, and paths to
+-- lead to these bytes; help is not told.
+abbrev pub IsDone : Option Pages → (List ℕ → Option (List ℕ)) → List Text → Option (List ℕ) → Option (List ℕ) → Option (List ℕ) → Option Report → Type 0
+IsDone pages bytes words input old new told =
     (AsksReplay words × PrintsAll input old new)
     ⊎ ((table : TableRequest)
     × AsksTable words table
-    × PrintsTable table (feeds_by bytes table input) old new
+    × PrintsTable pages table (feeds_by bytes table input) old new
     × IsReportOf table (feeds_by bytes table input) told)
     ⊎ (MayAskVersion words × Appends old new version_line)
     ⊎ MayAskHelp words
 
 -- the output of a run of these words, which a fault ended: nothing, or the front of what is asked for
-abbrev pub IsStopped : (List ℕ → Option (List ℕ)) → List Text → Option (List ℕ) → Option (List ℕ) → Option (List ℕ) → Type 0
-IsStopped bytes words input old new =
+abbrev pub IsStopped : Option Pages → (List ℕ → Option (List ℕ)) → List Text → Option (List ℕ) → Option (List ℕ) → Option (List ℕ) → Type 0
+IsStopped pages bytes words input old new =
     (new ≡ old)
     ⊎ (AsksReplay words × PrintsPart input old new)
     ⊎ ((table : TableRequest)
     × AsksTable words table
-    × PrintsTablePart table (feeds_by bytes table input) old new)
+    × PrintsTablePart pages table (feeds_by bytes table input) old new)
     ⊎ (MayAskVersion words × AppendsPrefix old new version_line)
     ⊎ MayAskHelp words
 
@@ -107,10 +110,10 @@ IsQuiet words told old new =
 -- what a run of these words ends with: status 0 where help is asked for, or where a replay, a table or the version was
 -- written whole, and then nothing was told but a report that was asked for; status 1 where nothing was written, or the front
 -- of what is asked for; status 2 where the words are mistaken, and then nothing was written
-pub record IsEnding (bytes : List ℕ → Option (List ℕ)) (words : List Text) (input old new told_old told_new : Option (List ℕ))
+pub record IsEnding (pages : Option Pages) (bytes : List ℕ → Option (List ℕ)) (words : List Text) (input old new told_old told_new : Option (List ℕ))
     (told : Option Report) (status : ℕ) : Type 0 where
-  pub done : status ≡ 0 → IsDone bytes words input old new told
+  pub done : status ≡ 0 → IsDone pages bytes words input old new told
   pub quiet : status ≡ 0 → IsQuiet words told told_old told_new
-  pub fault : status ≡ 1 → IsStopped bytes words input old new
+  pub fault : status ≡ 1 → IsStopped pages bytes words input old new
   pub mistake : status ≡ 2 → MayBeMistaken words × (new ≡ old)
   pub only : (status ≡ 0) ⊎ (status ≡ 1) ⊎ (status ≡ 2)

@@ -17,7 +17,8 @@ use std::fs::Files;
 use std::io::{self, Write};
 
 /// What is told where memory was refused.
-const LESS_MEMORY: &str = "fkv_cli: --memory 64M sets a limit, and --dir keeps pages out of memory";
+const LESS_MEMORY: &str =
+    "fkv_cli: --memory 64M limits buckets and frames, and --dir keeps pages out of memory";
 
 /// What is told where the first row of a feed may be a header.
 const NO_HEADER: &str = "fkv_cli: a feed has no header; each line is KEY,AMOUNT";

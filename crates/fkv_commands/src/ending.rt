@@ -7,6 +7,7 @@ ghost use Rattle.fkv_commands.specs.Endings.{IsEnding};
 use crate::opening::Opener;
 use crate::reporting::Report;
 use crate::running::{refuse_words, run, tell};
+use fkv_device::PageFile;
 use fkv_functions::Refused;
 use fkv_meters::Progress;
 use fkv_streams::{Sink, Source};
@@ -39,10 +40,10 @@ pub fn end<
     opener: &O,
 ) -> ExitCode
 where
-    H::File: Send,
+    H::File: PageFile + Send,
     H::Dir: Send,
     O::Feed: Send,
-    ensures ends { IfOk words (λ ws. (told : Option Report) × IsEnding (λ path. O.bytes opener.now path) (map string_bytes ws.items)
+    ensures ends { IfOk words (λ ws. (told : Option Report) × IsEnding H.File.pages (λ path. O.bytes opener.now path) (map string_bytes ws.items)
         (R.remaining reader.old) (W.contents writer.old) (W.contents writer.new) (E.contents faults.old)
         (E.contents faults.new) told (exit_status result)) }
     ensures no_text { IfErr words (λ e. error_kind e ≡ ErrorKind.InvalidData → exit_status result ≡ 2) }
@@ -87,10 +88,10 @@ fn ended<
     opener: &O,
 ) -> ExitCode
 where
-    H::File: Send,
+    H::File: PageFile + Send,
     H::Dir: Send,
     O::Feed: Send,
-    ensures ends { (told : Option Report) × IsEnding (λ path. O.bytes opener.now path) (map string_bytes words.now)
+    ensures ends { (told : Option Report) × IsEnding H.File.pages (λ path. O.bytes opener.now path) (map string_bytes words.now)
         (R.remaining reader.old) (W.contents writer.old) (W.contents writer.new) (E.contents faults.old)
         (E.contents faults.new) told (exit_status result) }
     ensures out { exit_status result ≡ 0 → W.is_out writer.new ≡ true }

@@ -12,6 +12,7 @@ use crate::opening::Opener;
 use crate::reporting::Report;
 use crate::tabulating::tabulate;
 use crate::telling::Telling;
+use fkv_device::PageFile;
 use fkv_functions::Refused;
 use fkv_meters::Progress;
 use fkv_requests::{Request, TableRequest, request_of};
@@ -80,10 +81,10 @@ pub fn run<
     opener: &O,
 ) -> Ended
 where
-    H::File: Send,
+    H::File: PageFile + Send,
     H::Dir: Send,
     O::Feed: Send,
-    ensures done { result.status ≡ 0 → IsDone (λ path. O.bytes opener.now path) (map string_bytes words.now)
+    ensures done { result.status ≡ 0 → IsDone H.File.pages (λ path. O.bytes opener.now path) (map string_bytes words.now)
         (R.remaining reader.old) (W.contents writer.old) (W.contents writer.new) result.report }
     ensures quiet { result.status ≡ 0 → IsQuiet (map string_bytes words.now) result.report (E.contents faults.old)
         (E.contents faults.new) }
@@ -91,7 +92,7 @@ where
     ensures out { result.status ≡ 0 → W.is_out writer.new ≡ true }
     ensures steady { result.status ≡ 0 → (R.failures reader.new ≡ R.failures reader.old)
         × (W.failures writer.new ≡ W.failures writer.old) }
-    ensures fault { result.status ≡ 1 → IsStopped (λ path. O.bytes opener.now path) (map string_bytes words.now)
+    ensures fault { result.status ≡ 1 → IsStopped H.File.pages (λ path. O.bytes opener.now path) (map string_bytes words.now)
         (R.remaining reader.old) (W.contents writer.old) (W.contents writer.new) }
     ensures mistake { result.status ≡ 2 → MayBeMistaken (map string_bytes words.now)
         × (W.contents writer.new ≡ W.contents writer.old) }

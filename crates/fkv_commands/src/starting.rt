@@ -4,6 +4,7 @@ ghost use Rattle.std.specs.Process.{exit_status};
 
 use crate::ending::end;
 use crate::opening::FeedFiles;
+use fkv_device::PageFile;
 use fkv_meters::{ProgressSource, Telling};
 use fkv_requests::words_of;
 use fkv_streams::{CountedReader, CountedWriter};
@@ -24,7 +25,7 @@ pub fn start<R: Env + Files + AllocGlobal + Threads + Wait + Clock + Sync>(
     faults: &Stderr,
 ) -> ExitCode
 where
-    R::File: Send,
+    R::File: PageFile + Send,
     R::Dir: Send,
     ensures { (exit_status result ≡ 0) ⊎ (exit_status result ≡ 1) ⊎ (exit_status result ≡ 2) }
 {

@@ -1,18 +1,18 @@
 //! Making tables of feeds, and writing them.
-ghost use Rattle.std.specs.Prelude.{◌≡◌, ◌≢◌, ◌⊎◌, ◌∷◌, [], List, Err, None, true, length, map, option_map, string_bytes, if◌then◌else◌, IfOk, IfErr, IsTrue, OnOk};
+ghost use Rattle.std.specs.Prelude.{◌≡◌, ◌≢◌, ◌⊎◌, ◌||◌, ◌∷◌, [], List, Err, None, true, length, option_map, string_bytes, if◌then◌else◌, IfOk, IfErr, IsTrue, OnOk};
 ghost use Rattle.std.specs.Io.KnownBytes.{Appends};
 ghost use Rattle.fkv_functions.specs.declared.names.Name.{Name};
 ghost use Rattle.fkv_either.specs.Either.{is_absent};
 ghost use Rattle.fkv_streams.specs.Streams.{AppendsPrefix};
 ghost use Rattle.fkv_feeds.specs.Tables.{IsTableOf};
 ghost use Rattle.fkv_feeds.specs.Writing.{table_text};
-ghost use Rattle.fkv_commands.specs.Endings.{IsKnown, PrintsTable, PrintsTablePart, feeds_by};
+ghost use Rattle.fkv_commands.specs.Endings.{IsKnown, IsSpoilt, PrintsTable, PrintsTablePart, feeds_by};
 ghost use Rattle.fkv_commands.specs.Plans.{IsPlanOf};
 
 use crate::making::{made_of_feeds, made_of_input};
 use crate::opening::Opener;
 use crate::reporting::Report;
-use fkv_device::FileDevice;
+use fkv_device::{Disk, FileDevice, PageFile};
 use fkv_either::{EitherDevice, Keeping};
 use fkv_feeds::{Run, write_table};
 use fkv_functions::{CountFns, MaxFns, Mergeable, Name, OrderFree, Refused, SumFns};
@@ -27,11 +27,51 @@ use std::rt::Clock;
 use std::sync::Wait;
 use std::thread::Threads;
 
-/// The run that is asked for, over the feeds that are named, or over the reader, by a store whose pages go to this folder, else
-/// to memory, and are counted. Of the files of feeds nothing is known.
+/// The run that is asked for, over the feeds that are named, or over the reader, by a store on this device.
+fn run_with<
+    R: Source,
+    F: Mergeable + OrderFree<Key = Name, Input = i64> + Send + Sync,
+    D: Disk + Send,
+    H: Files + Threads + Wait + Clock + Sync,
+    P: Progress + Sync,
+    O: Opener,
+>(
+    rt: &H,
+    alloc: Global,
+    table: &TableRequest,
+    functions: F,
+    reader: &mut R,
+    device: D,
+    opener: &O,
+) -> Result<Run<F::Value>, Refused>
+where
+    F::Value: Send,
+    F::Output: Send,
+    D::Receipt: Send,
+    D::Writer: Send,
+    D::Reader: Send,
+    H::File: Send,
+    H::Dir: Send,
+    O::Feed: Send,
+    ensures ok { IsTrue D.Receipt.keeps → IfOk result (λ run. IsKnown table.now
+        → IsTableOf F.meaning (feeds_by (λ path. O.bytes opener.now path) table.now (R.remaining reader.old)) run.table) }
+    ensures ran { IfOk result (λ run. IsPlanOf table.now
+        (length (feeds_by (λ path. O.bytes opener.now path) table.now (R.remaining reader.old))) run.plan) }
+    ensures steady { OnOk result (R.failures reader.new ≡ R.failures reader.old) }
+    ensures only { IfErr result (λ e. e ≢ Refused.Unwritable) }
+{
+    if table.paths.is_empty() {
+        made_of_input::<R, F, D, H, P>(rt, alloc, table, functions, reader, device)
+    } else {
+        made_of_feeds(rt, alloc, table, functions, device, opener)
+    }
+}
+
+/// The run that is asked for, by a store whose pages go to this folder, else to memory, and are counted.
 fn run_on<
     R: Source,
     F: Mergeable + OrderFree<Key = Name, Input = i64> + Send + Sync,
+    D: Disk + Send,
     H: Files + Threads + Wait + Clock + Sync,
     P: Progress + Sync,
     O: Opener,
@@ -42,31 +82,29 @@ fn run_on<
     table: &TableRequest,
     functions: F,
     reader: &mut R,
-    folder: Option<FileDevice<&H>>,
+    folder: Option<D>,
     meters: &Meters,
     opener: &O,
 ) -> Result<Run<F::Value>, Refused>
 where
     F::Value: Send,
     F::Output: Send,
+    D::Receipt: Send,
+    D::Writer: Send,
+    D::Reader: Send,
     H::File: Send,
     H::Dir: Send,
     O::Feed: Send,
     requires { (if K.keeps then is_absent folder else true) ≡ true }
-    ensures ok { IsTrue K.keeps → IfOk result (λ run. (map string_bytes table.now.paths.items ≡ []) ⊎ (table.now.audit ≡ true)
-        ⊎ (table.now.workers ≡ 1)
+    ensures ok { IsTrue (K.keeps || D.Receipt.keeps) → IfOk result (λ run. IsKnown table.now
         → IsTableOf F.meaning (feeds_by (λ path. O.bytes opener.now path) table.now (R.remaining reader.old)) run.table) }
     ensures ran { IfOk result (λ run. IsPlanOf table.now
         (length (feeds_by (λ path. O.bytes opener.now path) table.now (R.remaining reader.old))) run.plan) }
     ensures steady { OnOk result (R.failures reader.new ≡ R.failures reader.old) }
     ensures only { IfErr result (λ e. e ≢ Refused.Unwritable) }
 {
-    let device = MeteredDevice::new(EitherDevice::<_, K>::new(alloc, folder), meters);
-    if table.paths.is_empty() {
-        made_of_input::<R, F, _, H, P>(rt, alloc, table, functions, reader, device)
-    } else {
-        made_of_feeds(rt, alloc, table, functions, device, opener)
-    }
+    let device = MeteredDevice::new(EitherDevice::<D, K>::new(alloc, folder), meters);
+    run_with::<R, F, _, H, P, O>(rt, alloc, table, functions, reader, device, opener)
 }
 
 /// The folder that is named, as a device; `None` where none is. Refused: `NoMemory`.
@@ -89,8 +127,7 @@ fn folder_of<'a, H: Files>(
     Ok(Some(FileDevice::new(rt, alloc, folder, page_bits)))
 }
 
-/// The run that is asked for, by a store whose pages go to the folder that is named, else to memory. What a file gives back
-/// is not known.
+/// The run that is asked for, by a store whose pages go to the folder that is named, else to memory.
 fn run_of<
     R: Source,
     F: Mergeable + OrderFree<Key = Name, Input = i64> + Send + Sync,
@@ -109,18 +146,19 @@ fn run_of<
 where
     F::Value: Send,
     F::Output: Send,
-    H::File: Send,
+    H::File: PageFile + Send,
     H::Dir: Send,
     O::Feed: Send,
     ensures ok { IfOk result (λ run. IsKnown table.now
-        → IsTableOf F.meaning (feeds_by (λ path. O.bytes opener.now path) table.now (R.remaining reader.old)) run.table) }
+        → IsTableOf F.meaning (feeds_by (λ path. O.bytes opener.now path) table.now (R.remaining reader.old)) run.table
+        ⊎ IsSpoilt H.File.pages table.now) }
     ensures ran { IfOk result (λ run. IsPlanOf table.now
         (length (feeds_by (λ path. O.bytes opener.now path) table.now (R.remaining reader.old))) run.plan) }
     ensures steady { OnOk result (R.failures reader.new ≡ R.failures reader.old) }
     ensures only { IfErr result (λ e. e ≢ Refused.Unwritable) }
 {
     match folder_of(rt, alloc, table) {
-        Ok(folder) => run_on::<R, F, H, P, O, Brand>(
+        Ok(folder) => run_on::<R, F, _, H, P, O, Brand>(
             rt, alloc, table, functions, reader, folder, meters, opener,
         ),
         Err(refused) => Err(refused),
@@ -148,18 +186,20 @@ fn tabulate_by<
 where
     F::Value: Integer + Send,
     F::Output: Send,
-    H::File: Send,
+    H::File: PageFile + Send,
     H::Dir: Send,
     O::Feed: Send,
     ensures ok { OnOk result ((pairs : List (Name × F.Value))
         × (IsKnown table.now
-        → IsTableOf F.meaning (feeds_by (λ path. O.bytes opener.now path) table.now (R.remaining reader.old)) pairs)
+        → IsTableOf F.meaning (feeds_by (λ path. O.bytes opener.now path) table.now (R.remaining reader.old)) pairs
+        ⊎ IsSpoilt H.File.pages table.now)
         × Appends (W.contents writer.old) (W.contents writer.new) (table_text (λ v. F.Value.text v ∷ []) pairs)) }
     ensures ran { IfOk result (λ report. IsPlanOf table.now
         (length (feeds_by (λ path. O.bytes opener.now path) table.now (R.remaining reader.old))) report.plan) }
     ensures unwritable { result ≡ Err Refused.Unwritable → (pairs : List (Name × F.Value))
         × (IsKnown table.now
-        → IsTableOf F.meaning (feeds_by (λ path. O.bytes opener.now path) table.now (R.remaining reader.old)) pairs)
+        → IsTableOf F.meaning (feeds_by (λ path. O.bytes opener.now path) table.now (R.remaining reader.old)) pairs
+        ⊎ IsSpoilt H.File.pages table.now)
         × AppendsPrefix (W.contents writer.old) (W.contents writer.new) (table_text (λ v. F.Value.text v ∷ []) pairs) }
     ensures nothing { IfErr result (λ e. e ≢ Refused.Unwritable → W.contents writer.new ≡ W.contents writer.old) }
     ensures out { OnOk result (W.is_out writer.new ≡ true) }
@@ -198,14 +238,14 @@ pub fn tabulate<
     opener: &O,
 ) -> Result<Report, Refused>
 where
-    H::File: Send,
+    H::File: PageFile + Send,
     H::Dir: Send,
     O::Feed: Send,
-    ensures ok { OnOk result (PrintsTable table.now
+    ensures ok { OnOk result (PrintsTable H.File.pages table.now
         (feeds_by (λ path. O.bytes opener.now path) table.now (R.remaining reader.old)) (W.contents writer.old) (W.contents writer.new)) }
     ensures ran { IfOk result (λ report. IsPlanOf table.now
         (length (feeds_by (λ path. O.bytes opener.now path) table.now (R.remaining reader.old))) report.plan) }
-    ensures unwritable { result ≡ Err Refused.Unwritable → PrintsTablePart table.now
+    ensures unwritable { result ≡ Err Refused.Unwritable → PrintsTablePart H.File.pages table.now
         (feeds_by (λ path. O.bytes opener.now path) table.now (R.remaining reader.old)) (W.contents writer.old)
         (W.contents writer.new) }
     ensures nothing { IfErr result (λ e. e ≢ Refused.Unwritable → W.contents writer.new ≡ W.contents writer.old) }

@@ -1,38 +1,45 @@
-//! A device of files, which promises no bytes: a page that was changed is found by its digest.
-ghost use Rattle.std.specs.Prelude.{◌≡◌, ◌≢◌, ◌+◌, ◌*◌, ◌^◌, ℕ, List, Some, [], length, false};
+//! A device of files: a page that was changed is found by its digest. It keeps where the pages that its files take and give
+//! are known, and no two of them have one digest.
+ghost use Rattle.std.specs.Prelude.{◌≡◌, ◌≢◌, ◌+◌, ℕ, List, length, true};
 ghost use Rattle.std.specs.Prelude.{IsTrue, IsOk, IfOk, IfErr, IfSome, OnOk};
 ghost use Rattle.std.specs.Arc.{arc_value};
 ghost use Rattle.sha2.specs.Sha256.{sha256};
 ghost use Rattle.fkv_functions.specs.declared.refusals.Refused.TheVariants as refused;
 ghost use Rattle.fkv_device.specs.Failing.{FailsOnlyBy, ReadFailsBy};
+ghost use Rattle.fkv_device.specs.Known.{are_kept, page_of, is_digest, IsTaken, IsGiven};
 
 use crate::failures::Failures;
+use crate::page_files::PageFile;
 use crate::pages::{PageReader, PageWriter};
 use crate::receipts::Receipt;
 use crate::shared::Page;
 use fkv_functions::Refused;
 use sha2::{Digest, Sha256};
 use std::alloc::Global;
-use std::io::{Read, Seek, SeekFrom, Write};
+use std::collections::{BTreeMap, VecDeque};
+use std::marker::PhantomData;
 use std::sync::Arc;
 
-/// A receipt of a page in a file: the SHA-256 of the bytes that were written.
+/// A receipt of a page in a file: the SHA-256 of the bytes that were written, and the place where they stand.
 #[derive(Drop)]
-pub struct FileReceipt {
+pub struct FileReceipt<F: PageFile> {
     number: u64,
     page: u64,
+    place: u64,
     length: usize,
     digest: [u8; 32],
+    of: PhantomData<F>,
+    ghost taken: { is_digest F.pages digest ≡ true },
 }
 
-impl Receipt for FileReceipt {
-    ghost keeps = { false };
+impl<F: PageFile> Receipt for FileReceipt<F> {
+    ghost keeps = { are_kept F.pages };
 
     ghost stands = { λ r. record {
       number = r.number;
       page = r.page;
       length = r.length;
-      bytes = [];
+      bytes = page_of F.pages r.digest;
       mark = r.digest;
     } };
 
@@ -48,7 +55,7 @@ impl Receipt for FileReceipt {
         self.length
     }
 
-    fn same(&self, other: &FileReceipt) -> bool {
+    fn same(&self, other: &FileReceipt<F>) -> bool {
         self.number == other.number
             && self.page == other.page
             && self.length == other.length
@@ -56,15 +63,17 @@ impl Receipt for FileReceipt {
     }
 
     /// A copy, which is never refused.
-    fn again(&self) -> Result<FileReceipt, Refused>
+    fn again(&self) -> Result<FileReceipt<F>, Refused>
         ensures done { IsOk result }
         ensures same { IfOk result (λ r. r ≡ self.now) }
     {
         Ok(FileReceipt {
             number: self.number,
             page: self.page,
+            place: self.place,
             length: self.length,
             digest: self.digest,
+            of: PhantomData,
         })
     }
 }
@@ -77,31 +86,24 @@ fn digest_of(bytes: &[u8]) -> [u8; 32]
     hasher.finalize()
 }
 
-/// Goes to the place of a page, `page * 2^page_bits`, and says whether the file is there.
-fn go_to_page<F: Seek>(file: &mut F, page_bits: u32, page: u64) -> bool
-    ensures { IsTrue result → IfSome (F.stream_position file.old)
-        (λ _. F.stream_position file.new ≡ Some (page * 2 ^ page_bits)) }
-{
-    let Some(size) = 2u64.checked_pow(page_bits) else {
-        return false;
-    };
-    let Some(place) = page.checked_mul(size) else {
-        return false;
-    };
-    file.seek(SeekFrom::Start(place)).is_ok()
-}
-
-/// Writes pages of `2^page_bits` bytes to a file. It has the numbers below 2^64 - 1 for its receipts.
+/// Writes pages of `2^page_bits` bytes to a file: page n at place n, or at that of a page that was dropped. It has the
+/// numbers below 2^64 - 1 for its receipts.
 #[derive(Drop)]
-pub struct FileWriter<F: Write + Seek + Drop> {
+pub struct FileWriter<F: PageFile> {
     partition: u64,
     file: F,
     page_bits: u32,
     next: u64,
     failures: Failures,
+    /// The pages below this one are read no more.
+    dropped: u64,
+    /// The places of pages that were dropped.
+    free: VecDeque<u64>,
+    /// Where a page stands that was given such a place; each other page stands at its own.
+    moved: BTreeMap<u64, u64>,
 }
 
-impl<F: Write + Seek + Drop> FileWriter<F> {
+impl<F: PageFile> FileWriter<F> {
     /// A writer of this partition's pages to its file, whose next receipt has this number.
     pub fn at(alloc: Global, partition: u64, file: F, page_bits: u32, next: u64) -> FileWriter<F>
         ensures place { result.partition ≡ partition }
@@ -114,24 +116,52 @@ impl<F: Write + Seek + Drop> FileWriter<F> {
             page_bits,
             next,
             failures: Failures::new(alloc),
+            dropped: 0,
+            free: VecDeque::new(alloc),
+            moved: BTreeMap::new(alloc),
         }
     }
 
-    /// Writes a page at its place, and says whether it was written.
-    fn put(&mut self, page: u64, bytes: &[u8]) -> bool
+    /// Where a page stands or is to stand, `None` where it was dropped: at the place that it was given, else at one that is
+    /// free, else at its own. Refused: `NoMemory`.
+    fn place_of(&mut self, page: u64) -> Result<Option<u64>, Refused>
         ensures same_part { self.new.partition ≡ self.old.partition }
         ensures next { self.new.next ≡ self.old.next }
         ensures failures { self.new.failures ≡ self.old.failures }
         ensures bits { self.new.page_bits ≡ self.old.page_bits }
+        ensures memory { IfErr result (λ e. e ≡ refused.NoMemory) }
+    {
+        if page < self.dropped {
+            return Ok(None);
+        }
+        if let Some(place) = self.moved.get(&page) {
+            return Ok(Some(*place));
+        }
+        let Some(place) = self.free.front().copied() else {
+            return Ok(Some(page));
+        };
+        let Ok(_) = self.moved.insert(page, place) else {
+            return Err(Refused::NoMemory);
+        };
+        self.free.pop_front();
+        Ok(Some(place))
+    }
+
+    /// Writes a page at a place, and says whether it was written.
+    fn put(&mut self, place: u64, bytes: &[u8]) -> bool
+        ensures same_part { self.new.partition ≡ self.old.partition }
+        ensures next { self.new.next ≡ self.old.next }
+        ensures failures { self.new.failures ≡ self.old.failures }
+        ensures bits { self.new.page_bits ≡ self.old.page_bits }
+        ensures taken { IsTrue result → IsTaken F.pages bytes.now }
     {
         2u64.checked_pow(self.page_bits) == Some(bytes.len() as u64)
-            && go_to_page(&mut self.file, self.page_bits, page)
-            && self.file.write_all(bytes).is_ok()
+            && self.file.put(self.page_bits, place, bytes)
     }
 }
 
-impl<F: Write + Seek + Drop> PageWriter for FileWriter<F> {
-    type Receipt = FileReceipt;
+impl<F: PageFile> PageWriter for FileWriter<F> {
+    type Receipt = FileReceipt<F>;
 
     ghost failures = { λ w. w.failures };
 
@@ -146,10 +176,11 @@ impl<F: Write + Seek + Drop> PageWriter for FileWriter<F> {
     ///
     /// # Errors
     ///
-    /// `Device` with code 2 where the bytes are not `2^page_bits`, the file refuses them or no number is
-    /// left; `NoMemory` where the failure can not be counted.
-    fn write(&mut self, page: u64, bytes: &Page) -> Result<FileReceipt, Refused>
+    /// `Device` with code 2 where the bytes are not `2^page_bits`, the page was dropped, the file refuses the bytes or no
+    /// number is left; `NoMemory`.
+    fn write(&mut self, page: u64, bytes: &Page) -> Result<FileReceipt<F>, Refused>
         ensures digest { IfOk result (λ r. r.digest ≡ sha256 bytes.now) }
+        ensures kept { IfOk result (λ r. IsTrue (are_kept F.pages) → page_of F.pages r.digest ≡ bytes.now) }
         ensures page { IfOk result (λ r. r.page ≡ page) }
         ensures length { IfOk result (λ r. r.length ≡ length bytes.now) }
         ensures number { IfOk result (λ r. r.number ≡ self.old.next) }
@@ -163,8 +194,11 @@ impl<F: Write + Seek + Drop> PageWriter for FileWriter<F> {
         let Some(next) = self.next.checked_add(1) else {
             return Err(self.failures.count(Refused::Device { code: 2, page }));
         };
+        let Some(place) = self.place_of(page)? else {
+            return Err(self.failures.count(Refused::Device { code: 2, page }));
+        };
         let bytes = bytes.bytes();
-        if !self.put(page, bytes) {
+        if !self.put(place, bytes) {
             return Err(self.failures.count(Refused::Device { code: 2, page }));
         }
         let number = self.next;
@@ -172,16 +206,37 @@ impl<F: Write + Seek + Drop> PageWriter for FileWriter<F> {
         Ok(FileReceipt {
             number,
             page,
+            place,
             length: bytes.len(),
             digest: digest_of(bytes),
+            of: PhantomData,
         })
+    }
+
+    /// The places of these pages are used for others from now on.
+    fn drop_below(&mut self, page: u64)
+        ensures same_next { self.new.next ≡ self.old.next }
+        ensures same_part { self.new.partition ≡ self.old.partition }
+        ensures steady { self.new.failures ≡ self.old.failures }
+        ensures bits { self.new.page_bits ≡ self.old.page_bits }
+    {
+        let_go(&mut self.moved, &mut self.free, self.dropped, page);
+        self.dropped = self.dropped.max(page);
+    }
+}
+
+/// Puts the places of these pages to those that are free. One that there is no memory to keep is not used again.
+fn let_go(moved: &mut BTreeMap<u64, u64>, free: &mut VecDeque<u64>, from: u64, to: u64) {
+    for page in from..to {
+        let place = moved.remove(&page).unwrap_or(page);
+        let _kept = free.push_back(place);
     }
 }
 
 /// Reads pages of a file. It keeps the room of the page that it read last, and reads the next one there where nobody holds
 /// that page any more.
 #[derive(Drop)]
-pub struct FileReader<F: Read + Seek + Drop> {
+pub struct FileReader<F: PageFile> {
     alloc: Global,
     partition: u64,
     file: F,
@@ -190,7 +245,7 @@ pub struct FileReader<F: Read + Seek + Drop> {
     failures: Failures,
 }
 
-impl<F: Read + Seek + Drop> FileReader<F> {
+impl<F: PageFile> FileReader<F> {
     /// A reader of this partition's pages from its file.
     pub fn new(alloc: Global, partition: u64, file: F, page_bits: u32) -> FileReader<F>
         ensures place { result.partition ≡ partition }
@@ -207,15 +262,14 @@ impl<F: Read + Seek + Drop> FileReader<F> {
     }
 
     /// Reads a page from its place, and says whether it was there.
-    fn take(&mut self, receipt: &FileReceipt, out: &mut [u8]) -> bool
+    fn take(&mut self, receipt: &FileReceipt<F>, out: &mut [u8]) -> bool
         ensures same_part { self.new.partition ≡ self.old.partition }
         ensures length { IsTrue result → length out.old ≡ receipt.now.length }
         ensures failures { self.new.failures ≡ self.old.failures }
         ensures bits { self.new.page_bits ≡ self.old.page_bits }
+        ensures given { IsTrue result → IsGiven F.pages out.new }
     {
-        out.len() == receipt.length
-            && go_to_page(&mut self.file, self.page_bits, receipt.page)
-            && self.file.read_exact(out).is_ok()
+        out.len() == receipt.length && self.file.take(self.page_bits, receipt.place, out)
     }
 
     /// Reads a page of `size` bytes into the room of the last one where nobody holds that any more, else into new room.
@@ -224,9 +278,14 @@ impl<F: Read + Seek + Drop> FileReader<F> {
     /// # Errors
     ///
     /// `NoMemory`.
-    fn fill(&mut self, receipt: &FileReceipt, size: usize) -> Result<Option<Arc<Vec<u8>>>, Refused>
+    fn fill(
+        &mut self,
+        receipt: &FileReceipt<F>,
+        size: usize,
+    ) -> Result<Option<Arc<Vec<u8>>>, Refused>
         ensures size { IfOk result (λ o. IfSome o (λ p. length (arc_value p).items ≡ size)) }
         ensures length { IfOk result (λ o. IfSome o (λ _. size ≡ receipt.now.length)) }
+        ensures given { IfOk result (λ o. IfSome o (λ p. IsGiven F.pages (arc_value p).items)) }
         ensures memory { IfErr result (λ e. e ≡ refused.NoMemory) }
         ensures same_part { self.new.partition ≡ self.old.partition }
         ensures failures { self.new.failures ≡ self.old.failures }
@@ -254,8 +313,8 @@ impl<F: Read + Seek + Drop> FileReader<F> {
     }
 }
 
-impl<F: Read + Seek + Drop> PageReader for FileReader<F> {
-    type Receipt = FileReceipt;
+impl<F: PageFile> PageReader for FileReader<F> {
+    type Receipt = FileReceipt<F>;
 
     ghost failures = { λ r. r.failures };
 
@@ -270,8 +329,9 @@ impl<F: Read + Seek + Drop> PageReader for FileReader<F> {
     ///
     /// `Device` with code 3 where the page has not `size` bytes, or the file fails or ends; `Damaged` where the digest
     /// differs; `NoMemory`, also where a failure can't be counted.
-    fn read(&mut self, receipt: &FileReceipt, size: usize) -> Result<Page, Refused>
+    fn read(&mut self, receipt: &FileReceipt<F>, size: usize) -> Result<Page, Refused>
         ensures digest { IfOk result (λ page. sha256 page ≡ receipt.now.digest) }
+        ensures kept { IfOk result (λ page. IsTrue (are_kept F.pages) → page ≡ page_of F.pages receipt.now.digest) }
         ensures size { IfOk result (λ page. length page ≡ size) }
         ensures length { OnOk result (size ≡ receipt.now.length) }
         ensures same_part { self.new.partition ≡ self.old.partition }

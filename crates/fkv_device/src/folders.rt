@@ -6,6 +6,7 @@ ghost use Rattle.fkv_device.specs.Parts.{part_name};
 use crate::disks::Disk;
 use crate::failures::Failures;
 use crate::files::{FileReader, FileReceipt, FileWriter};
+use crate::page_files::PageFile;
 use fkv_functions::Refused;
 use std::alloc::{AllocError, Global};
 use std::fs::{OpenOptions, create_dir_all};
@@ -13,7 +14,8 @@ use std::path::Path;
 use std::rt::Files;
 
 /// A device in a folder. The file of partition `n` is `part-NN.log`, with at least two digits, and page
-/// `n` stands at `n * 2^page_bits` in it. It promises no bytes: other programs may change the files.
+/// `n` stands at `n * 2^page_bits` in it. Other programs may change the files: it keeps where the pages that they take and
+/// give are known and none collide ([`files_keep_or_collide`](crate::laws::files_keep_or_collide)).
 #[derive(Drop)]
 pub struct FileDevice<R: Files + Drop> {
     rt: R,
@@ -76,8 +78,11 @@ impl<R: Files + Drop> FileDevice<R> {
     }
 }
 
-impl<R: Files + Drop> Disk for FileDevice<R> {
-    type Receipt = FileReceipt;
+impl<R: Files + Drop> Disk for FileDevice<R>
+where
+    R::File: PageFile,
+{
+    type Receipt = FileReceipt<R::File>;
 
     type Writer = FileWriter<R::File>;
 

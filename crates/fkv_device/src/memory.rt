@@ -123,6 +123,11 @@ impl PageWriter for MemoryWriter {
             bytes,
         })
     }
+
+    /// Nothing is done: a page goes with its receipts.
+    fn drop_below(&mut self, _page: u64)
+        ensures { self.new ≡ self.old }
+    {}
 }
 
 /// Reads pages of memory.

@@ -39,6 +39,13 @@ pub trait PageWriter: Drop {
         ensures steady { OnOk result (failures self.new ≡ failures self.old) }
         ensures counted { IfErr result (FailsOnlyBy 2 page (failures self.old) (failures self.new)) }
         ensures caused { IfErr result (λ e. e ≢ refused.NoMemory → can_fail self.old) };
+
+    /// The pages below this one are read no more: the room that they take may be used for others. It is never refused, and
+    /// what can't be let go stays.
+    fn drop_below(&mut self, page: u64)
+        ensures same_next { next self.new ≡ next self.old }
+        ensures same_part { part self.new ≡ part self.old }
+        ensures steady { failures self.new ≡ failures self.old };
 }
 
 /// Reads pages by their receipts.

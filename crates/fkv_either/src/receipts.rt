@@ -1,5 +1,5 @@
 //! Receipts of pages that are in memory, or on another device.
-ghost use Rattle.std.specs.Prelude.{◌≡◌, true, if◌then◌else◌};
+ghost use Rattle.std.specs.Prelude.{◌≡◌, ◌||◌, true, if◌then◌else◌};
 ghost use Rattle.fkv_either.specs.Either.{is_memory, stands_at};
 
 use crate::either::Either;
@@ -8,7 +8,8 @@ use fkv_device::{MemoryReceipt, Receipt};
 use fkv_functions::Refused;
 use std::marker::PhantomData;
 
-/// A receipt of a page in memory, or of one on the other device. Where the marker keeps, it is of a page in memory.
+/// A receipt of a page in memory, or of one on the other device. Where the marker keeps, it is of a page in memory; it keeps then, and
+/// where the other device does.
 #[derive(Drop)]
 pub struct EitherReceipt<R: Receipt, K: Keeping> {
     pub(crate) either: Either<MemoryReceipt, R>,
@@ -19,7 +20,7 @@ pub struct EitherReceipt<R: Receipt, K: Keeping> {
 impl<R: Receipt, K: Keeping> Receipt for EitherReceipt<R, K> {
     ghost stands = { λ r. stands_at ⟦<MemoryReceipt as Receipt>⟧.stands R.stands r.either };
 
-    ghost keeps = { K.keeps };
+    ghost keeps = { K.keeps || R.keeps };
 
     fn number(&self) -> u64 {
         match &self.either {

@@ -38,4 +38,11 @@ impl<W: PageWriter, K: Keeping> PageWriter for EitherWriter<W, K> {
             of: PhantomData,
         })
     }
+
+    fn drop_below(&mut self, page: u64) {
+        match &mut self.either {
+            Either::Memory(writer) => writer.drop_below(page),
+            Either::Other(writer) => writer.drop_below(page),
+        }
+    }
 }

@@ -24,13 +24,13 @@ pub const CONFIG: Config = Config {
 const LIMIT: u64 = 100;
 
 /// What an event tells of an operation.
-pub type Told = ProgressOf<SummaryFns, FileReceipt>;
+pub type Told = ProgressOf<SummaryFns, FileReceipt<File>>;
 
 /// A partition beside its device and its clock. The moments of a partition rise, so each event is made at the clock's next
 /// one.
 #[derive(Drop)]
 pub struct Store {
-    pub partition: Partition<SummaryFns, FileReceipt>,
+    pub partition: Partition<SummaryFns, FileReceipt<File>>,
     pub reader: FileReader<File>,
     writer: FileWriter<File>,
     pub clock: Clock,

@@ -5,7 +5,7 @@ use Rattle.csv.specs.declared.parser.State.{State}
 use Rattle.csv.specs.declared.parser.State.TheVariants as st
 use Rattle.fkv_functions.specs.declared.names.Name.{Name}
 use Rattle.fkv_functions.specs.declared.refusals.Refused.{Refused}
-use Rattle.fkv_functions.specs.declared.refusals.Refused.TheVariants.{NoMemory, Worn, Stalled, BadRow, Unreadable, Device, Damaged}
+use Rattle.fkv_functions.specs.declared.refusals.Refused.TheVariants.{NoMemory, Worn, BadRow, Unreadable, Device, Damaged}
 use Rattle.fkv_streams.specs.Counting.{one_more}
 use Rattle.fkv_feed_rows.specs.Rows.{IsRow, AreRows}
 
@@ -62,7 +62,6 @@ TellsUnread feed limit bytes old new other = ⊥
 -- `fault` says; or the feed was not read to its end.
 abbrev pub TellsWhy : (Refused → Type 0) → ℕ → ℕ → Option (List ℕ) → ℕ → ℕ → Refused → Type 0
 TellsWhy fault feed limit bytes old new Worn = new ≡ old
-TellsWhy fault feed limit bytes old new Stalled = new ≡ old
 TellsWhy fault feed limit bytes old new (Device code page) = (new ≡ old) × fault (Device code page)
 TellsWhy fault feed limit bytes old new (Damaged page) = (new ≡ old) × fault (Damaged page)
 TellsWhy fault feed limit bytes old new other = TellsUnread feed limit bytes old new other

@@ -4,7 +4,7 @@ use Rattle.std.proofs.lemmas.List.{append-nil}
 use Rattle.std.specs.Prelude.{slice_index}
 use Rattle.fkv_functions.specs.declared.names.Name.{Name}
 use Rattle.fkv_functions.specs.declared.refusals.Refused.{Refused}
-use Rattle.fkv_functions.specs.declared.refusals.Refused.TheVariants.{NoMemory, BadConfig, Worn, Stalled, BadRow, Unreadable, Device, Damaged}
+use Rattle.fkv_functions.specs.declared.refusals.Refused.TheVariants.{NoMemory, BadConfig, Worn, BadRow, Unreadable, Device, Damaged}
 use Rattle.fkv_streams.specs.Counting.{one_more}
 use Rattle.fkv_feed_rows.specs.Feeds.{IsFeed, TellsUnread, TellsWhy}
 use Rattle.fkv_feeds.specs.Tables.{AreFeeds, most_rows}
@@ -13,7 +13,6 @@ use Rattle.fkv_partition.specs.declared.limits.Config.{Config}
 use Rattle.std.specs.declared.cmp.Ordering.{Ordering}
 use Rattle.fkv_device.specs.Failing.{FailsOnlyBy, ReadFailsBy}
 use Rattle.fkv_hybrid.specs.Scans.{IsScanRefusal}
-use Rattle.fkv_alone.specs.Spoilt.{Spelling}
 use Rattle.fkv_local.specs.Listing.{ListsView, IsUnlisted}
 use Rattle.fkv_partition.specs.Views.{PartitionView}
 use Rattle.fkv_feeds.specs.Faults.{IsFault, IsDeviceFault}
@@ -109,7 +108,6 @@ module _ {S : Type 0} (rem : S → Option (List ℕ)) (fails : S → ℕ) (xs : 
   pub stopped : (fault : Refused → Type 0) (ys : List S) (y : S) (e : Refused) → map fails ys ≡ map fails xs → slice_get ys i ≡ Some x → TellsWhy fault (i + 1) most_rows (rem x) (fails x) (fails y) e → TellsStopped fault (map rem xs) (map fails xs) (map fails (slice_set ys i y)) e
   stopped fault ys y NoMemory same here t = counts-kept fails ys i x y here t ∙ same
   stopped fault ys y Worn same here t = counts-kept fails ys i x y here t ∙ same
-  stopped fault ys y Stalled same here t = counts-kept fails ys i x y here t ∙ same
   stopped fault ys y (Device code page) same here t = (counts-kept fails ys i x y here t.0 ∙ same, t.1)
   stopped fault ys y (Damaged page) same here t = (counts-kept fails ys i x y here t.0 ∙ same, t.1)
   stopped fault ys y (BadRow f n) same here t = (counts-kept fails ys i x y here t.0 ∙ same, rem x, subst (λ m. IsReached (map rem xs) m (rem x)) (sym t.1) reached, t.2)
@@ -153,14 +151,11 @@ row-told fault feed limit bytes old new e shape same why = elim why [
   | inl a ↦ rw a same
   | inr b ↦ elim b [
     | inl a ↦ rw a same
-    | inr d ↦ elim d [
+    | inr f ↦ elim (shape f) [
       | inl a ↦ rw a same
-      | inr f ↦ elim (shape f) [
-        | inl a ↦ rw a same
-        | inr m ↦ elim m [
-          | inl n ↦ (let g = rw n.2 at f in rw n.2 (same, g))
-          | inr n ↦ (let g = rw n.1 at f in rw n.1 (same, g))
-        ]
+      | inr m ↦ elim m [
+        | inl n ↦ (let g = rw n.2 at f in rw n.2 (same, g))
+        | inr n ↦ (let g = rw n.1 at f in rw n.1 (same, g))
       ]
     ]
   ]
@@ -168,7 +163,6 @@ row-told fault feed limit bytes old new e shape same why = elim why [
 
 unread-told : (fault : Refused → Type 0) (feed limit : ℕ) (bytes : Option (List ℕ)) (old new : ℕ) (e : Refused) → TellsUnread feed limit bytes old new e → TellsWhy fault feed limit bytes old new e
 unread-told fault feed limit bytes old new Worn t = absurd t
-unread-told fault feed limit bytes old new Stalled t = absurd t
 unread-told fault feed limit bytes old new (Device code page) t = absurd t
 unread-told fault feed limit bytes old new (Damaged page) t = absurd t
 unread-told fault feed limit bytes old new other t = t
@@ -196,21 +190,21 @@ scans-by keeps low flushed old new e (IsScanRefusal.at_page {page} a b why) = el
   | inr s ↦ inr (inr (page, s.1))
 ]
 
-faults-by : {K V : Type 0} (entry : Spelling K V) (cmp : K → K → Ordering) (w w' r r' : ℕ) (e : Refused) → IsFault entry cmp w w' r r' e → IsOfDevice e
-faults-by entry cmp w w' r r' e (IsFault.unwritten page f s) = elim f [ inl a ↦ inl a.0 | inr b ↦ inr (inl (2, page, b.0)) ]
-faults-by entry cmp w w' r r' e (IsFault.unread page f s) = reads-by page r r' e f
-faults-by entry cmp w w' r r' e (IsFault.spoilt page s d a b) = inr (inr (page, d))
+faults-by : (keeps : Bool) (w w' r r' : ℕ) (e : Refused) → IsFault keeps w w' r r' e → IsOfDevice e
+faults-by keeps w w' r r' e (IsFault.unwritten page f s) = elim f [ inl a ↦ inl a.0 | inr b ↦ inr (inl (2, page, b.0)) ]
+faults-by keeps w w' r r' e (IsFault.unread page f s) = reads-by page r r' e f
+faults-by keeps w w' r r' e (IsFault.misspelled page s d a b) = inr (inr (page, d))
 
-pub devices-by : {D W R K V : Type 0} (keeps : Bool) (opens : D → ℕ) (writes : W → ℕ) (reads : R → ℕ) (entry : Spelling K V) (cmp : K → K → Ordering) (e : Refused) → IsDeviceFault keeps opens writes reads entry cmp e → IsOfDevice e
-devices-by keeps opens writes reads entry cmp e (IsDeviceFault.unopened old new f) = opens-by (opens old) (opens new) e f
-devices-by keeps opens writes reads entry cmp e (IsDeviceFault.unworked old new before now f) = faults-by entry cmp (writes old) (writes new) (reads before) (reads now) e f
-devices-by keeps opens writes reads entry cmp e (IsDeviceFault.unlisted low flushed before now f) = scans-by keeps low flushed (reads before) (reads now) e f
+pub devices-by : {D W R : Type 0} (keeps : Bool) (opens : D → ℕ) (writes : W → ℕ) (reads : R → ℕ) (e : Refused) → IsDeviceFault keeps opens writes reads e → IsOfDevice e
+devices-by keeps opens writes reads e (IsDeviceFault.unopened old new f) = opens-by (opens old) (opens new) e f
+devices-by keeps opens writes reads e (IsDeviceFault.unworked old new before now f) = faults-by keeps (writes old) (writes new) (reads before) (reads now) e f
+devices-by keeps opens writes reads e (IsDeviceFault.unlisted low flushed before now f) = scans-by keeps low flushed (reads before) (reads now) e f
 
 -- for want of memory at the end a run is refused as where its device is not opened for it
-pub ended-by : {D W R K V L M I : Type 0} (keeps : Bool) (opens : D → ℕ) (writes : W → ℕ) (reads : R → ℕ) (entry : Spelling K V) (cmp : K → K → Ordering) (device : D) (e : Refused)
-    → (e ≡ NoMemory) ⊎ ((was : ListsView L M I R) × (readers : List R) × IsUnlisted keeps reads was.parts was.readers readers e) → IsDeviceFault keeps opens writes reads entry cmp e
-ended-by keeps opens writes reads entry cmp device e (inl none) = IsDeviceFault.unopened device device (inl (none, refl))
-ended-by keeps opens writes reads entry cmp device e (inr h) = IsDeviceFault.unlisted _ _ h.2.1.reader h.2.1.reader_now h.2.1.refused
+pub ended-by : {D W R L M I : Type 0} (keeps : Bool) (opens : D → ℕ) (writes : W → ℕ) (reads : R → ℕ) (device : D) (e : Refused)
+    → (e ≡ NoMemory) ⊎ ((was : ListsView L M I R) × (readers : List R) × IsUnlisted keeps reads was.parts was.readers readers e) → IsDeviceFault keeps opens writes reads e
+ended-by keeps opens writes reads device e (inl none) = IsDeviceFault.unopened device device (inl (none, refl))
+ended-by keeps opens writes reads device e (inr h) = IsDeviceFault.unlisted _ _ h.2.1.reader h.2.1.reader_now h.2.1.refused
 
 -- ---- what several clauses say of one result
 pub two_ok : {A E P Q R : Type 0} (r : Result A E) → OnOk r P → OnOk r Q → (P → Q → R) → OnOk r R

@@ -18,7 +18,6 @@ use Rattle.fkv_operations.specs.AfterLaws.{same_map}
 use Rattle.fkv_operations.specs.declared.operations.Answer.{Answer}
 use Rattle.fkv_operations.specs.declared.operations.KeyedOp.TheVariants.{Rmw}
 use Rattle.fkv_partition.proofs.UnionLemmas.{is_at-turned}
-use Rattle.fkv_alone.specs.Spoilt.{Spelling, IsSpoilt}
 use Rattle.fkv_local.specs.Storing.{StoreView, plain, IsRun, IsUpdateRun}
 use Rattle.fkv_local.specs.Failures.{Failures, failures_of}
 use Rattle.fkv_local.specs.Refusing.{IsWorkRefusal, IsRefusal, IsStopped}
@@ -85,20 +84,19 @@ module _ {V O W P : Type 0} (keeps : Bool) (f : Meanings Name V ℤ O) (code : N
   stands-update s t rows k i a ran stand = stands-more s t rows k i stand (λ kept. elim (ran kept) [ inl r ↦ r.0 | inr r ↦ r.0 ])
 
 -- ---- why a row is refused
-module _ {K V D W P : Type 0} {keeps : Bool} {entry : Spelling K V} {cmp : K → K → Ordering} {e : Refused} (opens : D → ℕ) (writes : W → ℕ) (reads : P → ℕ) where
-  work-row : (w w_now : W) (p p_now : P) {tail clock : ℕ} → IsWorkRefusal (IsSpoilt entry cmp) tail clock (failures_of writes reads w p) (failures_of writes reads w_now p_now) e → IsRowRefusal (IsDeviceFault keeps opens writes reads entry cmp) e
+module _ {D W P : Type 0} {keeps : Bool} {e : Refused} (opens : D → ℕ) (writes : W → ℕ) (reads : P → ℕ) where
+  work-row : (w w_now : W) (p p_now : P) {tail clock : ℕ} → IsWorkRefusal keeps tail clock (failures_of writes reads w p) (failures_of writes reads w_now p_now) e → IsRowRefusal (IsDeviceFault keeps opens writes reads) e
   work-row w w_now p p_now (IsWorkRefusal.no_memory a s) = inl a
-  work-row w w_now p p_now (IsWorkRefusal.unwritten page a s) = inr (inr (inr (IsDeviceFault.unworked w w_now p p_now (IsFault.unwritten page a s))))
-  work-row w w_now p p_now (IsWorkRefusal.unread page a s) = inr (inr (inr (IsDeviceFault.unworked w w_now p p_now (IsFault.unread page a s))))
-  work-row w w_now p p_now (IsWorkRefusal.misspelled page a b s) = inr (inr (inr (IsDeviceFault.unworked w w_now p p_now (IsFault.spoilt page a b (ap (λ (f : Failures). f.writes) s) (ap (λ (f : Failures). f.reads) s)))))
+  work-row w w_now p p_now (IsWorkRefusal.unwritten page a s) = inr (inr (IsDeviceFault.unworked w w_now p p_now (IsFault.unwritten page a s)))
+  work-row w w_now p p_now (IsWorkRefusal.unread page a s) = inr (inr (IsDeviceFault.unworked w w_now p p_now (IsFault.unread page a s)))
+  work-row w w_now p p_now (IsWorkRefusal.misspelled page a b s) = inr (inr (IsDeviceFault.unworked w w_now p p_now (IsFault.misspelled page a b (ap (λ (f : Failures). f.writes) s) (ap (λ (f : Failures). f.reads) s))))
   work-row w w_now p p_now (IsWorkRefusal.no_address a t s) = inr (inl a)
   work-row w w_now p p_now (IsWorkRefusal.no_moment a t s) = inr (inl a)
 
-module _ {K V I D W P : Type 0} {keeps merges : Bool} {entry : Spelling K V} {cmp : K → K → Ordering} {k : K} {i : I} {e : Refused} (opens : D → ℕ) (writes : W → ℕ) (reads : P → ℕ) where
-  stopped-row : (w w_now : W) (p p_now : P) {tries tail began clock : ℕ} → IsStopped merges entry cmp (Rmw k i) tries tail began clock (failures_of writes reads w p) (failures_of writes reads w_now p_now) e → IsRowRefusal (IsDeviceFault keeps opens writes reads entry cmp) e
+module _ {K V I D W P : Type 0} {keeps merges : Bool} {k : K} {i : I} {e : Refused} (opens : D → ℕ) (writes : W → ℕ) (reads : P → ℕ) where
+  stopped-row : (w w_now : W) (p p_now : P) {tail clock : ℕ} → IsStopped {V = V} keeps merges (Rmw k i) tail clock (failures_of writes reads w p) (failures_of writes reads w_now p_now) e → IsRowRefusal (IsDeviceFault keeps opens writes reads) e
   stopped-row w w_now p p_now (IsStopped.unworked h) = work-row opens writes reads w w_now p p_now h
-  stopped-row w w_now p p_now (IsStopped.stalled a b s) = inr (inr (inl a))
   stopped-row w w_now p p_now (IsStopped.unmerged a m n s) = absurd (cc)
 
-  pub refused-row : {code : K → ℕ} {old new : StoreView K V I W P} → IsRefusal merges entry cmp code writes reads old new (Rmw k i) e → IsRowRefusal (IsDeviceFault keeps opens writes reads entry cmp) e
+  pub refused-row : {code : K → ℕ} {old new : StoreView K V I W P} → IsRefusal keeps merges code writes reads old new (Rmw k i) e → IsRowRefusal (IsDeviceFault keeps opens writes reads) e
   refused-row h = stopped-row h.refused.writer_then h.writer_now h.refused.reader_then h.reader_now h.refused.stopped

@@ -2,7 +2,7 @@
 use Rattle.std.specs.Prelude.{◌≡◌, ◌≤◌, ◌+◌, ◌-◌, ◌⊎◌, ◌++◌, ◌∷◌, ℕ, ℤ, List, length, Option, IfSome, slice_set, slice_index}
 use Rattle.fkv_functions.specs.declared.names.Name.{Name}
 use Rattle.fkv_functions.specs.declared.refusals.Refused.{Refused}
-use Rattle.fkv_functions.specs.declared.refusals.Refused.TheVariants.{NoMemory, BadConfig, Worn, Stalled, BadRow, Unreadable, Device, Damaged}
+use Rattle.fkv_functions.specs.declared.refusals.Refused.TheVariants.{NoMemory, BadConfig, Worn, BadRow, Unreadable, Device, Damaged}
 use Rattle.fkv_streams.specs.Counting.{one_more}
 use Rattle.fkv_partition.specs.declared.limits.Config.{Config}
 use Rattle.fkv_partition.specs.Limits.{IsWithinLimits}
@@ -17,7 +17,7 @@ pub record IsRunnable (config : Config) (record_size feeds : ℕ) : Type 0 where
 
 -- why an update of a row is refused; a device's fault is one that `fault` says
 abbrev pub IsRowRefusal : (Refused → Type 0) → Refused → Type 0
-IsRowRefusal fault why = (why ≡ NoMemory) ⊎ (why ≡ Worn) ⊎ (why ≡ Stalled) ⊎ fault why
+IsRowRefusal fault why = (why ≡ NoMemory) ⊎ (why ≡ Worn) ⊎ fault why
 
 -- feed n, counted from 1, is this one, and those before it have rows
 pub record IsReached (feeds : List (Option (List ℕ))) (n : ℕ) (here : Option (List ℕ)) : Type 0 where
@@ -38,7 +38,6 @@ counted_at n counts = slice_set counts (n - 1) (one_more (slice_index counts (n 
 abbrev pub TellsStopped : (Refused → Type 0) → List (Option (List ℕ)) → List ℕ → List ℕ → Refused → Type 0
 TellsStopped fault feeds old new NoMemory = new ≡ old
 TellsStopped fault feeds old new Worn = new ≡ old
-TellsStopped fault feeds old new Stalled = new ≡ old
 TellsStopped fault feeds old new (Device code page) = (new ≡ old) × fault (Device code page)
 TellsStopped fault feeds old new (Damaged page) = (new ≡ old) × fault (Damaged page)
 TellsStopped fault feeds old new (BadRow f n) =

@@ -3,7 +3,7 @@ ghost use Rattle.std.specs.Prelude.{◌≡◌, ◌≤◌, ◌++◌, ◌∷◌, [
 ghost use Rattle.fkv_functions.specs.declared.names.Name.{Name};
 ghost use Rattle.fkv_functions.specs.Names.{name_cmp};
 ghost use Rattle.fkv_feed_rows.specs.Feeds.{IsFeed, TellsWhy};
-ghost use Rattle.fkv_feeds.specs.Faults.{IsRunFault};
+ghost use Rattle.fkv_feeds.specs.Faults.{IsDeviceFault};
 ghost use Rattle.fkv_feeds.specs.Refusing.{IsRowRefusal};
 ghost use Rattle.fkv_feeds.specs.Tables.{StandsFor};
 
@@ -31,8 +31,7 @@ fn add_row<F: Mergeable<Key = Name, Input = i64>, D: Disk>(
 ) -> Result<(), Refused>
     ensures ok { OnOk result ((before : List (Name × ℤ)) → StandsFor D.Receipt.keeps F.meaning F.code rows.old.store before
         → StandsFor D.Receipt.keeps F.meaning F.code rows.new.store (before ++ (key.now, amount) ∷ [])) }
-    ensures told { IfErr result (IsRowRefusal (IsRunFault D.Receipt.keeps D.failures D.Writer.failures D.Reader.failures
-        F.Value.codec)) }
+    ensures told { IfErr result (IsRowRefusal (IsDeviceFault D.Receipt.keeps D.failures D.Writer.failures D.Reader.failures)) }
     ensures unread { IsTrue F.MERGES → rows.old.mode ≡ RowMode.Merge → IsTrue rows.old.store.keeps_log
         → rows.new.store.readers ≡ rows.old.store.readers }
     ensures same_log { rows.old.mode ≡ RowMode.Merge → rows.new.store.keeps_log ≡ rows.old.store.keeps_log }
@@ -53,8 +52,7 @@ fn add_row<F: Mergeable<Key = Name, Input = i64>, D: Disk>(
 impl<F: Mergeable<Key = Name, Input = i64>, D: Disk> RowSink for RowStore<F, D> {
     ghost stands = { λ s rows. StandsFor D.Receipt.keeps F.meaning F.code s.store rows };
 
-    ghost fault = { IsRowRefusal (IsRunFault D.Receipt.keeps D.failures D.Writer.failures D.Reader.failures
-        F.Value.codec) };
+    ghost fault = { IsRowRefusal (IsDeviceFault D.Receipt.keeps D.failures D.Writer.failures D.Reader.failures) };
 
     fn add(&mut self, key: &Name, amount: i64) -> Result<(), Refused> {
         add_row(self, key, amount)
@@ -67,8 +65,8 @@ impl<F: Mergeable<Key = Name, Input = i64>, D: Disk> RowSink for RowStore<F, D> 
 /// # Errors
 ///
 /// `BadRow` with the first record that is no row, counted from 1: then those before it are rows. `Unreadable` with
-/// the feed's number where its stream fails, or where it has more records than `limit`. `NoMemory`. `Worn` and
-/// `Stalled`, by an update. `Device` and `Damaged`, by a page. The store then stands for no rows.
+/// the feed's number where its stream fails, or where it has more records than `limit`. `NoMemory`. `Worn`, by
+/// an update. `Device` and `Damaged`, by a page. The store then stands for no rows.
 pub fn read_feed<S: Source, F: Mergeable<Key = Name, Input = i64>, D: Disk>(
     alloc: Global,
     source: &mut S,
@@ -83,8 +81,8 @@ pub fn read_feed<S: Source, F: Mergeable<Key = Name, Input = i64>, D: Disk>(
     ensures within { IfOk result (λ count. count ≤ limit) }
     ensures steady { OnOk result (S.failures source.new ≡ S.failures source.old) }
     ensures told { IfErr result
-        (TellsWhy (IsRunFault D.Receipt.keeps D.failures D.Writer.failures
-        D.Reader.failures F.Value.codec)
+        (TellsWhy (IsDeviceFault D.Receipt.keeps D.failures D.Writer.failures
+        D.Reader.failures)
         feed limit (S.remaining source.old) (S.failures source.old) (S.failures source.new)) }
 {
     fkv_feed_rows::read_feed(alloc, source, feed, limit, rows)

@@ -8,7 +8,7 @@ ghost use Rattle.fkv_functions.specs.declared.names.Name.{Name};
 ghost use Rattle.fkv_records.specs.Records.{size_of};
 ghost use Rattle.fkv_device.specs.Failing.{FailsOnlyBy};
 ghost use Rattle.fkv_partition.specs.Limits.{IsWithinLimits};
-ghost use Rattle.fkv_feeds.specs.Faults.{IsRunFault};
+ghost use Rattle.fkv_feeds.specs.Faults.{IsDeviceFault};
 ghost use Rattle.fkv_feeds.specs.Tables.{IsTableOf, AreFeeds, HaveRows, StandsFor, amounts_of, folded, most_rows};
 ghost use Rattle.fkv_feeds.specs.Refusing.{IsRunnable, TellsStopped, TellsWhyNone};
 ghost use Rattle.fkv_local.specs.Listing.{ListsView, IsUnlisted};
@@ -97,8 +97,8 @@ fn read_feeds<S: Source, F: Mergeable<Key = Name, Input = i64>, D: Disk>(
     ensures ok { IfOk result (λ count. (rows : List (Name × ℤ)) × AreFeeds most_rows (map S.remaining feeds.old) rows
         × StandsFor D.Receipt.keeps F.meaning F.code store.new.store rows × (count ≡ length rows)) }
     ensures steady { OnOk result (map S.failures feeds.new ≡ map S.failures feeds.old) }
-    ensures told { IfErr result (TellsStopped (IsRunFault D.Receipt.keeps D.failures D.Writer.failures
-        D.Reader.failures F.Value.codec)
+    ensures told { IfErr result (TellsStopped (IsDeviceFault D.Receipt.keeps D.failures D.Writer.failures
+        D.Reader.failures)
         (map S.remaining feeds.old) (map S.failures feeds.old)
         (map S.failures feeds.new)) }
 {
@@ -124,8 +124,7 @@ fn read_feeds<S: Source, F: Mergeable<Key = Name, Input = i64>, D: Disk>(
 /// In this order: `BadConfig`, where a number of the configuration is outside its limits, or there are not 1 to 64
 /// feeds, and then no feed is read; `BadRow`, with the first row that is none, of the first feed that has
 /// one, both counted from 1; `Unreadable`, with the number of a feed, counted from 1, whose stream fails or that has
-/// more than [`LIMIT`] rows; `NoMemory`; `Worn`, where a partition has no address left; `Stalled`, where a row takes
-/// more turns than the configuration says; `Device` with code 1, where the device does not open a partition's pages,
+/// more than [`LIMIT`] rows; `NoMemory`; `Worn`, where a partition has no address left; `Device` with code 1, where the device does not open a partition's pages,
 /// before any feed is read, 2, where it does not write a page, and 3, where it does not read one; `Damaged`, where it
 /// gives other bytes than were written, or bytes that spell no records.
 pub fn run_one<S: Source, F: Mergeable<Key = Name, Input = i64>, D: Disk>(
@@ -142,8 +141,8 @@ pub fn run_one<S: Source, F: Mergeable<Key = Name, Input = i64>, D: Disk>(
     ensures steady { OnOk result (map S.failures feeds.new ≡ map S.failures feeds.old) }
     ensures good { result ≢ Err Refused.BadConfig
         → IsRunnable config.now (size_of 32 F.Value.SIZE) (length feeds.old) }
-    ensures told { IfErr result (TellsWhyNone (IsRunFault D.Receipt.keeps D.failures D.Writer.failures
-        D.Reader.failures F.Value.codec)
+    ensures told { IfErr result (TellsWhyNone (IsDeviceFault D.Receipt.keeps D.failures D.Writer.failures
+        D.Reader.failures)
         config.now (size_of 32 F.Value.SIZE) (map S.remaining feeds.old)
         (map S.failures feeds.old) (map S.failures feeds.new)) }
 {
@@ -171,8 +170,8 @@ pub fn run_one_by<S: Source, F: Mergeable<Key = Name, Input = i64>, D: Disk>(
     ensures steady { OnOk result (map S.failures feeds.new ≡ map S.failures feeds.old) }
     ensures good { result ≢ Err Refused.BadConfig
         → IsRunnable config.now (size_of 32 F.Value.SIZE) (length feeds.old) }
-    ensures told { IfErr result (TellsWhyNone (IsRunFault D.Receipt.keeps D.failures D.Writer.failures
-        D.Reader.failures F.Value.codec)
+    ensures told { IfErr result (TellsWhyNone (IsDeviceFault D.Receipt.keeps D.failures D.Writer.failures
+        D.Reader.failures)
         config.now (size_of 32 F.Value.SIZE) (map S.remaining feeds.old)
         (map S.failures feeds.old) (map S.failures feeds.new)) }
 {
@@ -213,8 +212,8 @@ pub fn run_alone<S: Source, F: Mergeable<Key = Name, Input = i64>, D: Disk>(
     ensures ran { IfOk result (λ run. run.plan ≡ record { config = config.now; mode = RowMode.Update; workers = 1 }) }
     ensures steady { OnOk result (S.failures feed.new ≡ S.failures feed.old) }
     ensures good { result ≢ Err Refused.BadConfig → IsRunnable config.now (size_of 32 F.Value.SIZE) 1 }
-    ensures told { IfErr result (TellsWhyNone (IsRunFault D.Receipt.keeps D.failures D.Writer.failures
-        D.Reader.failures F.Value.codec)
+    ensures told { IfErr result (TellsWhyNone (IsDeviceFault D.Receipt.keeps D.failures D.Writer.failures
+        D.Reader.failures)
         config.now (size_of 32 F.Value.SIZE) (S.remaining feed.old ∷ [])
         (S.failures feed.old ∷ []) (S.failures feed.new ∷ [])) }
 {
@@ -240,8 +239,8 @@ pub fn run_alone_by<S: Source, F: Mergeable<Key = Name, Input = i64>, D: Disk>(
     ensures ran { IfOk result (λ run. run.plan ≡ record { config = config.now; mode = mode; workers = 1 }) }
     ensures steady { OnOk result (S.failures feed.new ≡ S.failures feed.old) }
     ensures good { result ≢ Err Refused.BadConfig → IsRunnable config.now (size_of 32 F.Value.SIZE) 1 }
-    ensures told { IfErr result (TellsWhyNone (IsRunFault D.Receipt.keeps D.failures D.Writer.failures
-        D.Reader.failures F.Value.codec)
+    ensures told { IfErr result (TellsWhyNone (IsDeviceFault D.Receipt.keeps D.failures D.Writer.failures
+        D.Reader.failures)
         config.now (size_of 32 F.Value.SIZE) (S.remaining feed.old ∷ [])
         (S.failures feed.old ∷ []) (S.failures feed.new ∷ [])) }
 {

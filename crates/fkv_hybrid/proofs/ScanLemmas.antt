@@ -3,7 +3,7 @@ use Rattle.std.proofs.Common.{◌≡◌, ◌^◌, ◌*◌, ◌+◌, ◌/◌, ◌
 use Rattle.std.specs.Prelude.{IsTrue, IfSome, IfOk, Result, Ok, Err}
 use Rattle.std.proofs.lemmas.Nat.{div-add-mod'}
 use Rattle.fkv_device.specs.Standing.{Standing}
-use Rattle.fkv_pages.specs.Loads.{IsHeldBy}
+use Rattle.fkv_pages.specs.Loads.{HasReceipt, IsHeldBy}
 use Rattle.fkv_records.specs.Places.{IsRecordStart, page_at, start_at}
 use Rattle.fkv_texts.specs.Text.{entry_at}
 use Rattle.fkv_texts.specs.Places.{tail_after}
@@ -11,7 +11,7 @@ use Rattle.fkv_texts.proofs.PlaceLemmas.{after}
 use Rattle.fkv_regions.specs.Agree.{IsMark}
 use Rattle.fkv_regions.proofs.MoveLemmas.{mark-place, closed-flushed}
 use Rattle.fkv_pages.specs.Views.{text_begin}
-use Rattle.fkv_pages.proofs.FrameLemmas.{page_low, start_rises}
+use Rattle.fkv_pages.proofs.FrameLemmas.{page_low, page_rises, start_rises}
 use Rattle.fkv_pages.proofs.PageLemmas.{begins_low}
 use Rattle.fkv_hybrid.specs.Views.{LogView}
 use Rattle.fkv_hybrid.specs.Logs.{IsLogOf}
@@ -50,6 +50,10 @@ module _ {K V : Type 0} (keeps : Bool) (size : ℕ) (log : LogView K V) (h : IsL
       let under : page_at log.bits log.regions.offsets.closed ≤ length log.receipts = rw (← h.bits, ← h.flushed) low in
       mark_low log.bits log.regions.offsets.closed scan.address (rw (← h.bits) h.regions.in_order.closed_mark) (omega (arith, h.first, s.begun)) (omega arith)
 
+  -- the receipt of one that is flushed is held
+  pub has_receipt : page_at log.bits scan.address < length log.receipts → HasReceipt log.receipts (page_at log.bits scan.address)
+  has_receipt low = h.held (page_at log.bits scan.address) (page_rises log.bits log.begin scan.address s.begun) low
+
   pub stands : (log.from ≤ scan.address) → IsSome (entry_at log.text scan.address)
   stands low = (h.places scan.address).1 (low, more, is_place)
 
@@ -68,7 +72,7 @@ begins keeps size log h begin is = rw is (record {
 })
 
 -- a receipt is held as that of its own page
-pub own_page : (receipts : List Standing) (page : ℕ) (s : Standing) → IsHeldBy receipts page s → s.page ≡ page → IsHeldBy receipts s.page s
+pub own_page : (receipts : List (Option Standing)) (page : ℕ) (s : Standing) → IsHeldBy receipts page s → s.page ≡ page → IsHeldBy receipts s.page s
 own_page receipts page s held is = subst (λ (n : ℕ). IsHeldBy receipts n s) (sym is) held
 
 -- what holds of an answer holds of it further

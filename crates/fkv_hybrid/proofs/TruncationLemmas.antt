@@ -1,11 +1,12 @@
 -- Pages and regions stay tied where Begin moves up to a page's start.
-use Rattle.std.proofs.Common.{◌≡◌, ◌^◌, ◌<◌, ◌≤◌, ℕ, zero, suc, Bool, length, arith, subst}
+use Rattle.std.proofs.Common.{◌≡◌, ◌^◌, ◌<◌, ◌≤◌, ℕ, zero, suc, Bool, length, sym, ◌∙◌, arith, subst}
 use Rattle.fkv_records.specs.Places.{page_at, start_at, IsRecordStart}
 use Rattle.fkv_regions.specs.RegionsView.{RegionsView}
 use Rattle.fkv_regions.specs.Agree.{IsRegions}
 use Rattle.fkv_regions.proofs.OffsetLemmas.{start-mark}
-use Rattle.fkv_pages.specs.Views.{PagesView, seen_from}
+use Rattle.fkv_pages.specs.Views.{PagesView, with_let_go, seen_from}
 use Rattle.fkv_pages.proofs.FrameLemmas.{page_start, page_high}
+use Rattle.fkv_pages.proofs.ReceiptLemmas.{let_go-length}
 use Rattle.fkv_hybrid.specs.Views.{IsTruncationDue, log_view}
 use Rattle.fkv_hybrid.specs.Tied.{IsTied}
 
@@ -33,14 +34,14 @@ module _ {K V : Type 0} (pages : PagesView K V) (regions : RegionsView) (page : 
       → IsTied pages regions
       → bits ≡ pages.bits
       → start ≡ start_at bits page
-      → new ≡ seen_from keeps pages start pages.closed
+      → new ≡ with_let_go (seen_from keeps pages start pages.closed)
       → IsTied new regions
   tied_truncated keeps new bits start t same is made =
       rw (made, is, same) (record {
         bits = t.bits;
         closed = t.closed;
         frozen = t.frozen;
-        flushed = t.flushed;
+        flushed = t.flushed ∙ sym (let_go-length (page_at pages.bits (start_at pages.bits page)) pages.receipts);
         begin = due.headed;
         begun = t.begun;
         marked = start-mark pages.bits page;

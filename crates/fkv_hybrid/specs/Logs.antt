@@ -1,12 +1,13 @@
 -- What holds of every log.
-use Rattle.std.specs.Prelude.{◌≡◌, ◌^◌, ◌<◌, ◌≤◌, ◌↔◌, ℕ, Bool, IsSome, length}
-use Rattle.fkv_records.specs.Places.{IsShape, IsRecordStart}
+use Rattle.std.specs.Prelude.{◌≡◌, ◌^◌, ◌<◌, ◌≤◌, ◌↔◌, ℕ, Bool, IsSome, None, length}
+use Rattle.fkv_records.specs.Places.{IsShape, IsRecordStart, page_at}
 use Rattle.fkv_texts.specs.Places.{IsLaidOut}
 use Rattle.fkv_texts.specs.Text.{entry_at, IsRising, IsFrom, IsBelow}
 use Rattle.fkv_texts.specs.Deltas.{AreValued}
 use Rattle.fkv_epoch.specs.Timely.{IsTimely}
 use Rattle.fkv_regions.specs.Agree.{IsRegions, IsMark}
-use Rattle.fkv_pages.specs.Views.{text_begin}
+use Rattle.fkv_pages.specs.Loads.{HasReceipt}
+use Rattle.fkv_pages.specs.Views.{text_begin, receipt_at}
 use Rattle.fkv_hybrid.specs.Views.{LogView}
 
 -- on a device that keeps or not, a log of records of this size
@@ -35,5 +36,10 @@ pub record IsLogOf {K V : Type 0} (keeps : Bool) (size : ℕ) (log : LogView K V
   pub bits : log.regions.bits ≡ log.bits
   pub headed : log.begin ≤ log.regions.offsets.head
   pub read_only : log.regions.offsets.read_only ≤ log.tail
-  -- each flushed page has its receipt
+  -- each flushed page has its receipt, but for those below that of Begin, of which none is held
   pub flushed : log.regions.flushed ≡ length log.receipts
+  pub gone : (page : ℕ) → page < page_at log.bits log.begin → receipt_at log.receipts page ≡ None
+  pub held : (page : ℕ)
+      → page_at log.bits log.begin ≤ page
+      → page < length log.receipts
+      → HasReceipt log.receipts page

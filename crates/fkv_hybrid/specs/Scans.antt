@@ -25,7 +25,7 @@ HasPage scan page = IsSomeAnd scan.loaded (λ s. s.page ≡ page)
 
 -- a read of a flushed page may fail, by what its device says of the receipt that is kept of it and of a buffer as long as
 -- the page
-pub record MayFail {R : Type 0} (stands : R → Standing) (can_fail : R → ℕ → Type 0) (receipts : List Standing)
+pub record MayFail {R : Type 0} (stands : R → Standing) (can_fail : R → ℕ → Type 0) (receipts : List (Option Standing))
     (bits page : ℕ) : Type 0 where
   pub receipt : R
   pub own : IsHeldBy receipts page (stands receipt)

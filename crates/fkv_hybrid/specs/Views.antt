@@ -1,17 +1,17 @@
 -- What a contract sees of a log.
-use Rattle.std.specs.Prelude.{◌≡◌, ◌<◌, ◌≤◌, ◌+◌, ◌^◌, ℕ, Bool, IsTrue, List, [], ◌∷◌, ◌++◌, drop, Option}
+use Rattle.std.specs.Prelude.{◌≡◌, ◌<◌, ◌≤◌, ◌+◌, ◌^◌, ℕ, Bool, IsTrue, List, [], ◌∷◌, ◌++◌, drop, Option, Some}
 use Rattle.fkv_records.specs.Places.{page_at, offset_at, start_at}
 use Rattle.fkv_device.specs.Standing.{Standing}
 use Rattle.fkv_texts.specs.declared.entries.Entry.{Entry}
 use Rattle.fkv_texts.specs.Places.{tail_after}
 use Rattle.fkv_texts.specs.Text.{entry_at, changed, text_from}
-use Rattle.fkv_pages.specs.Views.{PagesView, text_begin}
+use Rattle.fkv_pages.specs.Views.{PagesView, text_begin, let_go}
 use Rattle.fkv_regions.specs.RegionsView.{RegionsView, fresh_regions, with_flushed}
 
 -- A log of pages of 2 ^ bits bytes, in so many frames and on a device. Its text has an entry at each place from `from`
 -- to below `tail`; `begin` is where entries that are not dropped begin. `regions` has the offsets and what each session
--- has seen of them. `receipts` is what the receipts of the flushed pages stand for, and `waiting` has the bytes of the
--- frozen pages that are not flushed, lowest page first.
+-- has seen of them. `receipts` has for each flushed page what its receipt stands for, and none for a page below that of
+-- Begin, whose receipt was let go. `waiting` has the bytes of the frozen pages that are not flushed, lowest page first.
 pub record LogView (K V : Type 0) : Type 0 where
   pub bits : ℕ
   pub frames : ℕ
@@ -19,7 +19,7 @@ pub record LogView (K V : Type 0) : Type 0 where
   pub from : ℕ
   pub tail : ℕ
   pub regions : RegionsView
-  pub receipts : List Standing
+  pub receipts : List (Option Standing)
   pub waiting : List (List ℕ)
   pub text : List (Entry K V)
 
@@ -90,7 +90,7 @@ with_regions log regions = record log { regions = regions }
 -- the log whose lowest waiting page is flushed, by this receipt
 abbrev pub with_receipt : {K V : Type 0} → LogView K V → Standing → LogView K V
 with_receipt log s = record log {
-  receipts = log.receipts ++ s ∷ [];
+  receipts = log.receipts ++ Some s ∷ [];
   waiting = drop 1 log.waiting;
   regions = with_flushed log.regions (log.regions.flushed + 1);
 }
@@ -116,11 +116,12 @@ pub record IsTruncationDue {K V : Type 0} (log : LogView K V) (page : ℕ) : Typ
   pub higher : log.begin < start_at log.bits page
   pub headed : start_at log.bits page ≤ log.regions.offsets.head
 
--- the log whose entries below an address are dropped
+-- the log whose entries below an address are dropped, and the receipts of the pages below its own let go
 abbrev pub truncated : {K V : Type 0} → Bool → LogView K V → ℕ → LogView K V
 truncated keeps log begin = record log {
   begin = begin;
   from = text_begin keeps begin log.regions.offsets.closed;
+  receipts = let_go (page_at log.bits begin) log.receipts;
   text = text_from (text_begin keeps begin log.regions.offsets.closed) log.text;
 }
 

@@ -5,6 +5,7 @@ ghost use Rattle.fkv_records.specs.Places.{page_at};
 ghost use Rattle.fkv_records.specs.Records.{size_of, IsPrevious};
 ghost use Rattle.fkv_device.specs.Standing.{Standing};
 ghost use Rattle.fkv_pages.specs.Spelled.{IsPageOf};
+ghost use Rattle.fkv_pages.specs.Loads.{IsHeldBy};
 ghost use Rattle.fkv_hybrid.specs.Views.{empty_log, pages_of, with_entry, IsFull};
 ghost use Rattle.fkv_hybrid.specs.Logs.{IsLogOf};
 
@@ -93,7 +94,7 @@ impl<K: Fixed, V: Fixed, R: Receipt> Log<K, V, R> {
     pub fn known(&self)
         ensures log { IsLogOf R.keeps (size_of K.SIZE V.SIZE) self.now }
         ensures receipts { (n : ℕ) (s : Standing)
-            → slice_get self.now.receipts n ≡ Some s
+            → IsHeldBy self.now.receipts n s
             → (s.page ≡ n) × (s.length ≡ 2 ^ self.now.bits) }
         // the pages from the first that is not flushed to below that of SafeReadOnly wait, each with the text's entries
         ensures waiting { length self.now.waiting

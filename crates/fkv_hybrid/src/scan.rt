@@ -8,7 +8,7 @@ ghost use Rattle.fkv_records.specs.Records.{size_of};
 ghost use Rattle.fkv_device.specs.Failing.{ReadFailsBy};
 ghost use Rattle.fkv_texts.specs.Places.{tail_after};
 ghost use Rattle.fkv_texts.specs.Text.{entry_at};
-ghost use Rattle.fkv_pages.specs.Loads.{IsHeldBy};
+ghost use Rattle.fkv_pages.specs.Loads.{HasReceipt, IsHeldBy};
 ghost use Rattle.fkv_hybrid.specs.Scans.{IsScanOf, HasPage, MayFail, IsStepRefusal};
 
 use crate::log::Log;
@@ -119,8 +119,8 @@ impl<K: Fixed, V: Fixed, R: Receipt> Log<K, V, R> {
         held: Option<Loaded<R>>,
         page: u64,
     ) -> Result<Loaded<R>, Refused>
-        requires flushed { page < length self.now.receipts }
-        requires held { IfSome held (λ l. IsHeldBy self.now.receipts (R.stands l.receipt).page
+        requires held { HasReceipt self.now.receipts page }
+        requires own { IfSome held (λ l. IsHeldBy self.now.receipts (R.stands l.receipt).page
             (R.stands l.receipt)) }
         ensures own { IfOk result (λ l. IsHeldBy self.now.receipts page (R.stands l.receipt)) }
         ensures page { IfOk result (λ l. (R.stands l.receipt).page ≡ page) }
@@ -149,7 +149,7 @@ impl<K: Fixed, V: Fixed, R: Receipt> Log<K, V, R> {
         reader: &mut P,
         page: u64,
     ) -> Result<Loaded<R>, Refused>
-        requires flushed { page < length self.now.receipts }
+        requires held { HasReceipt self.now.receipts page }
         ensures own { IfOk result (λ l. IsHeldBy self.now.receipts page (R.stands l.receipt)) }
         ensures page { IfOk result (λ l. (R.stands l.receipt).page ≡ page) }
         ensures steady { OnOk result (P.failures reader.new ≡ P.failures reader.old) }

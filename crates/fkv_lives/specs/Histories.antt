@@ -1,5 +1,5 @@
 -- Which operations were issued, and what was answered: read off the steps and what each was told.
-use Rattle.std.specs.Prelude.{ℕ, suc, ◌==◌, ◌&&◌, cond, List, [], ◌∷◌, ◌++◌, Option, Some, None, Result, Ok, Err}
+use Rattle.std.specs.Prelude.{ℕ, suc, ◌==◌, ◌&&◌, Bool, false, cond, List, [], ◌∷◌, ◌++◌, Option, Some, None, option_map, Result, Ok, Err}
 use Rattle.fkv_functions.specs.declared.refusals.Refused.{Refused}
 use Rattle.fkv_operations.specs.declared.operations.Answer.{Answer}
 use Rattle.fkv_operations.specs.declared.operations.Op.{Op}
@@ -7,6 +7,7 @@ use Rattle.fkv_lives.specs.declared.lives.Life.{Life}
 use Rattle.fkv_lives.specs.declared.outcomes.Outcome.{Outcome}
 use Rattle.fkv_lives.specs.declared.outcomes.Outcome.TheVariants.{Entered, Left, Refreshed, Shifted, Taken, Flushed, Issued, Next, Build, Load, Waits, Done, GivenUp, Truncated}
 use Rattle.fkv_lives.specs.Told.{took_moment}
+use Rattle.fkv_lives.specs.declared.steps.ContextId.{ContextId}
 use Rattle.fkv_lives.specs.declared.steps.Step.{Step}
 use Rattle.fkv_lives.specs.declared.steps.Step.TheVariants as step
 
@@ -81,6 +82,46 @@ issues_in (e ∷ before) = issues_in before ++ issue_by (issued_at e.told e.step
 -- what was issued where a life began
 abbrev pub issue_of : {K V I O : Type 0} → Life K V I O → IssuedOp K V I
 issue_of x = record { partition = x.partition; session = x.session; op = x.op; issue = x.issue }
+
+-- the context that an accepted issue was given
+abbrev pub given_at : {K V I O : Type 0} → Result (Outcome V O) Refused → Step K V I → Option ContextId
+given_at (Err e) s = None
+given_at (Ok (Issued c)) (step.Issue p slot op) = Some (record { partition = p; slot = slot; context = c })
+given_at (Ok x) s = None
+
+abbrev pub is_same : ContextId → Option ContextId → Bool
+is_same w None = false
+is_same w (Some u) = w.partition == u.partition && w.slot == u.slot && w.context == u.context
+
+-- the step of the last accepted issue that was given a context, whose number is given anew once an operation has ended;
+-- 0 where none was
+abbrev pub given_in : {K V I O : Type 0} → ContextId → List (Event K V I O) → ℕ
+given_in w [] = 0
+given_in w (e ∷ before) =
+    cond (is_same w (given_at e.told e.step)) (suc (moments before)) (given_in w before)
+
+-- the context in which a step goes on with an operation
+abbrev pub context_of : {K V I : Type 0} → Step K V I → Option ContextId
+context_of (step.Enter p) = None
+context_of (step.Leave p slot) = None
+context_of (step.Refresh p slot) = None
+context_of (step.ReadOnly p page) = None
+context_of (step.Take p) = None
+context_of (step.Write p access) = None
+context_of (step.Head p page) = None
+context_of (step.Issue p slot op) = None
+context_of (step.Go w) = Some w
+context_of (step.Install w) = Some w
+context_of (step.Load w access) = Some w
+context_of (step.GiveUp w) = None
+context_of (step.Truncate p) = None
+
+-- the issue of what a step went on with, both by their numbers: the last issue before it that was given its context
+abbrev pub issue_at : {K V I O : Type 0} → List (Event K V I O) → ℕ → Option ℕ
+issue_at [] s = None
+issue_at (e ∷ before) s =
+    cond (took_moment e.told && suc (moments before) == s) (option_map (λ w. given_in w before) (context_of e.step))
+    (issue_at before s)
 
 -- the answers that were told, in order
 abbrev pub answer_by : {V O : Type 0} → Result (Outcome V O) Refused → List (Answer O) → List (Answer O)

@@ -6,3 +6,4 @@ pub mod Changes
 pub mod WrongLives
 pub mod Told
 pub mod Histories
+pub mod Accounts

@@ -1,14 +1,11 @@
--- How the lives account for what was told: the outcomes of the steps, and the lives that they began and ended.
-use Rattle.std.specs.Prelude.{◌≡◌, ◌==◌, Bool, true, false, cond, ℕ, zero, suc, List, [], ◌∷◌, Option, Some, None, Result, Ok, Err, length, map, slice_get}
+-- What the steps were told: which took a moment, which answered, and which issued.
+use Rattle.std.specs.Prelude.{◌==◌, Bool, true, false, cond, ℕ, zero, suc, List, [], ◌∷◌, Option, Some, None, Result, Ok, Err, slice_get}
 use Rattle.std.specs.List.{filter}
 use Rattle.fkv_functions.specs.declared.refusals.Refused.{Refused}
 use Rattle.fkv_functions.specs.declared.refusals.Refused.TheVariants.{NoMemory, BadConfig, NoSlot, NoContext, Unknown, Busy, NotDue, DrainFull, Stranger, Worn, Device, Damaged, Stalled, Mismatch, BadRow, BadScript, NotReady, Unreadable, Unwritable, NoMerge}
 use Rattle.fkv_operations.specs.declared.operations.Answer.{Answer}
-use Rattle.fkv_lives.specs.declared.lives.Life.{Life}
-use Rattle.fkv_lives.specs.declared.lives.Finish.{Finish}
 use Rattle.fkv_lives.specs.declared.outcomes.Outcome.{Outcome}
 use Rattle.fkv_lives.specs.declared.outcomes.Outcome.TheVariants.{Entered, Left, Refreshed, Shifted, Taken, Flushed, Issued, Next, Build, Load, Waits, Done, GivenUp, Truncated}
-use Rattle.fkv_lives.specs.Lives.{finish_of}
 
 -- whether a refusal ends the operation that it is told to: that of a page which could not be read, or is damaged
 abbrev pub ends_operation : Refused → Bool
@@ -94,25 +91,3 @@ is_issue (Err e) = false
 abbrev pub issues_from : {V O : Type 0} → ℕ → List (Result (Outcome V O) Refused) → List ℕ
 issues_from s [] = []
 issues_from s (t ∷ rest) = cond (is_issue t) (s ∷ issues_from (suc s) rest) (issues_from (suc s) rest)
-
--- there is one life for each accepted issue, in their order, and no other; and the answers told are those of the
--- finished lives, each told at its own step and once
-pub record IsAccount {K V I O : Type 0} (lives : List (Life K V I O)) (outcomes : List (Result (Outcome V O) Refused))
-    (now : ℕ) : Type 0 where
-  pub counted : length outcomes ≡ now
-  pub issued : map (λ (x : Life K V I O). x.issue) lives ≡ issues_from 1 outcomes
-  pub told : (j : ℕ) (x : Life K V I O) (t : Finish O)
-      → slice_get lives j ≡ Some x
-      → finish_of x ≡ Some t
-      → told_at outcomes t.done ≡ Some t.answer
-  pub once : (i j : ℕ) (x y : Life K V I O) (t u : Finish O)
-      → slice_get lives i ≡ Some x
-      → slice_get lives j ≡ Some y
-      → finish_of x ≡ Some t
-      → finish_of y ≡ Some u
-      → t.done ≡ u.done
-      → i ≡ j
-  pub owned : (s : ℕ) (a : Answer O)
-      → told_at outcomes s ≡ Some a
-      → (j : ℕ) × (x : Life K V I O) × (t : Finish O) × (slice_get lives j ≡ Some x) × (finish_of x ≡ Some t) ×
-      (t.done ≡ s) × (t.answer ≡ a)

@@ -1,6 +1,6 @@
 -- What the definitions refuse, on small lists of lives: keys, values, inputs and outputs are numbers, the functions
 -- any.
-use Rattle.std.specs.Prelude.{◌≡◌, ◌≤◌, ◌<◌, true, ℕ, [], ◌∷◌, Some, None, Ok, Err}
+use Rattle.std.specs.Prelude.{◌≡◌, ◌≤◌, ◌<◌, true, ℕ, List, [], ◌∷◌, map, Some, None, Result, Ok, Err}
 use Rattle.std.specs.Ordering.{nat_cmp}
 use Rattle.fkv_functions.specs.Meanings.{Meanings}
 use Rattle.fkv_operations.specs.declared.operations.Op.{Op}
@@ -9,13 +9,17 @@ use Rattle.fkv_operations.specs.declared.operations.Answer.{Answer}
 use Rattle.fkv_operations.specs.declared.operations.Answer.TheVariants.{Absent, Stored, Deleted, Cleared}
 use Rattle.fkv_lives.specs.declared.lives.Life.{Life}
 use Rattle.fkv_lives.specs.declared.lives.End.TheVariants.{Open, Finished}
+use Rattle.fkv_functions.specs.declared.refusals.Refused.{Refused}
 use Rattle.fkv_functions.specs.declared.refusals.Refused.TheVariants.{Unknown}
 use Rattle.fkv_operations.specs.After.{told_of}
 use Rattle.fkv_operations.specs.Operations.{may_update}
+use Rattle.fkv_lives.specs.declared.outcomes.Outcome.{Outcome}
 use Rattle.fkv_lives.specs.declared.outcomes.Outcome.TheVariants.{Entered, Left, Issued, Done}
-use Rattle.fkv_lives.specs.declared.steps.Step.TheVariants.{Enter, Leave, Issue}
-use Rattle.fkv_lives.specs.Histories.{backwards, issues_in}
-use Rattle.fkv_lives.specs.Told.{IsAccount}
+use Rattle.fkv_lives.specs.declared.steps.ContextId.{ContextId}
+use Rattle.fkv_lives.specs.declared.steps.Step.TheVariants.{Enter, Leave, Issue, Go}
+use Rattle.fkv_lives.specs.Accounts.{IsAccount}
+use Rattle.fkv_lives.specs.Histories.{Event, backwards, issues_in, issue_of, issue_at}
+use Rattle.fkv_lives.specs.Told.{taken}
 use Rattle.fkv_lives.specs.Lives.{map_before}
 use Rattle.fkv_lives.specs.Placed.{IsPlaced}
 
@@ -79,11 +83,11 @@ RefusesEarlyUpdates = (f : Numbers) (op : Op ℕ ℕ ℕ) (issue effect done now
 
 -- an answer that was told without a life
 abbrev pub RefusesUnowned : Type 0
-RefusesUnowned = (now : ℕ) (a : Answer ℕ) → IsAccount {K = ℕ} {V = ℕ} {I = ℕ} [] (Ok (Done a) ∷ []) now → ⊥
+RefusesUnowned = (h : List (Event ℕ ℕ ℕ ℕ)) (now : ℕ) (a : Answer ℕ) → IsAccount [] (Ok (Done a) ∷ []) h now → ⊥
 
 -- a life without an issue
 abbrev pub RefusesUnissued : Type 0
-RefusesUnissued = (now : ℕ) (x : Life ℕ ℕ ℕ ℕ) → IsAccount (x ∷ []) [] now → ⊥
+RefusesUnissued = (h : List (Event ℕ ℕ ℕ ℕ)) (now : ℕ) (x : Life ℕ ℕ ℕ ℕ) → IsAccount (x ∷ []) [] h now → ⊥
 
 -- what was issued is read off the steps: of two sessions in a partition the second issues, leaves, and a third takes its
 -- slot and issues; of another partition nothing is read
@@ -94,3 +98,37 @@ ReadsIssues = (p q : Op ℕ ℕ ℕ)
     (Ok (Entered 0) ∷ Ok (Entered 0) ∷ Ok (Entered 1) ∷ Ok (Issued 0) ∷ Ok Left ∷ Ok (Entered 1) ∷ Err Unknown
     ∷ Ok (Issued 0) ∷ []) [])
     ≡ record { partition = 1; session = 2; op = p; issue = 4 } ∷ record { partition = 1; session = 3; op = q; issue = 7 } ∷ []
+
+-- a life of another operation than was issued
+abbrev pub RefusesUnasked : Type 0
+RefusesUnasked = (p q : Op ℕ ℕ ℕ)
+    → map issue_of (opened p 2 ∷ [])
+    ≡ issues_in {O = ℕ} (backwards (Enter 0 ∷ Issue 0 0 q ∷ []) (Ok (Entered 0) ∷ Ok (Issued 0) ∷ []) [])
+    → p ≡ q
+
+-- a context of the first session of partition 0
+abbrev pub first : ℕ → ContextId
+first c = record { partition = 0; slot = 0; context = c }
+
+-- two operations are open at once, and the answers are crossed: the step that goes on with the blind write is told
+-- Deleted, and the one that goes on with the delete is told Stored
+abbrev pub crossed : List (Result (Outcome ℕ ℕ) Refused)
+crossed = Ok (Entered 0) ∷ Ok (Issued 0) ∷ Ok (Issued 1) ∷ Ok (Done Deleted) ∷ Ok (Done Stored) ∷ []
+
+abbrev pub RefusesCrossed : Type 0
+RefusesCrossed = (k q v now : ℕ)
+    → IsAccount (finished (Upsert k v) 2 5 5 Stored ∷ finished (Delete q) 3 4 4 Deleted ∷ []) (taken crossed)
+    (backwards (Enter 0 ∷ Issue 0 0 (Upsert k v) ∷ Issue 0 0 (Delete q) ∷ Go (first 0) ∷ Go (first 1) ∷ []) crossed [])
+    now
+    → ⊥
+
+-- what a step goes on with is read off the steps: the second operation is answered, its context is given to a third, and
+-- then the first and the third are answered
+abbrev pub ReadsOwners : Type 0
+ReadsOwners = (p q r : Op ℕ ℕ ℕ) (a b c : Answer ℕ) (h : List (Event ℕ ℕ ℕ ℕ))
+    → h ≡ backwards
+    (Enter 0 ∷ Issue 0 0 p ∷ Issue 0 0 q ∷ Go (first 1) ∷ Issue 0 0 r ∷ Go (first 0) ∷ Go (first 1) ∷ [])
+    (Ok (Entered 0) ∷ Ok (Issued 0) ∷ Ok (Issued 1) ∷ Ok (Done a) ∷ Ok (Issued 1) ∷ Ok (Done b) ∷ Ok (Done c) ∷ []) []
+    → (issue_at h 4 ≡ Some 3)
+    × (issue_at h 6 ≡ Some 2)
+    × (issue_at h 7 ≡ Some 5)

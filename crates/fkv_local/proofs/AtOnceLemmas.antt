@@ -7,6 +7,7 @@ use Rattle.fkv_functions.specs.Meanings.{Meanings}
 use Rattle.fkv_functions.specs.Plain.{Same}
 use Rattle.fkv_device.specs.Standing.{Standing}
 use Rattle.fkv_texts.specs.Text.{live}
+use Rattle.fkv_regions.specs.Settled.{IsSettled}
 use Rattle.fkv_operations.specs.After.{after, answer}
 use Rattle.fkv_operations.specs.Operations.{map_after, answer_to}
 use Rattle.fkv_operations.specs.declared.operations.KeyedOp.TheVariants as keyed
@@ -44,6 +45,7 @@ at-once_runs {K} {V} {I} stands cmp join f code v w key input issued now shown i
   count = d.event.frame.count ∙ d.issue.frame.count;
   idle = record {
     entered = ap (λ r. is_session r.epochs.slots 0) (d.event.frame.regions ∙ d.issue.frame.regions) ∙ i.entered;
+    settled = subst IsSettled (sym (d.event.frame.regions ∙ d.issue.frame.regions)) i.settled;
     free = λ c. none-mapped key_effect.asked_by (context_at w.core 0 c) (no-operation (key_effect.asked w.core 0 c) (relocation_at w 0 c) (none c));
     relocations = λ c. no-relocation (key_effect.asked w.core 0 c) (relocation_at w 0 c) (none c);
   };

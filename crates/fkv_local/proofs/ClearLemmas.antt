@@ -4,6 +4,7 @@ use Rattle.std.proofs.lemmas.Bool.Decides.{nat_tests}
 use Rattle.std.specs.declared.cmp.Ordering.{Ordering}
 use Rattle.fkv_functions.specs.declared.refusals.Refused.{Refused}
 use Rattle.fkv_texts.specs.Text.{live}
+use Rattle.fkv_regions.specs.Settled.{IsSettled}
 use Rattle.fkv_partition.specs.CoreContexts.{is_session}
 use Rattle.fkv_partition.specs.CoreEffect as key_effect
 use Rattle.fkv_partition.specs.CoreViews.{slots_of, context_at}
@@ -19,18 +20,19 @@ use Rattle.fkv_local.proofs.AtOnceLemmas.{no-operation, no-relocation, unasked}
 
 module _ {K V I : Type 0} where
   -- what asks nothing is open for nothing
-  pub asks-nothing : (w : PartitionView K V I) → is_session (slots_of w.core) 0 ≡ true → ((d : ℕ) → asked w 0 d ≡ None) → IsIdle w 0
-  asks-nothing w entered none = record {
+  pub asks-nothing : (w : PartitionView K V I) → is_session (slots_of w.core) 0 ≡ true → IsSettled w.core.records.regions → ((d : ℕ) → asked w 0 d ≡ None) → IsIdle w 0
+  asks-nothing w entered settled none = record {
     entered = entered;
+    settled = settled;
     free = λ c. none-mapped key_effect.asked_by (context_at w.core 0 c) (no-operation (key_effect.asked w.core 0 c) (relocation_at w 0 c) (none c));
     relocations = λ c. no-relocation (key_effect.asked w.core 0 c) (relocation_at w 0 c) (none c);
   }
 
   pub idle-but : (v : PartitionView K V I) (c : ℕ) → IsIdle v 0 → IsIdleBut v 0 c
-  idle-but v c i = record { entered = i.entered; free = i.free; relocations = λ d n. i.relocations d }
+  idle-but v c i = record { entered = i.entered; settled = i.settled; free = i.free; relocations = λ d n. i.relocations d }
 
   pub but-idle : (v : PartitionView K V I) (c : ℕ) → IsIdleBut v 0 c → relocation_at v 0 c ≡ None → IsIdle v 0
-  but-idle v c i none = record { entered = i.entered; free = i.free; relocations = λ d. by d (nat_lt d c) (nat_lt c d) refl refl }
+  but-idle v c i none = record { entered = i.entered; settled = i.settled; free = i.free; relocations = λ d. by d (nat_lt d c) (nat_lt c d) refl refl }
     where
       by : (d : ℕ) (a b : Bool) → nat_lt d c ≡ a → nat_lt c d ≡ b → relocation_at v 0 d ≡ None
       by d true b p q = i.relocations d (λ e. absurd (let l : d < c = grind (arith, nat_tests) in omega arith))
@@ -79,6 +81,7 @@ module _ {K V I : Type 0} {keeps : Bool} {cmp : K → K → Ordering} where
     count = r.count;
     idle = record {
       entered = ap (λ x. is_session x.epochs.slots 0) r.regions ∙ i.entered;
+      settled = subst IsSettled (sym r.regions) i.settled;
       free = λ d. none-mapped key_effect.asked_by (context_at w.core 0 d) (r.same 0 d ∙ ap (option_map key_effect.asked_by) (i.free d));
       relocations = λ d n. r.others 0 d (inr n) ∙ i.relocations d n;
     };
@@ -90,7 +93,7 @@ module _ {K V I : Type 0} {keeps : Bool} {cmp : K → K → Ordering} where
   given-up v w c now i h = record {
     number = h.frame.number;
     count = h.frame.count;
-    idle = asks-nothing w (ap (λ x. is_session x.epochs.slots 0) h.frame.regions ∙ i.entered) (λ d. by d (nat_lt d c) (nat_lt c d) refl refl);
+    idle = asks-nothing w (ap (λ x. is_session x.epochs.slots 0) h.frame.regions ∙ i.entered) (subst IsSettled (sym h.frame.regions) i.settled) (λ d. by d (nat_lt d c) (nat_lt c d) refl refl);
     live = λ k q. ap (λ t. live cmp t q) h.text;
   }
     where
@@ -127,6 +130,6 @@ module _ {K V I : Type 0} {keeps : Bool} {cmp : K → K → Ordering} where
   truncation-stays v w page now i t = record {
     number = t.number;
     count = t.count;
-    idle = asks-nothing w (ap (λ x. is_session x.epochs.slots 0) t.regions ∙ i.entered) (λ d. t.same 0 d ∙ unasked v d i);
+    idle = asks-nothing w (ap (λ x. is_session x.epochs.slots 0) t.regions ∙ i.entered) (subst IsSettled (sym t.regions) i.settled) (λ d. t.same 0 d ∙ unasked v d i);
     live = t.live;
   }

@@ -4,8 +4,9 @@ use Rattle.std.proofs.lemmas.Bool.Decides.{nat_tests}
 use Rattle.std.specs.declared.cmp.Ordering.{Ordering}
 use Rattle.fkv_functions.specs.Meanings.{Meanings}
 use Rattle.fkv_functions.specs.Plain.{Same}
+use Rattle.fkv_regions.specs.Settled.{IsSettled}
 use Rattle.fkv_functions.specs.declared.refusals.Refused.{Refused}
-use Rattle.fkv_functions.specs.declared.refusals.Refused.TheVariants.{Worn, Damaged}
+use Rattle.fkv_functions.specs.declared.refusals.Refused.TheVariants.{Worn}
 use Rattle.fkv_operations.specs.After.{key_of, after, answer}
 use Rattle.fkv_operations.specs.AfterLaws.{same_map}
 use Rattle.fkv_operations.specs.declared.operations.KeyedOp.{KeyedOp}
@@ -17,7 +18,7 @@ use Rattle.fkv_partition.specs.declared.contexts.Context.{Context}
 use Rattle.fkv_partition.specs.CoreContexts.{joined, is_session, context_in, on_key, relocating}
 use Rattle.fkv_partition.specs.CoreEnding.{GivesUp}
 use Rattle.fkv_partition.specs.CoreEffect.{asked_by, LeavesOthers, IsGiveUp}
-use Rattle.fkv_partition.specs.CoreViews.{CoreView, slots_of, held_at, context_at, live_of, partition_of}
+use Rattle.fkv_partition.specs.CoreViews.{seen_at, CoreView, slots_of, held_at, context_at, live_of, partition_of}
 use Rattle.fkv_partition.specs.Beginning.{IsFirstFree, IsFree, IssuesOnKey}
 use Rattle.fkv_partition.specs.declared.contexts.OpenWork.{OpenWork}
 use Rattle.fkv_partition.specs.declared.contexts.OpenWork.TheVariants.{OnKey, Relocating}
@@ -25,10 +26,14 @@ use Rattle.fkv_partition.specs.Events.{IsPassedOn}
 use Rattle.fkv_partition.specs.Views.{PartitionView}
 use Rattle.fkv_alone.proofs.KeyLemmas.{rest-then}
 use Rattle.fkv_alone.specs.Ending.{Ends, IsOver, IsStop}
-use Rattle.fkv_alone.specs.Spoilt.{Spelling, IsSpoilt}
 use Rattle.fkv_alone.specs.Stages.{IsWaiting}
 use Rattle.fkv_local.specs.Resting.{IsIdle, StaysIdle}
-use Rattle.fkv_local.specs.Moving.{IsTidied, IsMoveRefusal}
+use Rattle.fkv_local.proofs.WaitLemmas.{waits-full}
+use Rattle.fkv_regions.specs.declared.offsets.View.{View}
+use Rattle.fkv_regions.specs.Offsets.{view_of, view_at}
+use Rattle.fkv_regions.specs.RegionsView.{RegionsView}
+use Rattle.fkv_lookups.specs.RecordsViews.{RecordsView, IsFull}
+use Rattle.fkv_local.specs.Moving.{IsTidied, StaysSettled, IsMoveRefusal}
 use Rattle.fkv_local.specs.Storing.{Runs}
 use Rattle.fkv_local.specs.Failures.{Failures, failures_of, IsBeside}
 use Rattle.fkv_local.specs.Refusing.{IsWorkRefusal, IsStopped, IsRefusedBy}
@@ -53,6 +58,7 @@ module _ {K V I : Type 0} where
   pub idle-left : (v w : PartitionView K V I) (c now : ℕ) → IsIdle v 0 → LeavesOthers v.core w.core 0 c now → IsPassedOn v w → context_at w.core 0 c ≡ None → IsIdle w 0
   idle-left v w c now i frame rest closed = record {
     entered = entered;
+    settled = subst IsSettled (sym frame.regions) i.settled;
     free = λ d. free d (nat_lt d c) (nat_lt c d) refl refl;
     relocations = λ d. ap (λ t. relocating (context_in t w.core.contexts 0 d)) slots ∙ kept (is_session (slots_of v.core) 0 && nat_lt d 8) d ∙ i.relocations d;
   }
@@ -76,9 +82,10 @@ module _ {K V I : Type 0} where
       free d false false p q = let same : d ≡ c = grind (arith, nat_tests) in rw same closed
 
   -- pages that move leave it
-  pub idle-tidied : (keeps : Bool) (cmp : K → K → Ordering) (v w : PartitionView K V I) → IsIdle v 0 → IsTidied keeps cmp v w → IsIdle w 0
-  idle-tidied keeps cmp v w i t = record {
+  pub idle-tidied : (keeps : Bool) (cmp : K → K → Ordering) (v w : PartitionView K V I) → IsIdle v 0 → IsTidied keeps cmp v w → StaysSettled v w → IsIdle w 0
+  idle-tidied keeps cmp v w i t settles = record {
     entered = t.sessions 0 ∙ i.entered;
+    settled = settles i.settled;
     free = λ c. ap on_key (held c) ∙ i.free c;
     relocations = λ c. ap relocating (held c) ∙ i.relocations c;
   }
@@ -98,17 +105,17 @@ module _ {K V I : Type 0} where
       by true p = absurd (f.2 0 (grind (arith, nat_tests)) (zero-free v i))
       by false p = grind (arith, nat_tests)
 
-  pub stays-tidied : {keeps : Bool} {cmp : K → K → Ordering} {u v w : PartitionView K V I} → StaysIdle keeps cmp u v → IsTidied keeps cmp v w → StaysIdle keeps cmp u w
-  stays-tidied {keeps} {cmp} {u} {v} {w} s t = record {
+  pub stays-tidied : {keeps : Bool} {cmp : K → K → Ordering} {u v w : PartitionView K V I} → StaysIdle keeps cmp u v → IsTidied keeps cmp v w → StaysSettled v w → StaysIdle keeps cmp u w
+  stays-tidied {keeps} {cmp} {u} {v} {w} s t settles = record {
     number = t.number ∙ s.number;
     count = t.count ∙ s.count;
-    idle = idle-tidied keeps cmp v w s.idle t;
+    idle = idle-tidied keeps cmp v w s.idle t settles;
     live = λ k q. t.live k q ∙ s.live k q;
   }
 
 module _ {K V I : Type 0} {keeps : Bool} {cmp : K → K → Ordering} where
-  pub stays-new : {u v : PartitionView K V I} → IsIdle u 0 → IsTidied keeps cmp u v → StaysIdle keeps cmp u v
-  stays-new {u} {v} i t = record { number = t.number; count = t.count; idle = idle-tidied keeps cmp u v i t; live = t.live }
+  pub stays-new : {u v : PartitionView K V I} → IsIdle u 0 → IsTidied keeps cmp u v → StaysSettled u v → StaysIdle keeps cmp u v
+  stays-new {u} {v} i t settles = record { number = t.number; count = t.count; idle = idle-tidied keeps cmp u v i t settles; live = t.live }
 
   -- an operation that begins later
   pub runs-since : {O : Type 0} {f : Meanings K V I O} {op : KeyedOp K V I} {u v w : PartitionView K V I} (r : Result (Answer O) Refused) → StaysIdle keeps cmp u v → Runs keeps cmp f v w op r → Runs keeps cmp f u w op r
@@ -134,44 +141,37 @@ over-stays {K} {V} {I} {keeps} {cmp} u v w c s over rest = record {
   live = λ k q. ap (λ r. live cmp r.text q) over.records ∙ s.live k q;
 }
 
-module _ {K V I : Type 0} {merges : Bool} {entry : Spelling K V} {cmp : K → K → Ordering} {op : KeyedOp K V I} {tries tail clock : ℕ} {e : Refused} where
+module _ {K V I : Type 0} {keeps merges : Bool} {op : KeyedOp K V I} {tail clock : ℕ} {e : Refused} where
   -- by the partition's own event, over this log
-  stopped : {began before after_ writes writes_now : ℕ} → ((page : ℕ) → e ≡ Damaged page → after_ ≡ before → IsSpoilt entry cmp page) → IsStop tail before after_ e → writes_now ≡ writes → IsStopped merges entry cmp op tries tail began clock (both writes before) (both writes_now after_) e
-  stopped spoilt (IsStop.memory a b) same = IsStopped.unworked (IsWorkRefusal.no_memory a (same-both same b))
-  stopped spoilt (IsStop.worn a b d) same = IsStopped.unworked (IsWorkRefusal.no_address a b (same-both same d))
-  stopped spoilt (IsStop.device page a b) same = IsStopped.unworked (IsWorkRefusal.unread page (inl (inr (a, b))) same)
-  stopped spoilt (IsStop.damaged page a b) same = IsStopped.unworked (IsWorkRefusal.unread page (inr (a, b)) same)
-  stopped spoilt (IsStop.misspelled page a b) same = IsStopped.unworked (IsWorkRefusal.misspelled page (spoilt page a b) a (same-both same b))
+  stopped : {before after_ writes writes_now : ℕ} → IsStop keeps tail before after_ e → writes_now ≡ writes → IsStopped keeps merges op tail clock (both writes before) (both writes_now after_) e
+  stopped (IsStop.memory a b) same = IsStopped.unworked (IsWorkRefusal.no_memory a (same-both same b))
+  stopped (IsStop.worn a b d) same = IsStopped.unworked (IsWorkRefusal.no_address a b (same-both same d))
+  stopped (IsStop.device page a b) same = IsStopped.unworked (IsWorkRefusal.unread page (inl (inr (a, b))) same)
+  stopped (IsStop.damaged page a b) same = IsStopped.unworked (IsWorkRefusal.unread page (inr (a, b)) same)
+  stopped (IsStop.misspelled page loose a b) same = IsStopped.unworked (IsWorkRefusal.misspelled page loose a (same-both same b))
 
   -- or since pages are not moved
-  pub move-stopped : {began writes writes_now before after_ : ℕ} → IsMoveRefusal clock writes writes_now e → after_ ≡ before → IsStopped merges entry cmp op tries tail began clock (both writes before) (both writes_now after_) e
+  pub move-stopped : {writes writes_now before after_ : ℕ} → IsMoveRefusal clock writes writes_now e → after_ ≡ before → IsStopped keeps merges op tail clock (both writes before) (both writes_now after_) e
   move-stopped h same = IsStopped.unworked (move-work h same)
 
   -- from counts that are the same
-  pub stopped-from : {began w w_now r r_now w_first r_first : ℕ} → w ≡ w_first → r ≡ r_first → IsStopped merges entry cmp op tries tail began clock (both w r) (both w_now r_now) e → IsStopped merges entry cmp op tries tail began clock (both w_first r_first) (both w_now r_now) e
-  stopped-from {began} {w} {w_now} {r} {r_now} p q h = subst (λ f. IsStopped merges entry cmp op tries tail began clock f (both w_now r_now) e) (same-both p q) h
+  pub stopped-from : {w w_now r r_now w_first r_first : ℕ} → w ≡ w_first → r ≡ r_first → IsStopped keeps merges op tail clock (both w r) (both w_now r_now) e → IsStopped keeps merges op tail clock (both w_first r_first) (both w_now r_now) e
+  stopped-from {w} {w_now} {r} {r_now} p q h = subst (λ f. IsStopped keeps merges op tail clock f (both w_now r_now) e) (same-both p q) h
 
-  module _ {began first : ℕ} (later : first ≤ began) where
-    -- by a call that began earlier
-    pub stopped-since : {old now : Failures} → IsStopped merges entry cmp op tries tail began clock old now e → IsStopped merges entry cmp op tries tail first clock old now e
-    stopped-since (IsStopped.unworked h) = IsStopped.unworked h
-    stopped-since (IsStopped.stalled a b s) = IsStopped.stalled a (omega arith) s
-    stopped-since (IsStopped.unmerged a b m s) = IsStopped.unmerged a b m s
+  -- after a compaction that began by itself
+  pub refused-by : {W P : Type 0} {writes : W → ℕ} {reads : P → ℕ} {keeps_log : Bool} {writer writer_now : W} {reader reader_now : P} (writer_then : W) (reader_then : P) → IsBeside keeps_log (failures_of writes reads writer reader) (failures_of writes reads writer_then reader_then)
+      → IsStopped keeps merges op tail clock (failures_of writes reads writer_then reader_then) (failures_of writes reads writer_now reader_now) e → IsRefusedBy keeps merges keeps_log writes reads op tail clock writer reader writer_now reader_now e
+  refused-by writer_then reader_then beside h = record { writer_then = writer_then; reader_then = reader_then; beside = beside; stopped = h }
 
-    -- after a compaction that began by itself
-    pub refused-by : {W P : Type 0} {writes : W → ℕ} {reads : P → ℕ} {keeps_log : Bool} {writer writer_now : W} {reader reader_now : P} (writer_then : W) (reader_then : P) → IsBeside keeps_log (failures_of writes reads writer reader) (failures_of writes reads writer_then reader_then)
-        → IsStopped merges entry cmp op tries tail began clock (failures_of writes reads writer_then reader_then) (failures_of writes reads writer_now reader_now) e → IsRefusedBy merges keeps_log entry cmp writes reads op tries tail first clock writer reader writer_now reader_now e
-    refused-by writer_then reader_then beside h = record { writer_then = writer_then; reader_then = reader_then; beside = beside; stopped = stopped-since h }
-
-  module _ {W P : Type 0} {writes : W → ℕ} {reads : P → ℕ} {keeps_log : Bool} {began : ℕ} {writer writer_now : W} {reader reader_now : P} where
-    pub move-refused : IsMoveRefusal clock (writes writer) (writes writer_now) e → reads reader_now ≡ reads reader → IsRefusedBy merges keeps_log entry cmp writes reads op tries tail began clock writer reader writer_now reader_now e
+  module _ {W P : Type 0} {writes : W → ℕ} {reads : P → ℕ} {keeps_log : Bool} {writer writer_now : W} {reader reader_now : P} where
+    pub move-refused : IsMoveRefusal clock (writes writer) (writes writer_now) e → reads reader_now ≡ reads reader → IsRefusedBy keeps merges keeps_log writes reads op tail clock writer reader writer_now reader_now e
     move-refused h same = record { writer_then = writer; reader_then = reader; beside = inl refl; stopped = move-stopped h same }
 
     pub worn-refused : (writer_then : W) → IsBeside keeps_log (failures_of writes reads writer reader) (failures_of writes reads writer_then reader_now) → writes writer_now ≡ writes writer_then → (e ≡ Worn) × (2 ^ 64 ≤ clock + 2)
-        → IsRefusedBy merges keeps_log entry cmp writes reads op tries tail began clock writer reader writer_now reader_now e
+        → IsRefusedBy keeps merges keeps_log writes reads op tail clock writer reader writer_now reader_now e
     worn-refused writer_then beside same h = record { writer_then = writer_then; reader_then = reader_now; beside = beside; stopped = IsStopped.unworked (worn-work h.0 h.1 same refl) }
 
-unissued : {K V I : Type 0} {merges : Bool} {entry : Spelling K V} {cmp : K → K → Ordering} {op : KeyedOp K V I} {code : K → ℕ} {tries tail began clock before after_ writes writes_now : ℕ} (v w : PartitionView K V I) (now : ℕ) (e : Refused) → IsIdle v 0 → partition_of v.core.count (code (key_of op)) ≡ v.core.number → v.core.merges ≡ merges → IssuesOnKey code v w 0 op now (Err e) → after_ ≡ before → writes_now ≡ writes → IsStopped merges entry cmp op tries tail began clock (both writes before) (both writes_now after_) e
+unissued : {K V I : Type 0} {keeps merges : Bool} {op : KeyedOp K V I} {code : K → ℕ} {tail clock before after_ writes writes_now : ℕ} (v w : PartitionView K V I) (now : ℕ) (e : Refused) → IsIdle v 0 → partition_of v.core.count (code (key_of op)) ≡ v.core.number → v.core.merges ≡ merges → IssuesOnKey code v w 0 op now (Err e) → after_ ≡ before → writes_now ≡ writes → IsStopped keeps merges op tail clock (both writes before) (both writes_now after_) e
 unissued v w now e i own m (IssuesOnKey.unknown a b r) s t = let bad : false ≡ true = sym a ∙ i.entered in absurd (cc)
 unissued v w now e i own m (IssuesOnKey.stranger a b d r) s t = absurd (b own)
 unissued v w now e i own m (IssuesOnKey.unmerged a b d n g r) s t = IsStopped.unmerged (cc) d (sym m ∙ n) (same-both t s)
@@ -189,9 +189,13 @@ is-given_up v w now (Err e) x here (GivesUp.unknown n s q) event = let bad : Non
 is-given_up v w now (Err e) x here (GivesUp.gives_up y a b d q) event = absurd (cc)
 is-given_up v w now (Err e) x here (GivesUp.cancels y p a b d q) event = absurd (cc)
 
-pub record IsLeft {K V I : Type 0} (keeps merges : Bool) (entry : Spelling K V) (cmp : K → K → Ordering) (op : KeyedOp K V I) (u w : PartitionView K V I) (tries began clock writes writes_now reads reads_now : ℕ) (e : Refused) : Type 0 where
+pub record IsLeft {K V I : Type 0} (keeps merges : Bool) (cmp : K → K → Ordering) (op : KeyedOp K V I) (u w : PartitionView K V I) (clock writes writes_now reads reads_now : ℕ) (e : Refused) : Type 0 where
   pub stays : StaysIdle keeps cmp u w
-  pub why : IsStopped merges entry cmp op tries w.core.records.tail began clock (both writes reads) (both writes_now reads_now) e
+  pub why : IsStopped keeps merges op w.core.records.tail clock (both writes reads) (both writes_now reads_now) e
+
+-- the words of the index play no part in it
+full-before : {K V : Type 0} (v w : RecordsView K V) → w ≡ record v { words = w.words } → IsFull w → IsFull v
+full-before v w is full = let f = subst IsFull is full in record { more = f.more; begins = f.begins; taken = f.taken }
 
 -- a refused operation, by what it leaves
 pub left-runs : {K V I O : Type 0} {keeps : Bool} {cmp : K → K → Ordering} {f : Meanings K V I O} {u w : PartitionView K V I} {op : KeyedOp K V I} {e : Refused} → StaysIdle keeps cmp u w → Runs keeps cmp f u w op (Err e)
@@ -218,23 +222,23 @@ module _ {K V I O R : Type 0} {keeps : Bool} {cmp : K → K → Ordering} {join 
     done-runs (Ends.stalled c opens d m t r) = absurd (cc)
     done-runs (Ends.exhausted c opens d m b t r) = absurd (cc)
 
-    pub err-left : {merges : Bool} {entry : Spelling K V} {writes writes_now : ℕ} {e : Refused} (tries began : ℕ) → ((page : ℕ) → e ≡ Damaged page → after_ ≡ before → IsSpoilt entry cmp page) → v.core.merges ≡ merges → writes_now ≡ writes → Ends {O = O} {R = R} keeps cmp join f code op v w 0 (2 ^ 64 - 1) start end before after_ (Err e) → IsLeft keeps merges entry cmp op u w tries began end writes writes_now before after_ e
-    err-left tries began spoilt m same (Ends.barred b n e t r) = absurd (omega arith)
-    err-left tries began spoilt m same (Ends.late b d n e t r) = record { stays = subst (StaysIdle keeps cmp u) (sym n) s; why = IsStopped.unworked (worn-work (cc) (omega arith) same t) }
-    err-left {merges} {entry} {writes} {writes_now} {e} tries began spoilt m same (Ends.unissued why b i n ends t r) = record {
+    pub err-left : {merges : Bool} {writes writes_now : ℕ} {e : Refused} → v.core.merges ≡ merges → writes_now ≡ writes → Ends {O = O} {R = R} keeps cmp join f code op v w 0 (2 ^ 64 - 1) start end before after_ (Err e) → IsLeft keeps merges cmp op u w end writes writes_now before after_ e
+    err-left m same (Ends.barred b n e t r) = absurd (omega arith)
+    err-left m same (Ends.late b d n e t r) = record { stays = subst (StaysIdle keeps cmp u) (sym n) s; why = IsStopped.unworked (worn-work (cc) (omega arith) same t) }
+    err-left {merges} {writes} {writes_now} {e} m same (Ends.unissued why b i n ends t r) = record {
       stays = subst (StaysIdle keeps cmp u) (sym n) s;
-      why = subst (λ x. IsStopped merges entry cmp op tries w.core.records.tail began end (both writes before) (both writes_now after_) x) (let q : why ≡ e = cc in q) (unissued v w (start + 1) why s.idle own m i t same);
+      why = subst (λ x. IsStopped keeps merges op w.core.records.tail end (both writes before) (both writes_now after_) x) (let q : why ≡ e = cc in q) (unissued v w (start + 1) why s.idle own m i t same);
     }
-    err-left tries began spoilt m same (Ends.done c a2 effect opens d b t r) = absurd (cc)
-    err-left tries began spoilt m same (Ends.waits c why opens d b t r) = absurd (cc)
-    err-left {merges} {entry} {writes} {writes_now} {e} tries began spoilt m same (Ends.refused c why opens d b st r) = record {
+    err-left m same (Ends.done c a2 effect opens d b t r) = absurd (cc)
+    err-left m same (Ends.waits c why opens d b t r) = absurd (cc)
+    err-left {merges} {writes} {writes_now} {e} m same (Ends.refused c why opens d b st r) = record {
       stays = over-stays u v w c s d rest;
-      why = subst (λ x. IsStopped merges entry cmp op tries w.core.records.tail began end (both writes before) (both writes_now after_) x) (let q : why ≡ e = cc in q)
-          (subst (λ n. IsStopped merges entry cmp op tries n began end (both writes before) (both writes_now after_) why) (sym (ap (λ x. x.tail) d.records)) (stopped (λ page told. spoilt page (let q : why ≡ e = cc in sym q ∙ told)) st same));
+      why = subst (λ x. IsStopped keeps merges op w.core.records.tail end (both writes before) (both writes_now after_) x) (let q : why ≡ e = cc in q)
+          (subst (λ n. IsStopped keeps merges op n end (both writes before) (both writes_now after_) why) (sym (ap (λ x. x.tail) d.records)) (stopped st same));
     }
     -- more events than a clock has moments
-    err-left tries began spoilt m same (Ends.stalled c opens d b t r) = absurd (omega arith)
-    err-left tries began spoilt m same (Ends.exhausted c opens d last b t r) = record { stays = over-stays u v w c s d rest; why = IsStopped.unworked (worn-work (cc) (omega arith) same t) }
+    err-left m same (Ends.stalled c opens d b t r) = absurd (omega arith)
+    err-left m same (Ends.exhausted c opens d last b t r) = record { stays = over-stays u v w c s d rest; why = IsStopped.unworked (worn-work (cc) (omega arith) same t) }
 
     -- ---- no failure of the reader is counted where it waits
     pub steady-waits : {why : Wait} → Ends {O = O} {R = R} keeps cmp join f code op v w 0 (2 ^ 64 - 1) start end before after_ (Ok (Waits why)) → after_ ≡ before
@@ -260,6 +264,15 @@ module _ {K V I O R : Type 0} {keeps : Bool} {cmp : K → K → Ordering} {join 
     waited (Ends.refused c why opens d m t r) = absurd (cc)
     waited (Ends.stalled c opens d m t r) = absurd (cc)
     waited (Ends.exhausted c opens d m b t r) = absurd (cc)
+
+    -- it finds no room
+    pub waits-room : {why : Wait} → Ends {O = O} {R = R} keeps cmp join f code op v w 0 (2 ^ 64 - 1) start end before after_ (Ok (Waits why)) → IsFull v.core.records
+    waits-room {why} ends =
+        let h = waited ends in
+        let settled = s.idle.settled in
+        let sees : seen_at w.core 0 ≡ view_of v.core.records.regions.offsets = ap (λ (r : RegionsView). view_at r.views 0) h.open_is.frame.regions ∙ settled.sees in
+        let same : (seen_at w.core 0).safe_read_only ≡ (seen_at w.core 0).read_only = ap (λ (x : View). x.safe_read_only) sees ∙ settled.safe ∙ sym (ap (λ (x : View). x.read_only) sees) in
+        full-before v.core.records w.core.records h.open_is.records (waits-full cmp join f code w.core 0 same 0 h.operation why h.reason)
 
     -- its issue took a moment
     pub waits-later : {why : Wait} → Ends {O = O} {R = R} keeps cmp join f code op v w 0 (2 ^ 64 - 1) start end before after_ (Ok (Waits why)) → start + 1 ≤ w.core.moment

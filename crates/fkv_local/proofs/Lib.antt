@@ -1,4 +1,5 @@
 mod FlushLemmas
+mod OnwardLemmas
 mod WorkLemmas
 mod DriveLemmas
 mod PartLemmas
@@ -9,3 +10,5 @@ mod RelocateLemmas
 mod CountLemmas
 mod ListingLemmas
 pub mod MergeLemmas
+mod WaitLemmas
+mod RoomLemmas

@@ -7,7 +7,6 @@ use Rattle.fkv_operations.specs.declared.operations.KeyedOp.{KeyedOp}
 use Rattle.fkv_operations.specs.declared.operations.KeyedOp.TheVariants.{Rmw, Merge}
 use Rattle.fkv_operations.specs.declared.operations.Answer.{Answer}
 use Rattle.fkv_partition.specs.Views.{PartitionView}
-use Rattle.fkv_alone.specs.Spoilt.{Spelling}
 use Rattle.fkv_local.specs.Resting.{IsIdle}
 use Rattle.fkv_local.specs.Storing.{Updates}
 use Rattle.fkv_local.specs.Failures.{Failures}
@@ -29,8 +28,8 @@ module _ {K V I : Type 0} {keeps : Bool} {cmp : K → K → Ordering} where
   updates-idle (inr h) = h.idle
 
 -- no page was asked for, so none was read by the reader that was not used
-module _ {is_spoilt : ℕ → Type 0} {tail clock writes writes_now : ℕ} {e : Refused} where
-  unread-work : {n m : ℕ} → m ≡ n → IsWorkRefusal is_spoilt tail clock (both writes n) (both writes_now m) e → (reads : ℕ) → IsWorkRefusal is_spoilt tail clock (both writes reads) (both writes_now reads) e
+module _ {keeps : Bool} {tail clock writes writes_now : ℕ} {e : Refused} where
+  unread-work : {n m : ℕ} → m ≡ n → IsWorkRefusal keeps tail clock (both writes n) (both writes_now m) e → (reads : ℕ) → IsWorkRefusal keeps tail clock (both writes reads) (both writes_now reads) e
   unread-work same (IsWorkRefusal.no_memory a s) reads = IsWorkRefusal.no_memory a (same-both (ap (λ (f : Failures). f.writes) s) refl)
   unread-work same (IsWorkRefusal.unwritten page a s) reads = IsWorkRefusal.unwritten page a refl
   unread-work same (IsWorkRefusal.unread page (inl (inl a)) s) reads = IsWorkRefusal.no_memory a.0 (same-both s refl)
@@ -40,15 +39,13 @@ module _ {is_spoilt : ℕ → Type 0} {tail clock writes writes_now : ℕ} {e : 
   unread-work same (IsWorkRefusal.no_address a t s) reads = IsWorkRefusal.no_address a t (same-both (ap (λ (f : Failures). f.writes) s) refl)
   unread-work same (IsWorkRefusal.no_moment a t s) reads = IsWorkRefusal.no_moment a t (same-both (ap (λ (f : Failures). f.writes) s) refl)
 
-module _ {K V I : Type 0} {merges : Bool} {entry : Spelling K V} {cmp : K → K → Ordering} {op : KeyedOp K V I} {tries tail began clock writes writes_now : ℕ} {e : Refused} where
-  pub unread-stopped : {n m : ℕ} → m ≡ n → IsStopped merges entry cmp op tries tail began clock (both writes n) (both writes_now m) e → (reads : ℕ) → IsStopped merges entry cmp op tries tail began clock (both writes reads) (both writes_now reads) e
+module _ {K V I : Type 0} {keeps merges : Bool} {op : KeyedOp K V I} {tail clock writes writes_now : ℕ} {e : Refused} where
+  pub unread-stopped : {n m : ℕ} → m ≡ n → IsStopped keeps merges op tail clock (both writes n) (both writes_now m) e → (reads : ℕ) → IsStopped keeps merges op tail clock (both writes reads) (both writes_now reads) e
   unread-stopped same (IsStopped.unworked h) reads = IsStopped.unworked (unread-work same h reads)
-  unread-stopped same (IsStopped.stalled a b s) reads = IsStopped.stalled a b (same-both (ap (λ (f : Failures). f.writes) s) refl)
   unread-stopped same (IsStopped.unmerged a m f s) reads = IsStopped.unmerged a m f (same-both (ap (λ (f : Failures). f.writes) s) refl)
 
 -- a merge of functions that merge is refused as an update is
-pub merge-stopped : {K V I : Type 0} {merges : Bool} {entry : Spelling K V} {cmp : K → K → Ordering} {k : K} {i : I} {tries tail began clock : ℕ} {old now : Failures} {e : Refused} → IsTrue merges
-    → IsStopped merges entry cmp (Merge k i) tries tail began clock old now e → IsStopped merges entry cmp (Rmw k i) tries tail began clock old now e
+pub merge-stopped : {K V I : Type 0} {keeps merges : Bool} {k : K} {i : I} {tail clock : ℕ} {old now : Failures} {e : Refused} → IsTrue merges
+    → IsStopped {V = V} keeps merges (Merge k i) tail clock old now e → IsStopped {V = V} keeps merges (Rmw k i) tail clock old now e
 merge-stopped merging (IsStopped.unworked h) = IsStopped.unworked h
-merge-stopped merging (IsStopped.stalled a b s) = IsStopped.stalled a b s
 merge-stopped merging (IsStopped.unmerged a m f s) = absurd (let bad : false ≡ true = subst IsTrue f merging in cc)

@@ -3,6 +3,9 @@ use Rattle.std.proofs.Common.{◌≡◌, Bool, true, false, cond, ℕ, zero, suc
 use Rattle.std.specs.declared.cmp.Ordering.{Ordering}
 use Rattle.fkv_functions.specs.declared.refusals.Refused.{Refused}
 use Rattle.fkv_functions.proofs.ListLemmas.{get-append_cases}
+use Rattle.fkv_regions.specs.RegionsView.{fresh_regions, entered}
+use Rattle.fkv_regions.specs.Settled.{IsSettled}
+use Rattle.fkv_regions.proofs.SettledLemmas.{enter-settles}
 use Rattle.fkv_partition.specs.declared.limits.Config.{Config}
 use Rattle.fkv_partition.specs.CoreBeginning as beginning
 use Rattle.fkv_partition.specs.CoreContexts.{joined, is_session, context_in, on_key, relocating}
@@ -50,6 +53,7 @@ module _ {K V I : Type 0} (cmp : K → K → Ordering) (merges : Bool) (config :
         past = omega arith;
         idle = record {
           entered = ap (λ (u : CoreView K V I). is_session (slots_of u) 0) n ∙ ap (λ t. is_session (slice_set (replicate 16 None) t (Some 1)) 0) (sym zero_slot);
+          settled = subst (λ (u : CoreView K V I). IsSettled u.records.regions) (sym n) (subst (λ t. IsSettled (entered (fresh_regions config.page_bits) t)) zero_slot (enter-settles config.page_bits));
           free = λ c. ap (λ (u : CoreView K V I). context_at u 0 c) n ∙ ap on_key (unopened (slice_set (replicate 16 None) s (Some 1)) 0 c);
           relocations = λ d. ap (λ (u : CoreView K V I). relocation_in u 0 d) n ∙ ap relocating (unopened (slice_set (replicate 16 None) s (Some 1)) 0 d);
         };

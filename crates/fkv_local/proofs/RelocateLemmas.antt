@@ -1,15 +1,16 @@
 -- What a relocation waits for after an event, and why an event of it is refused.
-use Rattle.std.proofs.Common.{◌≡◌, Bool, true, false, ℕ, ◌+◌, ◌*◌, ◌^◌, ◌<◌, inl, inr, List, Option, Some, None, Result, Ok, Err, IfOk, IfErr, OnOk, IsSome, length, slice_get, slice_set, refl, sym, ◌∙◌, ap, subst, arith}
+use Rattle.std.proofs.Common.{◌≡◌, ◌≢◌, Bool, IsTrue, true, false, ℕ, ◌+◌, ◌*◌, ◌^◌, ◌<◌, inl, inr, List, Option, Some, None, Result, Ok, Err, IfOk, IfErr, OnOk, IsSome, length, slice_get, slice_set, refl, sym, ◌∙◌, ap, subst, arith}
 use Rattle.std.proofs.lemmas.Option.{same_Some, slice_get_cases}
 use Rattle.std.specs.declared.cmp.Ordering.{Ordering}
 use Rattle.fkv_functions.specs.Meanings.{Meanings}
 use Rattle.fkv_functions.specs.declared.refusals.Refused.{Refused}
-use Rattle.fkv_functions.specs.declared.refusals.Refused.TheVariants.{NotDue}
+use Rattle.fkv_functions.specs.declared.refusals.Refused.TheVariants.{Damaged, NotDue}
 use Rattle.fkv_functions.proofs.ListLemmas.{get-set_same}
 use Rattle.fkv_records.specs.Places.{page_at}
 use Rattle.fkv_device.specs.Standing.{Standing, Joined}
 use Rattle.fkv_texts.specs.declared.entries.Entry.{Entry}
 use Rattle.fkv_pages.specs.Loads.{IsHeldBy}
+use Rattle.fkv_pages.specs.Views.{receipt_at}
 use Rattle.fkv_operations.specs.declared.entries.IndexEntry.{IndexEntry}
 use Rattle.fkv_operations.specs.declared.operations.Op.TheVariants.{Relocate}
 use Rattle.fkv_operations.specs.declared.operations.Answer.{Answer}
@@ -30,8 +31,7 @@ use Rattle.fkv_partition.specs.Views.{PartitionView, relocation_at, with_relocat
 use Rattle.fkv_partition.specs.declared.relocations.Relocation.{Relocation}
 use Rattle.fkv_partition.specs.declared.relocations.Stage.TheVariants.{Fresh, Tracing}
 use Rattle.fkv_partition.proofs.EffectLemmas.{set-here}
-use Rattle.fkv_alone.specs.Spoilt.{Spelling}
-use Rattle.fkv_local.specs.Clearing.{IsWanted, WantsThen, IsKeptBy, IsAstray}
+use Rattle.fkv_local.specs.Clearing.{IsWanted, WantsThen, IsKeptBy}
 use Rattle.fkv_local.specs.Failures.{Failures}
 use Rattle.fkv_local.specs.Refusing.{IsWorkRefusal}
 use Rattle.fkv_local.specs.Resting.{IsIdle}
@@ -41,6 +41,9 @@ use Rattle.fkv_local.proofs.DriveLemmas.{inside, zero-free}
 pub record IsOn {K V I O R : Type 0} (stands : R → Standing) (v w : PartitionView K V I) (c : ℕ) (p : Progress K V I O R) : Type 0 where
   pub wants : WantsThen stands w c p
   pub receipts : w.core.records.receipts ≡ v.core.records.receipts
+
+misspelled-at : {keeps : Bool} {tail clock : ℕ} {f : Failures} {why : Refused} {page : ℕ} → (IsTrue keeps → (page : ℕ) → why ≢ Damaged page) → why ≡ Damaged page → IsWorkRefusal keeps tail clock f f why
+misspelled-at {page = page} fine is = IsWorkRefusal.misspelled page (λ yes_keeps. fine yes_keeps page is) is refl
 
 module _ {K V I O R : Type 0} (stands : R → Standing) (v : PartitionView K V I) (c : ℕ) where
   -- it is done, or is to wait
@@ -83,7 +86,7 @@ module _ {K V I O R : Type 0} {stands : R → Standing} {cmp : K → K → Order
   goes-on p (GoesOn.checks x e here stage at low entry checks) = checks-on stands v w c now x here e p checks
   goes-on p (GoesOn.reads x here stage at low asking) = asks-on stands v w c now x here _ x.target p refl asking
 
-  loads-on : {entry : Spelling K V} {came : Result (Joined R) Refused} (p : Progress K V I O R) → LoadsOn stands entry cmp join code v w 0 c came now (Ok p) → IsOn stands v w c p
+  loads-on : {entry : ℕ → List ℕ → ℕ → Entry K V → Type 0} {came : Result (Joined R) Refused} (p : Progress K V I O R) → LoadsOn stands entry cmp join code v w 0 c came now (Ok p) → IsOn stands v w c p
   loads-on p (LoadsOn.unknown none is told) = absurd (cc)
   loads-on p (LoadsOn.not_ready x here awaits is told) = absurd (cc)
   loads-on p (LoadsOn.moved x a here awaits begin is told) = next-on stands v w c now x here p is told
@@ -104,31 +107,31 @@ module _ {K V I O R : Type 0} {stands : R → Standing} {cmp : K → K → Order
   go-on p (IsWanted.of_none x here awaits) (Goes.on_key none does rest) = absurd (let bad : None ≡ Some x = sym none ∙ here in cc)
   go-on p wanted (Goes.relocation x here goes) = goes-on p goes
 
-  pub load-on : {f : Meanings K V I O} {entry : Spelling K V} {came : Result (Joined R) Refused} {s : Standing} (p : Progress K V I O R) → IsWanted v c (Some s) → Loads stands entry cmp join f code v w 0 c came now (Ok p) → IsOn stands v w c p
+  pub load-on : {f : Meanings K V I O} {entry : ℕ → List ℕ → ℕ → Entry K V → Type 0} {came : Result (Joined R) Refused} {s : Standing} (p : Progress K V I O R) → IsWanted v c (Some s) → Loads stands entry cmp join f code v w 0 c came now (Ok p) → IsOn stands v w c p
   load-on p (IsWanted.of_page x wanted s here awaits held) (Loads.on_key none does rest) = absurd (let bad : None ≡ Some x = sym none ∙ here in cc)
   load-on p wanted (Loads.relocation x here loads) = loads-on p loads
 
 -- ---- why an event is refused
-module _ {K V I O R : Type 0} {v w : PartitionView K V I} {is_spoilt : ℕ → Type 0} {clock : ℕ} {f : Failures} {why : Refused} where
-  ends-stop : {x : Relocation K V} {e : Entry K V} {kept : IndexEntry} {c now : ℕ} → Ends {O = O} {R = R} v w 0 c x e kept now (Err why) → IsWorkRefusal is_spoilt w.core.records.tail clock f f why
+module _ {K V I O R : Type 0} {v w : PartitionView K V I} {keeps : Bool} {clock : ℕ} {f : Failures} {why : Refused} where
+  ends-stop : {x : Relocation K V} {e : Entry K V} {kept : IndexEntry} {c now : ℕ} → Ends {O = O} {R = R} v w 0 c x e kept now (Err why) → IsWorkRefusal keeps w.core.records.tail clock f f why
   ends-stop (Ends.moved word is told) = absurd (cc)
   ends-stop (Ends.worn word tail is told) = IsWorkRefusal.no_address (cc) (ap (λ (u : PartitionView K V I). u.core.records.tail) is ∙ tail) refl
   ends-stop (Ends.full word full is told) = absurd (cc)
   ends-stop (Ends.appends word tail room is told) = absurd (cc)
 
   module _ {stands : R → Standing} where
-    asks-stop : {asking : PartitionView K V I} {wanted : ℕ} → Asks {O = O} stands v w asking wanted (Err why) → IsWorkRefusal is_spoilt w.core.records.tail clock f f why
+    asks-stop : {asking : PartitionView K V I} {wanted : ℕ} → Asks {O = O} stands v w asking wanted (Err why) → IsWorkRefusal keeps w.core.records.tail clock f f why
     asks-stop (Asks.asks r held is told) = absurd (cc)
     asks-stop (Asks.unshared is told) = IsWorkRefusal.no_memory (cc) refl
 
-    checks-stop : {cmp : K → K → Ordering} {join : V → V → V} {code : K → ℕ} {x : Relocation K V} {e : Entry K V} {c now : ℕ} → ChecksLiveness {O = O} stands cmp join code v w 0 c x e now (Err why) → IsWorkRefusal is_spoilt w.core.records.tail clock f f why
+    checks-stop : {cmp : K → K → Ordering} {join : V → V → V} {code : K → ℕ} {x : Relocation K V} {e : Entry K V} {c now : ℕ} → ChecksLiveness {O = O} stands cmp join code v w 0 c x e now (Err why) → IsWorkRefusal keeps w.core.records.tail clock f f why
     checks-stop (ChecksLiveness.superseded needless is told) = absurd (cc)
     checks-stop (ChecksLiveness.last kept parts checked ends) = ends-stop ends
     checks-stop (ChecksLiveness.further kept b parts checked asking) = asks-stop asking
 
 module _ {K V I O R : Type 0} {stands : R → Standing} {cmp : K → K → Ordering} {join : V → V → V} {code : K → ℕ} {v w : PartitionView K V I} {c now : ℕ} where
-  module _ {is_spoilt : ℕ → Type 0} {clock : ℕ} {f : Failures} {why : Refused} where
-    goes-stop : {x : Relocation K V} → relocation_at v 0 c ≡ Some x → awaited x ≡ None → GoesOn {O = O} stands cmp join code v w 0 c now (Err why) → IsWorkRefusal is_spoilt w.core.records.tail clock f f why
+  module _ {keeps : Bool} {clock : ℕ} {f : Failures} {why : Refused} where
+    goes-stop : {x : Relocation K V} → relocation_at v 0 c ≡ Some x → awaited x ≡ None → GoesOn {O = O} stands cmp join code v w 0 c now (Err why) → IsWorkRefusal keeps w.core.records.tail clock f f why
     goes-stop {x} here awaits (GoesOn.unknown none is told) = absurd (let bad : None ≡ Some x = sym none ∙ here in cc)
     goes-stop {x} here awaits (GoesOn.not_ready y a there waits is told) =
         let same : x ≡ y = same_Some x y (sym here ∙ there) in
@@ -138,13 +141,13 @@ module _ {K V I O R : Type 0} {stands : R → Standing} {cmp : K → K → Order
     goes-stop here awaits (GoesOn.checks y e there stage at low entry checks) = checks-stop checks
     goes-stop here awaits (GoesOn.reads y there stage at low asking) = asks-stop asking
 
-    pub go-stop : {g : Meanings K V I O} → IsWanted v c None → Goes stands cmp join g code v w 0 c now (Err why) → IsWorkRefusal is_spoilt w.core.records.tail clock f f why
+    pub go-stop : {g : Meanings K V I O} → IsWanted v c None → Goes stands cmp join g code v w 0 c now (Err why) → IsWorkRefusal keeps w.core.records.tail clock f f why
     go-stop (IsWanted.of_none x here awaits) (Goes.on_key none does rest) = absurd (let bad : None ≡ Some x = sym none ∙ here in cc)
     go-stop (IsWanted.of_none x here awaits) (Goes.relocation y there goes) = goes-stop here awaits goes
 
-  module _ {entry : Spelling K V} {clock : ℕ} {f : Failures} {why : Refused} {j : Joined R} {s : Standing} (own : stands j.receipt ≡ s) where
+  module _ {keeps : Bool} {entry : ℕ → List ℕ → ℕ → Entry K V → Type 0} {clock : ℕ} {f : Failures} {why : Refused} {j : Joined R} {s : Standing} (own : stands j.receipt ≡ s) (fine : IsTrue keeps → (page : ℕ) → why ≢ Damaged page) where
     loads-stop : {x : Relocation K V} {wanted : ℕ} → relocation_at v 0 c ≡ Some x → awaited x ≡ Some (record { begin = v.core.records.begin; wanted = wanted }) → IsHeldBy v.core.records.receipts (page_at v.core.records.page_bits wanted) s
-        → LoadsOn {O = O} stands entry cmp join code v w 0 c (Ok j) now (Err why) → IsWorkRefusal (IsAstray entry cmp) w.core.records.tail clock f f why
+        → LoadsOn {O = O} stands entry cmp join code v w 0 c (Ok j) now (Err why) → IsWorkRefusal keeps w.core.records.tail clock f f why
     loads-stop {x} {wanted} here awaits held (LoadsOn.unknown none is told) = absurd (let bad : None ≡ Some x = sym none ∙ here in cc)
     loads-stop {x} {wanted} here awaits held (LoadsOn.not_ready y there none is told) =
         let same : y ≡ x = same_Some y x (sym there ∙ here) in
@@ -155,18 +158,18 @@ module _ {K V I O R : Type 0} {stands : R → Standing} {cmp : K → K → Order
     loads-stop {x} {wanted} here awaits held (LoadsOn.stranger y wanted2 q t waits came there other is told) =
         let same : y ≡ x = same_Some y x (sym waits.here ∙ here) in
         let place : wanted2 ≡ wanted = ap (λ (a : Awaited). a.wanted) (same_Some _ _ (sym waits.awaits ∙ ap awaited same ∙ awaits)) in
-        let mine : t ≡ s = same_Some t s (sym there ∙ ap (λ n. slice_get v.core.records.receipts (page_at v.core.records.page_bits n)) place ∙ held) in
+        let mine : t ≡ s = same_Some t s (sym there ∙ ap (λ n. receipt_at v.core.records.receipts (page_at v.core.records.page_bits n)) place ∙ held) in
         let page : j ≡ q = cc in
         absurd (other (mine ∙ sym own ∙ ap (λ (b : Joined R). stands b.receipt) page))
     loads-stop here awaits held (LoadsOn.checks y begin q e stage has came spells checks) = checks-stop checks
-    loads-stop here awaits held (LoadsOn.damaged y begin q stage has came none is told) = IsWorkRefusal.misspelled _ (IsAstray.no_record v.core.records.page_bits y.target q.bytes refl none) (cc) refl
+    loads-stop here awaits held (LoadsOn.damaged y begin q stage has came none is told) = misspelled-at {page = page_at v.core.records.page_bits y.target} fine (cc)
     loads-stop here awaits held (LoadsOn.newer y e l q r stage has came traces live is told) = absurd (cc)
     loads-stop here awaits held (LoadsOn.ends y e l q r parts stage has came traces live ends) = ends-stop ends
     loads-stop here awaits held (LoadsOn.further y e l q b parts stage has came traces above start asking) = asks-stop asking
-    loads-stop here awaits held (LoadsOn.bad_record y e l q why2 stage has came traces is told) = IsWorkRefusal.misspelled _ (IsAstray.unspelled join v.core.records.page_bits _ l.wanted q.bytes e.key l.parts why2 refl traces) (cc) refl
-    loads-stop here awaits held (LoadsOn.bad_link y e l q b parts stage has came traces above start is told) = IsWorkRefusal.misspelled _ (IsAstray.bad_link join v.core.records.page_bits v.core.records.record_size _ l.wanted b q.bytes e.key l.parts parts refl traces start) (cc) refl
+    loads-stop here awaits held (LoadsOn.bad_record y e l q why2 stage has came traces is told) = misspelled-at {page = page_at v.core.records.page_bits l.wanted} fine (cc)
+    loads-stop here awaits held (LoadsOn.bad_link y e l q b parts stage has came traces above start is told) = misspelled-at {page = page_at v.core.records.page_bits l.wanted} fine (cc)
 
-    pub load-stop : {g : Meanings K V I O} → IsWanted v c (Some s) → Loads stands entry cmp join g code v w 0 c (Ok j) now (Err why) → IsWorkRefusal (IsAstray entry cmp) w.core.records.tail clock f f why
+    pub load-stop : {g : Meanings K V I O} → IsWanted v c (Some s) → Loads stands entry cmp join g code v w 0 c (Ok j) now (Err why) → IsWorkRefusal keeps w.core.records.tail clock f f why
     load-stop (IsWanted.of_page x wanted s here awaits held) (Loads.on_key none does rest) = absurd (let bad : None ≡ Some x = sym none ∙ here in cc)
     load-stop (IsWanted.of_page x wanted s here awaits held) (Loads.relocation y there loads) = loads-stop here awaits held loads
 
@@ -222,7 +225,7 @@ own-waits {v = v} {page = page} {t = t} own (IsWanted.of_page x wanted s here aw
     subst (λ n. IsHeldBy v.core.records.receipts n t) at (subst (IsHeldBy v.core.records.receipts (page_at v.core.records.page_bits wanted)) (sym own) held)
 
 -- a page that is kept by the same receipts
-pub kept-then : {R A : Type 0} (stands : R → Standing) (receipts receipts_now : List Standing) (sure : Bool) (kept : Option (Joined R)) (r : Result A Refused) → OnOk r (receipts_now ≡ receipts) → IsKeptBy stands receipts sure kept → OnOk r (IsKeptBy stands receipts_now sure kept)
+pub kept-then : {R A : Type 0} (stands : R → Standing) (receipts receipts_now : List (Option Standing)) (sure : Bool) (kept : Option (Joined R)) (r : Result A Refused) → OnOk r (receipts_now ≡ receipts) → IsKeptBy stands receipts sure kept → OnOk r (IsKeptBy stands receipts_now sure kept)
 kept-then stands receipts receipts_now sure kept (Ok a) same h = subst (λ rs. IsKeptBy stands rs sure kept) (sym same) h
 kept-then stands receipts receipts_now sure kept (Err e) same h = tt
 
@@ -243,14 +246,14 @@ module _ {K V I O R : Type 0} {stands : R → Standing} {cmp : K → K → Order
         by (Ok p) h = (go-on p wanted h).receipts
         by (Err e) h = tt
 
-    pub go-told : (is_spoilt : ℕ → Type 0) (clock : ℕ) (f : Failures) → IfErr r (IsWorkRefusal is_spoilt w.core.records.tail clock f f)
-    go-told is_spoilt clock f = by r goes
+    pub go-told : (keeps : Bool) (clock : ℕ) (f : Failures) → IfErr r (IsWorkRefusal keeps w.core.records.tail clock f f)
+    go-told keeps clock f = by r goes
       where
-        by : (q : Result (Progress K V I O R) Refused) → Goes stands cmp join g code v w 0 c now q → IfErr q (IsWorkRefusal is_spoilt w.core.records.tail clock f f)
+        by : (q : Result (Progress K V I O R) Refused) → Goes stands cmp join g code v w 0 c now q → IfErr q (IsWorkRefusal keeps w.core.records.tail clock f f)
         by (Ok p) h = tt
         by (Err e) h = go-stop wanted h
 
-  module _ {entry : Spelling K V} (r : Result (Progress K V I O R) Refused) {j : Joined R} {s : Standing} (own : stands j.receipt ≡ s) (wanted : IsWanted v c (Some s)) (loads : Loads stands entry cmp join g code v w 0 c (Ok j) now r) where
+  module _ {entry : ℕ → List ℕ → ℕ → Entry K V → Type 0} (r : Result (Progress K V I O R) Refused) {j : Joined R} {s : Standing} (own : stands j.receipt ≡ s) (wanted : IsWanted v c (Some s)) (loads : Loads stands entry cmp join g code v w 0 c (Ok j) now r) where
     pub load-wants : IfOk r (WantsThen stands w c)
     load-wants = by r loads
       where
@@ -265,9 +268,9 @@ module _ {K V I O R : Type 0} {stands : R → Standing} {cmp : K → K → Order
         by (Ok p) h = (load-on p wanted h).receipts
         by (Err e) h = tt
 
-    pub load-told : (clock : ℕ) (f : Failures) → IfErr r (IsWorkRefusal (IsAstray entry cmp) w.core.records.tail clock f f)
-    load-told clock f = by r loads
+    pub load-told : (keeps : Bool) (clock : ℕ) (f : Failures) → (IsTrue keeps → (page : ℕ) → r ≢ Err (Damaged page)) → IfErr r (IsWorkRefusal keeps w.core.records.tail clock f f)
+    load-told keeps clock f fine = by r fine loads
       where
-        by : (q : Result (Progress K V I O R) Refused) → Loads stands entry cmp join g code v w 0 c (Ok j) now q → IfErr q (IsWorkRefusal (IsAstray entry cmp) w.core.records.tail clock f f)
-        by (Ok p) h = tt
-        by (Err e) h = load-stop own wanted h
+        by : (q : Result (Progress K V I O R) Refused) → (IsTrue keeps → (page : ℕ) → q ≢ Err (Damaged page)) → Loads stands entry cmp join g code v w 0 c (Ok j) now q → IfErr q (IsWorkRefusal keeps w.core.records.tail clock f f)
+        by (Ok p) ok h = tt
+        by (Err e) ok h = load-stop own (λ yes_keeps page is. ok yes_keeps page (ap Err is)) wanted h

@@ -21,10 +21,9 @@ use Rattle.fkv_partition.specs.Views.{PartitionView}
 use Rattle.fkv_partition.proofs.UnionLemmas.{live-after, live-quiet, answer-here}
 use Rattle.fkv_functions.specs.Plain.{Same}
 use Rattle.fkv_local.specs.Resting.{IsIdle, StaysIdle, AreNew, AreAtRest}
-use Rattle.fkv_alone.specs.Spoilt.{Spelling}
 use Rattle.fkv_local.specs.Storing.{StoreView, IsRun, IsUpdateRun, Runs, Updates}
 use Rattle.fkv_local.specs.Failures.{Failures, failures_of}
-use Rattle.fkv_local.specs.Clearing.{IsAstray, WasCut, IsAllCut, IsCutAt, AnyIsCut, begin_at}
+use Rattle.fkv_local.specs.Clearing.{WasCut, IsGivenBack, IsAllCut, IsCutAt, AnyIsCut, begin_at}
 use Rattle.fkv_local.specs.Refusing.{IsWorkRefusal, IsRefusal, IsRefusedBy, IsUncompactedAt, HasEnds, FailedAsBefore, StaysAt}
 use Rattle.fkv_local.proofs.PartLemmas.{view-get, view-length, view-set}
 
@@ -79,10 +78,10 @@ run-of keeps cmp order f code views p old new op (Ok a) here own h k = (
 run-of keeps cmp order f code views p old new op (Err e) here own h k = live-quiet cmp order f code views p old new here (h.effect k)
 
 -- what a contract sees of a store
-abbrev pub seen_as : {K V I W P : Type 0} → List (PartitionView K V I) → List W → List P → Bool → ℕ → ℕ → StoreView K V I W P
-seen_as parts writers readers keeps_log tries moments = record { parts = parts; writers = writers; readers = readers; keeps_log = keeps_log; tries = tries; moments = moments }
+abbrev pub seen_as : {K V I W P : Type 0} → List (PartitionView K V I) → List W → List P → Bool → ℕ → StoreView K V I W P
+seen_as parts writers readers keeps_log moments = record { parts = parts; writers = writers; readers = readers; keeps_log = keeps_log; moments = moments }
 
-module _ {K V I W P : Type 0} {views : List (PartitionView K V I)} {writers : List W} {readers : List P} {keeps_log : Bool} {tries now : ℕ} {self : StoreView K V I W P} (is : seen_as views writers readers keeps_log tries now ≡ self) where
+module _ {K V I W P : Type 0} {views : List (PartitionView K V I)} {writers : List W} {readers : List P} {keeps_log : Bool} {now : ℕ} {self : StoreView K V I W P} (is : seen_as views writers readers keeps_log now ≡ self) where
   pub parts-is : views ≡ self.parts
   parts-is = ap (λ (s : StoreView _ _ _ _ _). s.parts) is
 
@@ -92,8 +91,8 @@ module _ {K V I W P : Type 0} {views : List (PartitionView K V I)} {writers : Li
   pub keeps-is : keeps_log ≡ self.keeps_log
   keeps-is = ap (λ (s : StoreView _ _ _ _ _). s.keeps_log) is
 
-  pub terms-are : (keeps_log ≡ self.keeps_log) × (tries ≡ self.tries)
-  terms-are = (keeps-is, ap (λ (s : StoreView _ _ _ _ _). s.tries) is)
+  pub terms-are : keeps_log ≡ self.keeps_log
+  terms-are = keeps-is
 
 -- ---- the partition of a key, in its place
 module _ {K V I S : Type 0} (view : S → PartitionView K V I) (code : K → ℕ) (items : List S) (now : ℕ) (views : List (PartitionView K V I))
@@ -159,16 +158,16 @@ get-other f (x ∷ xs) (suc i) zero y apart = refl
 get-other f (x ∷ xs) (suc i) (suc p) y apart = get-other f xs i p y (λ same. apart (ap suc same))
 
 -- a store of these items, as it is seen
-abbrev pub of_items : {K V I W P S : Type 0} → (S → PartitionView K V I) → (S → W) → (S → P) → List S → Bool → ℕ → ℕ → StoreView K V I W P
-of_items view writer reader items keeps_log tries now = seen_as (map view items) (map writer items) (map reader items) keeps_log tries now
+abbrev pub of_items : {K V I W P S : Type 0} → (S → PartitionView K V I) → (S → W) → (S → P) → List S → Bool → ℕ → StoreView K V I W P
+of_items view writer reader items keeps_log now = seen_as (map view items) (map writer items) (map reader items) keeps_log now
 
-module _ {K V I W P S : Type 0} (view : S → PartitionView K V I) (writer : S → W) (reader : S → P) (items : List S) {keeps_log : Bool} {tries now : ℕ} {self : StoreView K V I W P}
-    (is : of_items view writer reader items keeps_log tries now ≡ self) (home : ℕ) (x y : S) (here : slice_get items home ≡ Some x) (then : ℕ) where
+module _ {K V I W P S : Type 0} (view : S → PartitionView K V I) (writer : S → W) (reader : S → P) (items : List S) {keeps_log : Bool} {now : ℕ} {self : StoreView K V I W P}
+    (is : of_items view writer reader items keeps_log now ≡ self) (home : ℕ) (x y : S) (here : slice_get items home ≡ Some x) (then : ℕ) where
   now-there : slice_get (slice_set items home y) home ≡ Some y
   now-there = get-set_same items home x y here
 
-  pub others-stay : (p : ℕ) → p ≢ home → StaysAt self (of_items view writer reader (slice_set items home y) keeps_log tries then) p
-  others-stay p apart = subst (λ s. StaysAt s (of_items view writer reader (slice_set items home y) keeps_log tries then) p) is (record {
+  pub others-stay : (p : ℕ) → p ≢ home → StaysAt self (of_items view writer reader (slice_set items home y) keeps_log then) p
+  others-stay p apart = subst (λ s. StaysAt s (of_items view writer reader (slice_set items home y) keeps_log then) p) is (record {
     part = get-other view items home p y apart;
     writer = get-other writer items home p y apart;
     reader = get-other reader items home p y apart;
@@ -177,15 +176,15 @@ module _ {K V I W P S : Type 0} (view : S → PartitionView K V I) (writer : S �
   ends-were : HasEnds self home (writer x) (reader x)
   ends-were = subst (λ s. HasEnds s home (writer x) (reader x)) is (view-get writer items home x here, view-get reader items home x here)
 
-  ends-are : HasEnds (of_items view writer reader (slice_set items home y) keeps_log tries then) home (writer y) (reader y)
+  ends-are : HasEnds (of_items view writer reader (slice_set items home y) keeps_log then) home (writer y) (reader y)
   ends-are = (view-get writer (slice_set items home y) home y now-there, view-get reader (slice_set items home y) home y now-there)
 
   module _ (writes : W → ℕ) (reads : P → ℕ) where
     -- why an operation is refused
-    pub home-refusal : {merges : Bool} {entry : Spelling K V} {cmp : K → K → Ordering} (code : K → ℕ) (op : KeyedOp K V I) (k : K) → home ≡ partition_of (length self.parts) (code k) → k ≡ key_of op
-        → (e : Refused) → IsRefusedBy merges keeps_log entry cmp writes reads op tries (view y).core.records.tail now then (writer x) (reader x) (writer y) (reader y) e
-        → IsRefusal merges entry cmp code writes reads self (of_items view writer reader (slice_set items home y) keeps_log tries then) op e
-    home-refusal {merges} {entry} {cmp} code op k at key e h =
+    pub home-refusal : {keeps merges : Bool} (code : K → ℕ) (op : KeyedOp K V I) (k : K) → home ≡ partition_of (length self.parts) (code k) → k ≡ key_of op
+        → (e : Refused) → IsRefusedBy keeps merges keeps_log writes reads op (view y).core.records.tail then (writer x) (reader x) (writer y) (reader y) e
+        → IsRefusal keeps merges code writes reads self (of_items view writer reader (slice_set items home y) keeps_log then) op e
+    home-refusal {keeps} {merges} code op k at key e h =
         let sized : length (map view (slice_set items home y)) ≡ length self.parts = view-length view (slice_set items home y) ∙ length-set items home y ∙ sym (view-length view items) ∙ ap length (parts-is is) in
         let own : partition_of (length (map view (slice_set items home y))) (code (key_of op)) ≡ home = ap (λ n. partition_of n (code (key_of op))) sized ∙ ap (λ q. partition_of (length self.parts) (code q)) (sym key) ∙ sym at in
         record {
@@ -196,14 +195,14 @@ module _ {K V I W P S : Type 0} (view : S → PartitionView K V I) (writer : S �
           reader_now = reader y;
           here = subst (λ p. slice_get (map view (slice_set items home y)) p ≡ Some (view y)) (sym own) (view-get view (slice_set items home y) home y now-there);
           ends = subst (λ p. HasEnds self p (writer x) (reader x)) (sym own) ends-were;
-          ends_now = subst (λ p. HasEnds (of_items view writer reader (slice_set items home y) keeps_log tries then) p (writer y) (reader y)) (sym own) ends-are;
+          ends_now = subst (λ p. HasEnds (of_items view writer reader (slice_set items home y) keeps_log then) p (writer y) (reader y)) (sym own) ends-are;
           others = λ p apart. others-stay p (λ same. apart (same ∙ sym own));
-          refused = subst (λ (s : StoreView K V I W P). IsRefusedBy merges s.keeps_log entry cmp writes reads op s.tries (view y).core.records.tail s.moments then (writer x) (reader x) (writer y) (reader y) e) is h;
+          refused = subst (λ (s : StoreView K V I W P). IsRefusedBy keeps merges s.keeps_log writes reads op (view y).core.records.tail then (writer x) (reader x) (writer y) (reader y) e) is h;
         }
 
     -- why a log is not compacted
-    pub home-uncompacted : {entry : Spelling K V} {cmp : K → K → Ordering} (e : Refused) → IsWorkRefusal (IsAstray entry cmp) (view y).core.records.tail then (failures_of writes reads (writer x) (reader x)) (failures_of writes reads (writer y) (reader y)) e
-        → IsUncompactedAt entry cmp writes reads self (of_items view writer reader (slice_set items home y) keeps_log tries then) home e
+    pub home-uncompacted : {keeps : Bool} (e : Refused) → IsWorkRefusal keeps (view y).core.records.tail then (failures_of writes reads (writer x) (reader x)) (failures_of writes reads (writer y) (reader y)) e
+        → IsUncompactedAt keeps writes reads self (of_items view writer reader (slice_set items home y) keeps_log then) home e
     home-uncompacted e h = record {
       part = view y;
       writer = writer x;
@@ -216,7 +215,7 @@ module _ {K V I W P S : Type 0} (view : S → PartitionView K V I) (writer : S �
       refused = h;
     }
 
-    pub home-steady : failures_of writes reads (writer y) (reader y) ≡ failures_of writes reads (writer x) (reader x) → FailedAsBefore writes reads self (of_items view writer reader (slice_set items home y) keeps_log tries then) home
+    pub home-steady : failures_of writes reads (writer y) (reader y) ≡ failures_of writes reads (writer x) (reader x) → FailedAsBefore writes reads self (of_items view writer reader (slice_set items home y) keeps_log then) home
     home-steady same = (
       view-get writes (map writer (slice_set items home y)) home (writer y) ends-are.0 ∙ ap (λ (f : Failures). Some f.writes) same ∙ sym (view-get writes self.writers home (writer x) ends-were.0),
       view-get reads (map reader (slice_set items home y)) home (reader y) ends-are.1 ∙ ap (λ (f : Failures). Some f.reads) same ∙ sym (view-get reads self.readers home (reader x) ends-were.1),
@@ -226,17 +225,24 @@ module _ {K V I W P S : Type 0} (view : S → PartitionView K V I) (writer : S �
   begun : begin_at self home ≡ Some (view x).core.records.begin
   begun = subst (λ (s : StoreView K V I W P). begin_at s home ≡ Some (view x).core.records.begin) is (ap (option_map (λ (v : PartitionView K V I). v.core.records.begin)) (view-get view items home x here))
 
-  begins : begin_at (of_items view writer reader (slice_set items home y) keeps_log tries then) home ≡ Some (view y).core.records.begin
+  begins : begin_at (of_items view writer reader (slice_set items home y) keeps_log then) home ≡ Some (view y).core.records.begin
   begins = ap (option_map (λ (v : PartitionView K V I). v.core.records.begin)) (view-get view (slice_set items home y) home y now-there)
 
-  pub home-cut : WasCut (view x) (view y) true → IsCutAt self (of_items view writer reader (slice_set items home y) keeps_log tries then) home
+  pub home-cut : WasCut (view x) (view y) true → IsCutAt self (of_items view writer reader (slice_set items home y) keeps_log then) home
   home-cut risen = record { begin = (view x).core.records.begin; begin_now = (view y).core.records.begin; was = begun; is = begins; risen = risen }
 
-  pub home-uncut : WasCut (view x) (view y) false → begin_at (of_items view writer reader (slice_set items home y) keeps_log tries then) home ≡ begin_at self home
+  pub home-uncut : WasCut (view x) (view y) false → begin_at (of_items view writer reader (slice_set items home y) keeps_log then) home ≡ begin_at self home
   home-uncut same = begins ∙ ap Some same ∙ sym begun
 
-  pub home-all_cut : IsAllCut (view y) → (v : PartitionView K V I) → slice_get (of_items view writer reader (slice_set items home y) keeps_log tries then).parts home ≡ Some v → IsAllCut v
+  pub home-all_cut : IsAllCut (view y) → (v : PartitionView K V I) → slice_get (of_items view writer reader (slice_set items home y) keeps_log then).parts home ≡ Some v → IsAllCut v
   home-all_cut all v h = subst IsAllCut (same_Some (view y) v (sym (view-get view (slice_set items home y) home y now-there) ∙ h)) all
+
+  -- what had left memory of that log is given back
+  pub home-given_back : IsGivenBack (view x) (view y) → (v w : PartitionView K V I) → slice_get self.parts home ≡ Some v → slice_get (of_items view writer reader (slice_set items home y) keeps_log then).parts home ≡ Some w → IsGivenBack v w
+  home-given_back given v w h k =
+      let was : view x ≡ v = same_Some (view x) v (sym (view-get view items home x here) ∙ ap (λ ps. slice_get ps home) (parts-is is) ∙ h) in
+      let now_is : view y ≡ w = same_Some (view y) w (sym (view-get view (slice_set items home y) home y now-there) ∙ k) in
+      subst (λ a. IsGivenBack a w) was (subst (IsGivenBack (view x)) now_is given)
 
 pub or-yes : (r b h : Bool) → r ≡ true → h ≡ r → (r || b) ≡ h
 or-yes r b h p q = ap (λ x. x || b) p ∙ sym p ∙ sym q
@@ -277,12 +283,21 @@ module _ {K V I W P : Type 0} {v w : StoreView K V I W P} {home : ℕ} where
     | inr up ↦ (let same : p ≡ home = omega arith in more x (ap (slice_get w.parts) (sym same) ∙ here))
   ]
 
+  -- and so of the logs up to there
+  pub given-more : {u : StoreView K V I W P} → ((p : ℕ) (a b : PartitionView K V I) → p < home → slice_get u.parts p ≡ Some a → slice_get v.parts p ≡ Some b → IsGivenBack a b) → ((p : ℕ) → p ≢ home → StaysAt v w p) → StaysAt u v home
+      → ((a b : PartitionView K V I) → slice_get v.parts home ≡ Some a → slice_get w.parts home ≡ Some b → IsGivenBack a b)
+      → (p : ℕ) (a b : PartitionView K V I) → p < home + 1 → slice_get u.parts p ≡ Some a → slice_get w.parts p ≡ Some b → IsGivenBack a b
+  given-more {u} so_far others stays more p a b low was here = elim (cases_lt p home) [
+    | inl less ↦ so_far p a b less was (sym (others p (λ e. absurd (omega arith))).part ∙ here)
+    | inr up ↦ (let same : p ≡ home = omega arith in more a b (stays.part ∙ ap (slice_get u.parts) (sym same) ∙ was) (ap (slice_get w.parts) (sym same) ∙ here))
+  ]
+
 module _ {K V I W P : Type 0} {u v w : StoreView K V I W P} {p : ℕ} where
   pub stays-at : StaysAt u v p → StaysAt v w p → StaysAt u w p
   stays-at a b = record { part = b.part ∙ a.part; writer = b.writer ∙ a.writer; reader = b.reader ∙ a.reader }
 
   -- why a log is not compacted that was as it was
-  pub uncompacted-since : {entry : Spelling K V} {cmp : K → K → Ordering} {writes : W → ℕ} {reads : P → ℕ} {e : Refused} → StaysAt u v p → IsUncompactedAt entry cmp writes reads v w p e → IsUncompactedAt entry cmp writes reads u w p e
+  pub uncompacted-since : {keeps : Bool} {writes : W → ℕ} {reads : P → ℕ} {e : Refused} → StaysAt u v p → IsUncompactedAt keeps writes reads v w p e → IsUncompactedAt keeps writes reads u w p e
   uncompacted-since stays h = record {
     part = h.part;
     writer = h.writer;

@@ -4,15 +4,12 @@ use Rattle.std.specs.declared.cmp.Ordering.{Ordering}
 use Rattle.fkv_functions.specs.Plain.{Same}
 use Rattle.fkv_functions.specs.declared.refusals.Refused.{Refused}
 use Rattle.fkv_functions.specs.declared.refusals.Refused.TheVariants.{NoMemory, Worn}
+use Rattle.fkv_records.specs.Places.{page_at}
 use Rattle.fkv_device.specs.Failing.{FailsOnlyBy}
-use Rattle.fkv_regions.specs.Offsets.{view_of}
+use Rattle.fkv_regions.specs.Settled.{IsSettled}
 use Rattle.fkv_partition.specs.CoreContexts.{is_session}
-use Rattle.fkv_partition.specs.CoreViews.{CoreView, live_of, seen_at, slots_of}
+use Rattle.fkv_partition.specs.CoreViews.{live_of, slots_of}
 use Rattle.fkv_partition.specs.Views.{PartitionView}
-
--- a session has the view of now
-abbrev pub SeesNow : {K V I : Type 0} → CoreView K V I → ℕ → Type 0
-SeesNow v slot = seen_at v slot ≡ view_of v.records.regions.offsets
 
 -- the pages of a partition move: each session and what is open in its contexts stay as they are, and so does Begin, and, on a device
 -- that keeps, the live map
@@ -25,13 +22,33 @@ pub record IsTidied {K V I : Type 0} (keeps : Bool) (cmp : K → K → Ordering)
   pub begin : new.core.records.begin ≡ old.core.records.begin
   pub live : IsTrue keeps → Same (live_of cmp new.core) (live_of cmp old.core)
 
+-- a session that was the only one and had seen all, is and has
+abbrev pub StaysSettled : {K V I : Type 0} → PartitionView K V I → PartitionView K V I → Type 0
+StaysSettled old new = IsSettled old.core.records.regions → IsSettled new.core.records.regions
+
+-- pages have the size that they had, and neither Head nor what is cleared has fallen
+pub record IsOnward {K V I : Type 0} (old new : PartitionView K V I) : Type 0 where
+  pub bits : new.core.records.regions.bits ≡ old.core.records.regions.bits
+  pub head : old.core.records.regions.offsets.head ≤ new.core.records.regions.offsets.head
+  pub cleared : old.cleared ≤ new.cleared
+
+-- the log has the size, the tail and the frames that it had
+pub record IsSameLog {K V I : Type 0} (old new : PartitionView K V I) : Type 0 where
+  pub page_bits : new.core.records.page_bits ≡ old.core.records.page_bits
+  pub tail : new.core.records.tail ≡ old.core.records.tail
+  pub frames : new.core.records.frames ≡ old.core.records.frames
+
+-- each page below that of SafeReadOnly is written
+abbrev pub IsWritten : {K V I : Type 0} → PartitionView K V I → Type 0
+IsWritten v = page_at v.core.records.regions.bits v.core.records.regions.offsets.safe_read_only ≤ v.core.records.regions.flushed
+
 -- the partition's last moment is past, and the clock has not gone back
 pub record IsPassed (last clock clock_now : ℕ) : Type 0 where
   pub past : last ≤ clock_now
   pub later : clock ≤ clock_now
 
--- Why pages are not moved on: no moment is left, or no memory, which counts no failure; or a page is not written.
+-- Why pages are not moved on: no two moments are left, or no memory, which counts no failure; or a page is not written.
 pub data IsMoveRefusal (clock writes writes_now : ℕ) (why : Refused) : Type 0 where
-  worn : why ≡ Worn → 2 ^ 64 ≤ clock + 1 → writes_now ≡ writes → IsMoveRefusal clock writes writes_now why
+  worn : why ≡ Worn → 2 ^ 64 ≤ clock + 2 → writes_now ≡ writes → IsMoveRefusal clock writes writes_now why
   no_memory : why ≡ NoMemory → writes_now ≡ writes → IsMoveRefusal clock writes writes_now why
   unwritten : (page : ℕ) → FailsOnlyBy 2 page writes writes_now why → IsMoveRefusal clock writes writes_now why

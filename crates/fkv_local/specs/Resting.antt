@@ -2,14 +2,16 @@
 use Rattle.std.specs.Prelude.{◌≡◌, ◌≢◌, ◌≤◌, ◌<◌, ◌+◌, ◌^◌, ℕ, Bool, IsTrue, List, Some, None, slice_get, length}
 use Rattle.std.specs.declared.cmp.Ordering.{Ordering}
 use Rattle.fkv_functions.specs.Plain.{Same}
+use Rattle.fkv_regions.specs.Settled.{IsSettled}
 use Rattle.fkv_partition.specs.declared.limits.Config.{Config}
 use Rattle.fkv_partition.specs.CoreBeginning.{IsEntered}
 use Rattle.fkv_partition.specs.CoreViews.{context_at, live_of}
 use Rattle.fkv_partition.specs.Views.{PartitionView, relocation_at}
 
--- a session with nothing open, neither an operation on a key nor a relocation
+-- a session with nothing open, neither an operation on a key nor a relocation; it is the only one, and has seen all
 pub record IsIdle {K V I : Type 0} (v : PartitionView K V I) (slot : ℕ) : Type 0 where
   pub entered : IsEntered v.core slot
+  pub settled : IsSettled v.core.records.regions
   pub free : (c : ℕ) → context_at v.core slot c ≡ None
   pub relocations : (d : ℕ) → relocation_at v slot d ≡ None
 
@@ -24,6 +26,7 @@ pub record StaysIdle {K V I : Type 0} (keeps : Bool) (cmp : K → K → Ordering
 -- a session with nothing open but what may stand in one context, and that is no operation on a key
 pub record IsIdleBut {K V I : Type 0} (v : PartitionView K V I) (slot c : ℕ) : Type 0 where
   pub entered : IsEntered v.core slot
+  pub settled : IsSettled v.core.records.regions
   pub free : (d : ℕ) → context_at v.core slot d ≡ None
   pub relocations : (d : ℕ) → d ≢ c → relocation_at v slot d ≡ None
 

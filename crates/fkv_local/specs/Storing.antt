@@ -15,14 +15,13 @@ use Rattle.fkv_partition.specs.Views.{PartitionView}
 use Rattle.fkv_partition.specs.Unions.{union_of}
 use Rattle.fkv_local.specs.Resting.{IsIdle}
 
--- the partitions of a store, what writes and what reads their pages, whether logs are compacted on call alone, how often an
--- operation begins that has to wait, and how many moments it has taken
+-- the partitions of a store, what writes and what reads their pages, whether logs are compacted on call alone, and how many moments
+-- it has taken
 pub record StoreView (K V I W P : Type 0) : Type 0 where
   pub parts : List (PartitionView K V I)
   pub writers : List W
   pub readers : List P
   pub keeps_log : Bool
-  pub tries : ℕ
   pub moments : ℕ
 
 -- the plain map that a store is
@@ -31,7 +30,7 @@ plain cmp code s = union_of cmp code s.parts
 
 -- what a store was opened with, or told since, stays
 abbrev pub SameTerms : {K V I W P : Type 0} → StoreView K V I W P → StoreView K V I W P → Type 0
-SameTerms old new = (new.keeps_log ≡ old.keeps_log) × (new.tries ≡ old.tries)
+SameTerms old new = new.keeps_log ≡ old.keeps_log
 
 -- THE STORE IS A PLAIN MAP. An operation on the map `old` came to this result, and left the map `new`: where it is done,
 -- `new` is `old` after the operation, and the answer is the plain map's; where it is refused, `new` is `old`.

@@ -3,27 +3,23 @@
 //! Relocations are made in the session that all operations are made in, one at a time, while nothing else is open there. So pages
 //! can move on wherever one finds no room, and one that is not done is given up, which is without effect: whatever is refused on the
 //! way, the map stays and nothing is open.
-ghost use Rattle.std.specs.Prelude.{◌≡◌, ◌≤◌, ◌+◌, ◌^◌, ◌<◌, IfOk, IfErr, IfSome, OnOk, IsTrue, List, None, Some, option_map};
+ghost use Rattle.std.specs.Prelude.{◌≡◌, ◌≤◌, ◌+◌, ◌^◌, ◌<◌, IfOk, IfErr, IfSome, OnOk, IsTrue, List, Option, None, Some, option_map, false};
 ghost use Rattle.fkv_device.specs.Failing.{ReadFailsBy};
 ghost use Rattle.fkv_device.specs.Standing.{Standing};
 ghost use Rattle.fkv_pages.specs.Loads.{IsHeldBy};
-ghost use Rattle.fkv_pages.specs.Spelled.{IsEntryIn};
-ghost use Rattle.fkv_local.specs.Clearing.{IsWanted, WantsThen, IsKeptBy, IsAstray, WasCut, IsAllCut};
+ghost use Rattle.fkv_local.specs.Clearing.{IsWanted, WantsThen, IsKeptBy, WasCut, IsAllCut, IsGivenBack};
 ghost use Rattle.fkv_local.specs.Failures.{failures_of, IsBeside};
 ghost use Rattle.fkv_local.specs.Resting.{IsIdle, IsIdleBut, StaysIdle, StaysIdleBut};
 ghost use Rattle.fkv_local.specs.Refusing.{IsWorkRefusal};
-ghost use Rattle.fkv_local.specs.Moving.{IsPassed};
+ghost use Rattle.fkv_local.specs.Moving.{IsPassed, IsOnward};
 
-use crate::moving::tidy;
+use crate::moving::{page_of, tidy};
 use crate::parts::{Part, SLOT, Shard, Terms};
-use fkv_device::{Disk, Loaded, PageReader, Receipt};
+use fkv_device::{Disk, Loaded, PageReader, PageWriter, Receipt};
 use fkv_functions::{Mergeable, Refused};
 use fkv_operations::{Clock, Op};
 use fkv_partition::{Partition, Progress, ProgressOf};
 use fkv_records::Address;
-
-/// How often a relocation begins anew, until it is given up.
-const RESTARTS: u8 = 8;
 
 /// How many pages a compaction clears, at least, until it is seen whether it pays.
 const SEEN: u64 = 8;
@@ -73,7 +69,7 @@ struct Kept<R: Receipt> {
 impl<R: Receipt> Kept<R> {
     /// Whether it is the page of this receipt of the log.
     fn has(&self, receipt: &R) -> bool
-        ensures same { (receipts : List Standing) → IsTrue result
+        ensures same { (receipts : List (Option Standing)) → IsTrue result
             → IsKeptBy R.stands receipts self.now.is_sure self.now.page
             → IsHeldBy receipts (R.stands receipt.now).page (R.stands receipt.now)
             → IfSome self.now.page (λ p. R.stands p.receipt ≡ R.stands receipt.now) }
@@ -97,7 +93,7 @@ impl<R: Receipt> Kept<R> {
         receipt: &R,
         is_of_place: bool,
     ) -> Result<Loaded<R>, Refused>
-        ensures same { (receipts : List Standing)
+        ensures same { (receipts : List (Option Standing))
             → IsKeptBy R.stands receipts self.old.is_sure self.old.page
             → IsHeldBy receipts (R.stands receipt.now).page (R.stands receipt.now)
             → IfOk result (λ l. R.stands l.receipt ≡ R.stands receipt.now)
@@ -134,10 +130,8 @@ impl<R: Receipt> Kept<R> {
 enum Relocated {
     /// Its place is cleared.
     Cleared,
-    /// It found no room, or began anew too often.
+    /// It found no room, or its place is one that pages have to move past first.
     Waits,
-    /// Nothing is to be cleared.
-    NotDue,
 }
 
 /// The next moment, where another one is left after it. Refused: `Worn`.
@@ -168,6 +162,7 @@ fn event<F: Mergeable, D: Disk>(
     requires past { shard.old.part.partition.core.moment ≤ clock.old }
     requires spare { clock.old + 1 < 2 ^ 64 }
     ensures stays { StaysIdleBut D.Receipt.keeps F.Key.cmp shard.old.part.partition shard.new.part.partition context }
+    ensures onward { IsOnward shard.old.part.partition shard.new.part.partition }
     ensures passed { IsPassed shard.new.part.partition.core.moment clock.old clock.new }
     ensures spare { clock.new + 1 < 2 ^ 64 }
     ensures wants { IfOk result (λ progress. WantsThen D.Receipt.stands shard.new.part.partition context progress) }
@@ -176,8 +171,7 @@ fn event<F: Mergeable, D: Disk>(
     ensures same_writer { shard.new.part.writer ≡ shard.old.part.writer }
     ensures steady { OnOk result (D.Reader.failures shard.new.reader ≡ D.Reader.failures shard.old.reader) }
     ensures same_begin { shard.new.part.partition.core.records.begin ≡ shard.old.part.partition.core.records.begin }
-    ensures told { IfErr result (IsWorkRefusal (IsAstray
-        (IsEntryIn F.Key.codec F.Value.codec) F.Key.cmp)
+    ensures told { IfErr result (IsWorkRefusal D.Receipt.keeps
         shard.new.part.partition.core.records.tail clock.new
         (failures_of D.Writer.failures D.Reader.failures shard.old.part.writer shard.old.reader)
         (failures_of D.Writer.failures D.Reader.failures shard.new.part.writer shard.new.reader)) }
@@ -218,6 +212,7 @@ fn go_on<F: Mergeable, D: Disk>(
     requires past { shard.old.part.partition.core.moment ≤ clock.old }
     requires spare { clock.old + 1 < 2 ^ 64 }
     ensures stays { StaysIdleBut D.Receipt.keeps F.Key.cmp shard.old.part.partition shard.new.part.partition context }
+    ensures onward { IsOnward shard.old.part.partition shard.new.part.partition }
     ensures passed { IsPassed shard.new.part.partition.core.moment clock.old clock.new }
     ensures spare { clock.new + 1 < 2 ^ 64 }
     ensures kept { OnOk result (IsKeptBy D.Receipt.stands shard.new.part.partition.core.records.receipts
@@ -225,25 +220,17 @@ fn go_on<F: Mergeable, D: Disk>(
     ensures same_writer { shard.new.part.writer ≡ shard.old.part.writer }
     ensures steady { OnOk result (D.Reader.failures shard.new.reader ≡ D.Reader.failures shard.old.reader) }
     ensures same_begin { shard.new.part.partition.core.records.begin ≡ shard.old.part.partition.core.records.begin }
-    ensures told { IfErr result (IsWorkRefusal (IsAstray
-        (IsEntryIn F.Key.codec F.Value.codec) F.Key.cmp)
+    ensures told { IfErr result (IsWorkRefusal D.Receipt.keeps
         shard.new.part.partition.core.records.tail clock.new
         (failures_of D.Writer.failures D.Reader.failures shard.old.part.writer shard.old.reader)
         (failures_of D.Writer.failures D.Reader.failures shard.new.part.writer shard.new.reader)) }
 {
     let mut wanted = Wanted::nothing();
-    let mut begun = 0u8;
     for _event in 0..u64::MAX {
-        if begun > RESTARTS {
-            return Ok(Relocated::Waits);
-        }
         match event(functions, shard, kept, context, &wanted, clock) {
             Ok(Progress::NeedsLoad(receipt, _)) => wanted = wanted.then(receipt),
             Ok(Progress::Done(..)) => return Ok(Relocated::Cleared),
-            Ok(Progress::Next) => {
-                begun = begun.saturating_add(1);
-                wanted = Wanted::nothing();
-            }
+            Ok(Progress::Next) => wanted = Wanted::nothing(),
             Ok(Progress::Waits(_)) | Ok(Progress::NeedsBuild(_)) => return Ok(Relocated::Waits),
             Err(refused) => return Err(refused),
         }
@@ -261,6 +248,7 @@ fn give_up<F: Mergeable, R: Receipt>(
     requires past { partition.old.core.moment ≤ clock.old }
     requires spare { clock.old + 1 < 2 ^ 64 }
     ensures stays { StaysIdle R.keeps F.Key.cmp partition.old partition.new }
+    ensures onward { IsOnward partition.old partition.new }
     ensures same_records { partition.new.core.records ≡ partition.old.core.records }
     ensures passed { IsPassed partition.new.core.moment clock.old clock.new }
 {
@@ -285,14 +273,15 @@ fn relocate<F: Mergeable, D: Disk>(
         kept.old.is_sure kept.old.page }
     requires past { shard.old.part.partition.core.moment ≤ clock.old }
     ensures stays { StaysIdle D.Receipt.keeps F.Key.cmp shard.old.part.partition shard.new.part.partition }
+    ensures onward { IsOnward shard.old.part.partition shard.new.part.partition }
+    ensures later { OnOk result (clock.old + 1 ≤ clock.new) }
     ensures passed { IsPassed shard.new.part.partition.core.moment clock.old clock.new }
     ensures kept { OnOk result (IsKeptBy D.Receipt.stands shard.new.part.partition.core.records.receipts
         kept.new.is_sure kept.new.page) }
     ensures same_writer { shard.new.part.writer ≡ shard.old.part.writer }
     ensures steady { OnOk result (D.Reader.failures shard.new.reader ≡ D.Reader.failures shard.old.reader) }
     ensures same_begin { shard.new.part.partition.core.records.begin ≡ shard.old.part.partition.core.records.begin }
-    ensures told { IfErr result (IsWorkRefusal (IsAstray
-        (IsEntryIn F.Key.codec F.Value.codec) F.Key.cmp)
+    ensures told { IfErr result (IsWorkRefusal D.Receipt.keeps
         shard.new.part.partition.core.records.tail clock.new
         (failures_of D.Writer.failures D.Reader.failures shard.old.part.writer shard.old.reader)
         (failures_of D.Writer.failures D.Reader.failures shard.new.part.writer shard.new.reader)) }
@@ -309,7 +298,7 @@ fn relocate<F: Mergeable, D: Disk>(
     {
         Ok(context) => context,
         Err(refused) => match refused {
-            Refused::NotDue => return Ok(Relocated::NotDue),
+            Refused::NotDue => return Ok(Relocated::Waits),
             // nothing is open
             _ => unreachable!(),
         },
@@ -340,7 +329,9 @@ struct Passed {
 
 impl Effort {
     /// Whether a compaction is to end that has done so much.
-    fn ends(self, passed: &Passed) -> bool {
+    fn ends(self, passed: &Passed) -> bool
+        ensures whole { self ≡ Effort.Whole → result ≡ false }
+    {
         let is_seen = passed.cleared >= passed.page_size.saturating_mul(SEEN);
         match self {
             Effort::Whole => false,
@@ -349,8 +340,8 @@ impl Effort {
     }
 }
 
-/// Relocates what lives below an address, one record after the other. Pages move on where one finds no room; where it finds none
-/// then either, it ends.
+/// Relocates what lives below an address, one record after the other, to that address; or, by the effort, until it does not pay.
+/// Pages move on where one finds no room.
 fn clear<F: Mergeable, D: Disk>(
     terms: &Terms<F>,
     shard: &mut Shard<F, D>,
@@ -361,12 +352,13 @@ fn clear<F: Mergeable, D: Disk>(
     requires idle { IsIdle shard.old.part.partition 0 }
     requires past { shard.old.part.partition.core.moment ≤ clock.old }
     ensures stays { StaysIdle D.Receipt.keeps F.Key.cmp shard.old.part.partition shard.new.part.partition }
+    ensures onward { IsOnward shard.old.part.partition shard.new.part.partition }
+    ensures whole { OnOk result (effort ≡ Effort.Whole → end ≤ shard.new.part.partition.cleared) }
     ensures passed { IsPassed shard.new.part.partition.core.moment clock.old clock.new }
     ensures steady { OnOk result (failures_of D.Writer.failures D.Reader.failures shard.new.part.writer shard.new.reader
         ≡ failures_of D.Writer.failures D.Reader.failures shard.old.part.writer shard.old.reader) }
     ensures same_begin { shard.new.part.partition.core.records.begin ≡ shard.old.part.partition.core.records.begin }
-    ensures told { IfErr result (IsWorkRefusal (IsAstray
-        (IsEntryIn F.Key.codec F.Value.codec) F.Key.cmp)
+    ensures told { IfErr result (IsWorkRefusal D.Receipt.keeps
         shard.new.part.partition.core.records.tail clock.new
         (failures_of D.Writer.failures D.Reader.failures shard.old.part.writer shard.old.reader)
         (failures_of D.Writer.failures D.Reader.failures shard.new.part.writer shard.new.reader)) }
@@ -378,34 +370,33 @@ fn clear<F: Mergeable, D: Disk>(
         page: None,
         is_sure: false,
     };
-    let mut has_waited = false;
     for _record in 0..u64::MAX {
         let passed = Passed {
             cleared: shard.part.partition.cleared().saturating_sub(start),
             appended: shard.part.partition.tail().saturating_sub(tail),
             page_size: size as u64,
         };
-        if shard.part.partition.cleared() >= end || effort.ends(&passed) {
+        if shard.part.partition.cleared() >= end {
+            return Ok(());
+        }
+        if effort.ends(&passed) {
             return Ok(());
         }
         match relocate(&terms.functions, shard, &mut kept, clock) {
-            Ok(Relocated::Cleared) => has_waited = false,
-            Ok(Relocated::Waits) if !has_waited => {
-                has_waited = true;
-                match tidy(terms.alloc, terms.frames, &mut shard.part, clock) {
-                    Ok(()) => kept.is_sure = false,
-                    Err(refused) => return Err(refused),
-                }
-            }
-            Ok(_) => return Ok(()),
+            Ok(Relocated::Cleared) => {}
+            Ok(Relocated::Waits) => match tidy(terms.alloc, &mut shard.part, clock) {
+                Ok(()) => kept.is_sure = false,
+                Err(refused) => return Err(refused),
+            },
             Err(refused) => return Err(refused),
         }
     }
-    Ok(())
+    // each of them took a moment
+    Err(Refused::Worn)
 }
 
-/// Cuts the start of a log behind what is cleared. Answers whether there was anything to cut. Refused: `Worn` where no moment is
-/// left.
+/// Cuts the start of a log behind what is cleared and left memory. Answers whether there was anything to cut. Refused: `Worn` where
+/// no moment is left.
 fn cut<F: Mergeable, R: Receipt>(
     partition: &mut Partition<F, R>,
     clock: &mut Clock,
@@ -413,6 +404,7 @@ fn cut<F: Mergeable, R: Receipt>(
     requires idle { IsIdle partition.old 0 }
     requires past { partition.old.core.moment ≤ clock.old }
     ensures stays { StaysIdle R.keeps F.Key.cmp partition.old partition.new }
+    ensures onward { IsOnward partition.old partition.new }
     ensures same_tail { partition.new.core.records.tail ≡ partition.old.core.records.tail }
     ensures cut { IfOk result (WasCut partition.old partition.new) }
     ensures whole { OnOk result (IsAllCut partition.new) }
@@ -423,15 +415,16 @@ fn cut<F: Mergeable, R: Receipt>(
         Ok(now) => now,
         Err(refused) => return Err(refused),
     };
-    match partition.truncate_cleared(now) {
-        Ok(_begin) => Ok(true),
+    let page = page_of(partition, partition.cleared().min(partition.head()));
+    match partition.truncate(page, now) {
+        Ok(()) => Ok(true),
         Err(Refused::NotDue) => Ok(false),
         Err(refused) => Err(refused),
     }
 }
 
-/// Appends what lives below Head again, as far as there is room, and cuts the log's start behind what is cleared, also where
-/// something is refused. Answers whether it cut anything.
+/// Appends what lives below Head again, and cuts the log's start behind what is cleared, also where something is refused; by the
+/// effort all of it, or as far as it pays. The room of the pages that are dropped is given back. Answers whether it cut anything.
 pub fn compact<F: Mergeable, D: Disk>(
     terms: &Terms<F>,
     shard: &mut Shard<F, D>,
@@ -442,23 +435,30 @@ pub fn compact<F: Mergeable, D: Disk>(
     requires past { shard.old.part.partition.core.moment ≤ clock.old }
     ensures stays { StaysIdle D.Receipt.keeps F.Key.cmp shard.old.part.partition shard.new.part.partition }
     ensures passed { IsPassed shard.new.part.partition.core.moment clock.old clock.new }
+    ensures onward { IsOnward shard.old.part.partition shard.new.part.partition }
+    ensures given_back { OnOk result (effort ≡ Effort.Whole
+        → IsGivenBack shard.old.part.partition shard.new.part.partition) }
     ensures cut { IfOk result (WasCut shard.old.part.partition shard.new.part.partition) }
     ensures whole { OnOk result (IsAllCut shard.new.part.partition) }
     ensures steady { OnOk result (failures_of D.Writer.failures D.Reader.failures shard.new.part.writer shard.new.reader
         ≡ failures_of D.Writer.failures D.Reader.failures shard.old.part.writer shard.old.reader) }
-    ensures told { IfErr result (IsWorkRefusal (IsAstray
-        (IsEntryIn F.Key.codec F.Value.codec) F.Key.cmp)
+    ensures told { IfErr result (IsWorkRefusal D.Receipt.keeps
         shard.new.part.partition.core.records.tail clock.new
         (failures_of D.Writer.failures D.Reader.failures shard.old.part.writer shard.old.reader)
         (failures_of D.Writer.failures D.Reader.failures shard.new.part.writer shard.new.reader)) }
 {
-    match tidy(terms.alloc, terms.frames, &mut shard.part, clock) {
+    // which says, here and at the end, that regions have its pages' size
+    shard.part.partition.known();
+    match tidy(terms.alloc, &mut shard.part, clock) {
         Ok(()) => {}
         Err(refused) => return Err(refused),
     }
     let end = shard.part.partition.head();
     let cleared = clear(terms, shard, end, effort, clock);
     let cut = cut(&mut shard.part.partition, clock);
+    let begin = page_of(&shard.part.partition, shard.part.partition.begin());
+    shard.part.writer.drop_below(begin);
+    shard.part.partition.known();
     match cleared {
         Ok(()) => cut,
         Err(refused) => Err(refused),

@@ -1,13 +1,12 @@
 //! One operation of one partition, driven to its end.
-ghost use Rattle.std.specs.Prelude.{◌≡◌, ◌<◌, ◌≤◌, ◌+◌, ◌-◌, ◌^◌, ℕ, None, Ok, Err, true, IsTrue, IfOk, IfErr, IfSome, OnOk, OnErr};
-ghost use Rattle.fkv_pages.specs.Spelled.{IsEntryIn};
+ghost use Rattle.std.specs.Prelude.{◌≡◌, ◌<◌, ◌≤◌, ◌+◌, ◌-◌, ◌^◌, ℕ, None, Ok, true, IsTrue, IfOk, IfErr, IfSome, OnOk, OnErr};
 ghost use Rattle.fkv_operations.specs.After.{key_of, is_merge};
 ghost use Rattle.fkv_operations.specs.declared.operations.KeyedOp.TheVariants.{Read, Rmw};
 ghost use Rattle.fkv_operations.specs.declared.operations.Answer.TheVariants.{Value};
+ghost use Rattle.fkv_lookups.specs.RecordsViews.{IsFull};
 ghost use Rattle.fkv_partition.specs.CoreViews.{partition_of};
 ghost use Rattle.fkv_partition.specs.Events.{IsPassedOn};
 ghost use Rattle.fkv_alone.specs.Ending.{Ends};
-ghost use Rattle.fkv_alone.specs.Spoilt.{IsSpoilt};
 ghost use Rattle.fkv_local.specs.Resting.{IsIdle, StaysIdle};
 ghost use Rattle.fkv_local.specs.Moving.{IsPassed, IsMoveRefusal};
 ghost use Rattle.fkv_local.specs.Failures.{failures_of, IsBeside};
@@ -40,9 +39,6 @@ fn once<F: Mergeable, D: Disk, P: PageReader<Receipt = D::Receipt>>(
     requires past { part.old.partition.core.moment ≤ clock.old }
     ensures ends { Ends D.Receipt.keeps F.Key.cmp F.parts.joined F.meaning F.code op part.old.partition part.new.partition 0
         (2 ^ 64 - 1) clock.old clock.new (P.failures reader.old) (P.failures reader.new) result }
-    ensures spoilt { (page : ℕ) → result ≡ Err (Refused.Damaged page) → P.failures reader.new ≡ P.failures reader.old
-        → IsSpoilt (IsEntryIn F.Key.codec F.Value.codec)
-        F.Key.cmp page }
     ensures unread { is_merge op ≡ true → reader.new ≡ reader.old }
     ensures rest { IsPassedOn part.old.partition part.new.partition }
     ensures passed { IsPassed part.new.partition.core.moment clock.old clock.new }
@@ -67,8 +63,50 @@ fn once<F: Mergeable, D: Disk, P: PageReader<Receipt = D::Receipt>>(
     told
 }
 
+/// Makes an operation in a session that has nothing open, by the events of its partition. What it asks for is built or read. Answers
+/// `None` where it has to wait, which is for room alone, and then it is given up, which is without effect.
+fn try_by_events<F: Mergeable, D: Disk, P: PageReader<Receipt = D::Receipt>>(
+    functions: &F,
+    part: &mut Part<F, D>,
+    reader: &mut P,
+    op: KeyedOpOf<F>,
+    clock: &mut Clock,
+) -> Result<Option<Answer<F::Output>>, Refused>
+    requires idle { IsIdle part.old.partition 0 }
+    requires own { partition_of part.old.partition.core.count (F.code (key_of op)) ≡ part.old.partition.core.number }
+    requires past { part.old.partition.core.moment ≤ clock.old }
+    requires begun { 0 < clock.old }
+    ensures runs { IfOk result (λ told. IfSome told (λ answer.
+        Runs D.Receipt.keeps F.Key.cmp F.meaning part.old.partition part.new.partition op (Ok answer))) }
+    ensures stays { IfOk result (λ told. told ≡ None
+        → StaysIdle D.Receipt.keeps F.Key.cmp part.old.partition part.new.partition) }
+    ensures full { IfOk result (λ told. told ≡ None → IsFull part.old.partition.core.records) }
+    ensures steady { OnOk result (P.failures reader.new ≡ P.failures reader.old) }
+    ensures left { OnErr result (StaysIdle D.Receipt.keeps F.Key.cmp part.old.partition part.new.partition) }
+    ensures passed { IsPassed part.new.partition.core.moment clock.old clock.new }
+    ensures unread { is_merge op ≡ true → reader.new ≡ reader.old }
+    ensures same_writer { part.new.writer ≡ part.old.writer }
+    ensures told { IfErr result (IsStopped D.Receipt.keeps F.MERGES
+        op part.new.partition.core.records.tail clock.new
+        (failures_of D.Writer.failures P.failures part.old.writer reader.old)
+        (failures_of D.Writer.failures P.failures part.new.writer reader.new)) }
+{
+    let told = match once(functions, part, reader, op, clock) {
+        Ok(told) => told,
+        Err(refused) => return Err(refused),
+    };
+    match &told {
+        Progress::Done(answer, _) => Ok(Some(*answer)),
+        Progress::Waits(_) => {
+            let _given_up = part.partition.give_up_untimed(SLOT, CONTEXT);
+            Ok(None)
+        }
+        Progress::Next | Progress::NeedsBuild(_) | Progress::NeedsLoad(_, _) => unreachable!(),
+    }
+}
+
 /// Makes an operation in a session that has nothing open, by the events of its partition, to its end. What it asks for is built
-/// or read. Where it has to wait it is given up, which is without effect, pages move on, and it begins anew.
+/// or read. Where it finds no room it is given up, which is without effect, pages move on, and it begins anew: then there is.
 pub fn run_by_events<F: Mergeable, D: Disk, P: PageReader<Receipt = D::Receipt>>(
     terms: &Terms<F>,
     part: &mut Part<F, D>,
@@ -83,30 +121,27 @@ pub fn run_by_events<F: Mergeable, D: Disk, P: PageReader<Receipt = D::Receipt>>
     ensures runs { Runs D.Receipt.keeps F.Key.cmp F.meaning part.old.partition part.new.partition op result }
     ensures passed { IsPassed part.new.partition.core.moment clock.old clock.new }
     ensures unread { is_merge op ≡ true → reader.new ≡ reader.old }
-    ensures told { IfErr result (IsStopped F.MERGES
-        (IsEntryIn F.Key.codec F.Value.codec) F.Key.cmp
-        op terms.now.tries part.new.partition.core.records.tail clock.old clock.new
+    ensures told { IfErr result (IsStopped D.Receipt.keeps F.MERGES
+        op part.new.partition.core.records.tail clock.new
         (failures_of D.Writer.failures P.failures part.old.writer reader.old)
         (failures_of D.Writer.failures P.failures part.new.writer reader.new)) }
 {
-    for _try in 0..terms.tries {
-        let told = match once(&terms.functions, part, reader, op, clock) {
-            Ok(told) => told,
-            Err(refused) => return Err(refused),
-        };
-        match &told {
-            Progress::Done(answer, _) => return Ok(*answer),
-            Progress::Waits(_) => {
-                let _given_up = part.partition.give_up_untimed(SLOT, CONTEXT);
-                match tidy(terms.alloc, terms.frames, part, clock) {
-                    Ok(()) => {}
-                    Err(refused) => return Err(refused),
-                }
-            }
-            Progress::Next | Progress::NeedsBuild(_) | Progress::NeedsLoad(_, _) => unreachable!(),
-        }
+    let first = try_by_events(&terms.functions, part, reader, op, clock);
+    match first {
+        Ok(Some(answer)) => return Ok(answer),
+        Ok(None) => {}
+        Err(refused) => return Err(refused),
     }
-    Err(Refused::Stalled)
+    match tidy(terms.alloc, part, clock) {
+        Ok(()) => {}
+        Err(refused) => return Err(refused),
+    }
+    let second = try_by_events(&terms.functions, part, reader, op, clock);
+    match second {
+        Ok(Some(answer)) => Ok(answer),
+        Ok(None) => unreachable!(),
+        Err(refused) => Err(refused),
+    }
 }
 
 /// Makes an update in one call, where its key's last record may be changed in place. Answers what it shows, or `None`, and then
@@ -194,7 +229,7 @@ fn tidy_where_grown<F: Mergeable, D: Disk>(
     if shard.part.tidied == tail {
         return Ok(());
     }
-    match tidy(terms.alloc, terms.frames, &mut shard.part, clock) {
+    match tidy(terms.alloc, &mut shard.part, clock) {
         Ok(()) => shard.part.tidied = tail,
         Err(refused) => return Err(refused),
     }
@@ -216,9 +251,8 @@ pub fn operate<F: Mergeable, D: Disk>(
     requires begun { 0 < clock.old }
     ensures runs { Runs D.Receipt.keeps F.Key.cmp F.meaning shard.old.part.partition shard.new.part.partition op result }
     ensures passed { IsPassed shard.new.part.partition.core.moment clock.old clock.new }
-    ensures told { IfErr result (IsRefusedBy F.MERGES terms.now.keeps_log
-        (IsEntryIn F.Key.codec F.Value.codec) F.Key.cmp
-        D.Writer.failures D.Reader.failures op terms.now.tries shard.new.part.partition.core.records.tail clock.old clock.new
+    ensures told { IfErr result (IsRefusedBy D.Receipt.keeps F.MERGES terms.now.keeps_log
+        D.Writer.failures D.Reader.failures op shard.new.part.partition.core.records.tail clock.new
         shard.old.part.writer shard.old.reader shard.new.part.writer shard.new.reader) }
 {
     match op {
@@ -243,9 +277,8 @@ fn operate_by_events<F: Mergeable, D: Disk>(
     requires begun { 0 < clock.old }
     ensures runs { Runs D.Receipt.keeps F.Key.cmp F.meaning shard.old.part.partition shard.new.part.partition op result }
     ensures passed { IsPassed shard.new.part.partition.core.moment clock.old clock.new }
-    ensures told { IfErr result (IsRefusedBy F.MERGES terms.now.keeps_log
-        (IsEntryIn F.Key.codec F.Value.codec) F.Key.cmp
-        D.Writer.failures D.Reader.failures op terms.now.tries shard.new.part.partition.core.records.tail clock.old clock.new
+    ensures told { IfErr result (IsRefusedBy D.Receipt.keeps F.MERGES terms.now.keeps_log
+        D.Writer.failures D.Reader.failures op shard.new.part.partition.core.records.tail clock.new
         shard.old.part.writer shard.old.reader shard.new.part.writer shard.new.reader) }
 {
     let tidied = tidy_at_times(terms, shard, clock);
@@ -272,9 +305,8 @@ pub fn read<F: Mergeable, D: Disk>(
     ensures runs { Runs D.Receipt.keeps F.Key.cmp F.meaning shard.old.part.partition shard.new.part.partition
         (Read key.now input.now) result }
     ensures passed { IsPassed shard.new.part.partition.core.moment clock.old clock.new }
-    ensures told { IfErr result (IsRefusedBy F.MERGES terms.now.keeps_log
-        (IsEntryIn F.Key.codec F.Value.codec) F.Key.cmp
-        D.Writer.failures D.Reader.failures (Read key.now input.now) terms.now.tries shard.new.part.partition.core.records.tail clock.old clock.new
+    ensures told { IfErr result (IsRefusedBy {V = F.Value} D.Receipt.keeps F.MERGES terms.now.keeps_log
+        D.Writer.failures D.Reader.failures (Read key.now input.now) shard.new.part.partition.core.records.tail clock.new
         shard.old.part.writer shard.old.reader shard.new.part.writer shard.new.reader) }
 {
     match tidy_at_times(terms, shard, clock) {
@@ -311,9 +343,8 @@ pub fn update<F: Mergeable, D: Disk>(
     ensures runs { Runs D.Receipt.keeps F.Key.cmp F.meaning shard.old.part.partition shard.new.part.partition
         (Rmw key.now input.now) result }
     ensures passed { IsPassed shard.new.part.partition.core.moment clock.old clock.new }
-    ensures told { IfErr result (IsRefusedBy F.MERGES terms.now.keeps_log
-        (IsEntryIn F.Key.codec F.Value.codec) F.Key.cmp
-        D.Writer.failures D.Reader.failures (Rmw key.now input.now) terms.now.tries shard.new.part.partition.core.records.tail clock.old clock.new
+    ensures told { IfErr result (IsRefusedBy {V = F.Value} D.Receipt.keeps F.MERGES terms.now.keeps_log
+        D.Writer.failures D.Reader.failures (Rmw key.now input.now) shard.new.part.partition.core.records.tail clock.new
         shard.old.part.writer shard.old.reader shard.new.part.writer shard.new.reader) }
 {
     match tidy_at_times(terms, shard, clock) {

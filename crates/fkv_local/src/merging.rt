@@ -1,6 +1,5 @@
 //! Updates that read no page: where one would have to be read they are merges.
 ghost use Rattle.std.specs.Prelude.{◌≡◌, ◌≤◌, ◌<◌, ℕ, true, None, Ok, IsTrue, IfOk, IfErr, OnErr, IfSome, IsSome};
-ghost use Rattle.fkv_pages.specs.Spelled.{IsEntryIn};
 ghost use Rattle.fkv_operations.specs.After.{key_of, is_merge};
 ghost use Rattle.fkv_operations.specs.declared.operations.KeyedOp.TheVariants.{Rmw};
 ghost use Rattle.fkv_partition.specs.CoreViews.{partition_of};
@@ -37,9 +36,8 @@ fn run_in_memory<F: Mergeable, D: Disk>(
     ensures left { OnErr result (StaysIdle D.Receipt.keeps F.Key.cmp part.old.partition part.new.partition) }
     ensures merges { is_merge op ≡ true → IfOk result IsSome }
     ensures passed { IsPassed part.new.partition.core.moment clock.old clock.new }
-    ensures told { IfErr result (λ e. (reads : ℕ) → IsStopped F.MERGES
-        (IsEntryIn F.Key.codec F.Value.codec) F.Key.cmp
-        op terms.now.tries part.new.partition.core.records.tail clock.old clock.new
+    ensures told { IfErr result (λ e. (reads : ℕ) → IsStopped D.Receipt.keeps F.MERGES
+        op part.new.partition.core.records.tail clock.new
         (record { writes = D.Writer.failures part.old.writer; reads = reads })
         (record { writes = D.Writer.failures part.new.writer; reads = reads }) e) }
 {
@@ -73,9 +71,8 @@ fn merge_for_page<F: Mergeable, D: Disk>(
     requires begun { 0 < clock.old }
     ensures runs { Updates D.Receipt.keeps F.Key.cmp F.meaning part.old.partition part.new.partition key.now input.now result }
     ensures passed { IsPassed part.new.partition.core.moment clock.old clock.new }
-    ensures told { IfErr result (λ e. (reads : ℕ) → IsStopped F.MERGES
-        (IsEntryIn F.Key.codec F.Value.codec) F.Key.cmp
-        (Rmw key.now input.now) terms.now.tries part.new.partition.core.records.tail clock.old clock.new
+    ensures told { IfErr result (λ e. (reads : ℕ) → IsStopped {V = F.Value} D.Receipt.keeps F.MERGES
+        (Rmw key.now input.now) part.new.partition.core.records.tail clock.new
         (record { writes = D.Writer.failures part.old.writer; reads = reads })
         (record { writes = D.Writer.failures part.new.writer; reads = reads }) e) }
 {
@@ -111,9 +108,8 @@ pub fn update_or_merge<F: Mergeable, D: Disk>(
     ensures runs { Updates D.Receipt.keeps F.Key.cmp F.meaning shard.old.part.partition shard.new.part.partition
         key.now input.now result }
     ensures passed { IsPassed shard.new.part.partition.core.moment clock.old clock.new }
-    ensures told { IfErr result (IsRefusedBy F.MERGES terms.now.keeps_log
-        (IsEntryIn F.Key.codec F.Value.codec) F.Key.cmp
-        D.Writer.failures D.Reader.failures (Rmw key.now input.now) terms.now.tries shard.new.part.partition.core.records.tail clock.old clock.new
+    ensures told { IfErr result (IsRefusedBy {V = F.Value} D.Receipt.keeps F.MERGES terms.now.keeps_log
+        D.Writer.failures D.Reader.failures (Rmw key.now input.now) shard.new.part.partition.core.records.tail clock.new
         shard.old.part.writer shard.old.reader shard.new.part.writer shard.new.reader) }
     ensures unread { IsTrue F.MERGES → IsTrue terms.now.keeps_log → shard.new.reader ≡ shard.old.reader }
 {

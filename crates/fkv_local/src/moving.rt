@@ -3,42 +3,37 @@
 //! A partition keeps its newest records in memory. ReadOnly follows the tail at half of the frames, each page below it
 //! is written, and Head follows so that the page after the tail's finds its frame free. Whatever is refused on the way, the map
 //! stays, and the next call takes up where this one ended.
-ghost use Rattle.std.specs.Prelude.{◌≡◌, ◌≤◌, ◌+◌, ◌^◌, IfErr, OnOk};
+ghost use Rattle.std.specs.Prelude.{◌≡◌, ◌<◌, ◌≤◌, ◌+◌, ◌^◌, false, IfOk, IfErr, OnOk};
+ghost use Rattle.fkv_records.specs.Places.{page_at, start_at};
+ghost use Rattle.fkv_regions.specs.Settled.{IsSettled};
+ghost use Rattle.fkv_regions.specs.RegionsView.{refreshed};
+ghost use Rattle.fkv_lookups.specs.RecordsViews.{IsFull};
 ghost use Rattle.fkv_partition.specs.CoreBeginning.{IsEntered};
-ghost use Rattle.fkv_local.specs.Moving.{IsTidied, IsPassed, IsMoveRefusal, SeesNow};
+ghost use Rattle.fkv_local.specs.Moving.{IsTidied, IsOnward, StaysSettled, IsSameLog, IsWritten, IsPassed, IsMoveRefusal};
 
 use crate::parts::{Part, SLOT};
 use fkv_device::{Disk, Receipt, Written};
 use fkv_functions::{Mergeable, Refused};
 use fkv_operations::Clock;
 use fkv_partition::{Partition, kept_page, read_only_page};
+use fkv_records::Address;
 use std::alloc::Global;
 
-/// Refreshes the session. Refused: `Worn` where no moment is left.
-fn refresh<F: Mergeable, R: Receipt>(
-    partition: &mut Partition<F, R>,
-    clock: &mut Clock,
-) -> Result<(), Refused>
+/// Refreshes the session.
+fn refresh<F: Mergeable, R: Receipt>(partition: &mut Partition<F, R>, now: u64)
     requires entered { IsEntered partition.old.core 0 }
-    requires past { partition.old.core.moment ≤ clock.old }
+    requires later { partition.old.core.moment < now }
     ensures tidied { IsTidied R.keeps F.Key.cmp partition.old partition.new }
-    ensures seen { OnOk result (SeesNow partition.new.core 0) }
-    ensures passed { IsPassed partition.new.core.moment clock.old clock.new }
-    ensures told { IfErr result (λ e. (e ≡ Refused.Worn) × (2 ^ 64 ≤ clock.new + 1)) }
+    ensures onward { IsOnward partition.old partition.new }
+    ensures refreshed { partition.new.core.records.regions ≡ refreshed partition.old.core.records.regions 0 }
+    ensures same_log { IsSameLog partition.old partition.new }
+    ensures moment { partition.new.core.moment ≤ now }
 {
-    let now = match clock.tick() {
-        Ok(now) => now,
-        Err(refused) => return Err(refused),
-    };
     partition.known();
-    match partition.refresh(SLOT, now) {
-        Ok(()) => Ok(()),
-        Err(refused) => Err(refused),
-    }
+    let _refreshed = partition.refresh(SLOT, now);
 }
 
-/// Moves ReadOnly to a page, where that is due and there is room for the move, and refreshes the session. Refused: `Worn`
-/// where no moment is left.
+/// Moves ReadOnly to a page, where that is due, and refreshes the session. Refused: `Worn` where no two moments are left.
 fn freeze<F: Mergeable, R: Receipt>(
     partition: &mut Partition<F, R>,
     page: u64,
@@ -47,20 +42,27 @@ fn freeze<F: Mergeable, R: Receipt>(
     requires entered { IsEntered partition.old.core 0 }
     requires past { partition.old.core.moment ≤ clock.old }
     ensures tidied { IsTidied R.keeps F.Key.cmp partition.old partition.new }
-    ensures seen { OnOk result (SeesNow partition.new.core 0) }
+    ensures onward { IsOnward partition.old partition.new }
+    ensures settled { StaysSettled partition.old partition.new }
+    ensures frozen { OnOk result (IsSettled partition.old.core.records.regions
+        → page ≤ page_at partition.old.core.records.regions.bits partition.old.core.records.tail
+        → start_at partition.old.core.records.regions.bits page
+        ≤ partition.new.core.records.regions.offsets.read_only) }
+    ensures same_log { IsSameLog partition.old partition.new }
     ensures passed { IsPassed partition.new.core.moment clock.old clock.new }
-    ensures told { IfErr result (λ e. (e ≡ Refused.Worn) × (2 ^ 64 ≤ clock.new + 1)) }
+    ensures told { IfErr result (λ e. (e ≡ Refused.Worn) × (2 ^ 64 ≤ clock.new + 2)) }
 {
-    let now = match clock.tick() {
-        Ok(now) => now,
+    let (shifted, refreshed) = match clock.tick_twice() {
+        Ok(moments) => moments,
         Err(refused) => return Err(refused),
     };
-    let _passed = partition.shift_read_only(page, now);
-    refresh(partition, clock)
+    partition.known();
+    let _passed = partition.shift_read_only(page, shifted);
+    refresh(partition, refreshed);
+    Ok(())
 }
 
-/// Moves Head to a page, where that is due and there is room for the move, and refreshes the session. Refused: `Worn`
-/// where no moment is left.
+/// Moves Head to a page, where that is due, and refreshes the session. Refused: `Worn` where no two moments are left.
 fn evict<F: Mergeable, R: Receipt>(
     partition: &mut Partition<F, R>,
     page: u64,
@@ -69,16 +71,24 @@ fn evict<F: Mergeable, R: Receipt>(
     requires entered { IsEntered partition.old.core 0 }
     requires past { partition.old.core.moment ≤ clock.old }
     ensures tidied { IsTidied R.keeps F.Key.cmp partition.old partition.new }
-    ensures seen { OnOk result (SeesNow partition.new.core 0) }
+    ensures onward { IsOnward partition.old partition.new }
+    ensures settled { StaysSettled partition.old partition.new }
+    ensures evicted { OnOk result (IsSettled partition.old.core.records.regions
+        → page ≤ partition.old.core.records.regions.flushed
+        → start_at partition.old.core.records.regions.bits page
+        ≤ partition.new.core.records.regions.offsets.head) }
+    ensures same_log { IsSameLog partition.old partition.new }
     ensures passed { IsPassed partition.new.core.moment clock.old clock.new }
-    ensures told { IfErr result (λ e. (e ≡ Refused.Worn) × (2 ^ 64 ≤ clock.new + 1)) }
+    ensures told { IfErr result (λ e. (e ≡ Refused.Worn) × (2 ^ 64 ≤ clock.new + 2)) }
 {
-    let now = match clock.tick() {
-        Ok(now) => now,
+    let (shifted, refreshed) = match clock.tick_twice() {
+        Ok(moments) => moments,
         Err(refused) => return Err(refused),
     };
-    let _passed = partition.shift_head(page, now);
-    refresh(partition, clock)
+    partition.known();
+    let _passed = partition.shift_head(page, shifted);
+    refresh(partition, refreshed);
+    Ok(())
 }
 
 /// Writes the lowest page that is not flushed, where it waits. `Ok` tells whether it did. Refused: `Worn`, `NoMemory`,
@@ -90,7 +100,13 @@ fn flush<F: Mergeable, D: Disk>(
 ) -> Result<bool, Refused>
     requires past { part.old.partition.core.moment ≤ clock.old }
     ensures tidied { IsTidied D.Receipt.keeps F.Key.cmp part.old.partition part.new.partition }
+    ensures onward { IsOnward part.old.partition part.new.partition }
+    ensures settled { StaysSettled part.old.partition part.new.partition }
     ensures passed { IsPassed part.new.partition.core.moment clock.old clock.new }
+    ensures same_log { IsSameLog part.old.partition part.new.partition }
+    ensures same_offsets { part.new.partition.core.records.regions.offsets ≡ part.old.partition.core.records.regions.offsets }
+    ensures later { OnOk result (clock.old < clock.new) }
+    ensures written { IfOk result (λ did. did ≡ false → IsWritten part.new.partition) }
     ensures steady { OnOk result (D.Writer.failures part.new.writer ≡ D.Writer.failures part.old.writer) }
     ensures told { IfErr result (IsMoveRefusal clock.new (D.Writer.failures part.old.writer)
         (D.Writer.failures part.new.writer)) }
@@ -101,7 +117,12 @@ fn flush<F: Mergeable, D: Disk>(
     };
     let job = match part.partition.flush_take(alloc, taken) {
         Ok(job) => job,
-        Err(Refused::NotDue) => return Ok(false),
+        Err(Refused::NotDue) => {
+            // which says how many pages wait
+            part.partition.known();
+            part.partition.pages_known();
+            return Ok(false);
+        }
         Err(refused) => return Err(refused),
     };
     let written = match Written::<D::Receipt>::write(&mut part.writer, job) {
@@ -118,64 +139,76 @@ fn flush<F: Mergeable, D: Disk>(
     }
 }
 
-/// Writes the pages that wait, as many as there are frames at the most. Refused as [`flush`] is.
+/// Writes the pages that wait. Refused as [`flush`] is.
 fn flush_all<F: Mergeable, D: Disk>(
     alloc: Global,
-    frames: u64,
     part: &mut Part<F, D>,
     clock: &mut Clock,
 ) -> Result<(), Refused>
     requires past { part.old.partition.core.moment ≤ clock.old }
     ensures tidied { IsTidied D.Receipt.keeps F.Key.cmp part.old.partition part.new.partition }
+    ensures onward { IsOnward part.old.partition part.new.partition }
+    ensures settled { StaysSettled part.old.partition part.new.partition }
+    ensures same_log { IsSameLog part.old.partition part.new.partition }
+    ensures same_offsets { part.new.partition.core.records.regions.offsets ≡ part.old.partition.core.records.regions.offsets }
+    ensures written { OnOk result (IsWritten part.new.partition) }
     ensures passed { IsPassed part.new.partition.core.moment clock.old clock.new }
     ensures steady { OnOk result (D.Writer.failures part.new.writer ≡ D.Writer.failures part.old.writer) }
     ensures told { IfErr result (IsMoveRefusal clock.new (D.Writer.failures part.old.writer)
         (D.Writer.failures part.new.writer)) }
 {
-    for _page in 0..frames {
+    for _page in 0..u64::MAX {
         match flush(alloc, part, clock) {
             Ok(true) => {}
             Ok(false) => return Ok(()),
             Err(refused) => return Err(refused),
         }
     }
-    Ok(())
+    // each of them took two moments
+    Err(Refused::Worn)
 }
 
-/// The page of a partition's next record.
-fn tail_page<F: Mergeable, R: Receipt>(partition: &Partition<F, R>) -> u64 {
-    let size = partition.page_size() as u64;
-    partition.tail().checked_div(size).unwrap_or(0)
+/// The page of an address of a partition's log.
+pub fn page_of<F: Mergeable, R: Receipt>(partition: &Partition<F, R>, address: Address) -> u64
+    ensures value { result ≡ page_at partition.now.core.records.page_bits address }
+{
+    // which says that a page has bytes
+    partition.known();
+    address / partition.page_size() as u64
 }
 
 /// Moves a partition's pages on: ReadOnly follows the tail, so that half of the frames are changed in place, one at
-/// least; the session is refreshed; the pages below are written, as many as there are frames at the most; Head follows,
-/// as far as pages are written, so that the page behind the tail's finds its frame free; and the session is refreshed.
-/// What is not due is passed over. Refused: `Worn`, `NoMemory`, and as the device refuses a page.
+/// least; the session is refreshed; the pages below are written; Head follows, so that the page behind the tail's finds its frame
+/// free; and the session is refreshed. What is not due is passed over. **Once it is done there is room for a record.** Refused:
+/// `Worn`, `NoMemory`, and as the device refuses a page.
 pub fn tidy<F: Mergeable, D: Disk>(
     alloc: Global,
-    frames: u64,
     part: &mut Part<F, D>,
     clock: &mut Clock,
 ) -> Result<(), Refused>
     requires entered { IsEntered part.old.partition.core 0 }
     requires past { part.old.partition.core.moment ≤ clock.old }
     ensures tidied { IsTidied D.Receipt.keeps F.Key.cmp part.old.partition part.new.partition }
-    ensures seen { OnOk result (SeesNow part.new.partition.core 0) }
+    ensures onward { IsOnward part.old.partition part.new.partition }
+    ensures settled { StaysSettled part.old.partition part.new.partition }
+    ensures roomy { OnOk result (IsSettled part.old.partition.core.records.regions
+        → IsFull part.new.partition.core.records → ⊥) }
     ensures passed { IsPassed part.new.partition.core.moment clock.old clock.new }
     ensures steady { OnOk result (D.Writer.failures part.new.writer ≡ D.Writer.failures part.old.writer) }
     ensures told { IfErr result (IsMoveRefusal clock.new (D.Writer.failures part.old.writer)
         (D.Writer.failures part.new.writer)) }
 {
-    let tail = tail_page(&part.partition);
+    // which says that regions have its pages' size
+    part.partition.known();
+    let frames = part.partition.frames();
+    let tail = page_of(&part.partition, part.partition.tail());
     match freeze(&mut part.partition, read_only_page(frames, tail), clock) {
         Ok(()) => {}
         Err(refused) => return Err(refused),
     }
-    match flush_all(alloc, frames, part, clock) {
+    match flush_all(alloc, part, clock) {
         Ok(()) => {}
         Err(refused) => return Err(refused),
     }
-    let head = kept_page(frames, tail).min(part.partition.unflushed());
-    evict(&mut part.partition, head, clock)
+    evict(&mut part.partition, kept_page(frames, tail), clock)
 }

@@ -19,10 +19,6 @@ pub const SLOT: usize = 0;
 pub struct Terms<F: Mergeable> {
     pub alloc: Global,
     pub functions: F,
-    /// The page frames of each partition.
-    pub frames: u64,
-    /// How often an operation begins that has to wait: one more than it may take turns.
-    pub tries: u64,
     /// Whether logs are compacted on call alone.
     pub keeps_log: bool,
 }

@@ -2,7 +2,6 @@
 ghost use Rattle.std.specs.Prelude.{◌≡◌, ◌≢◌, ◌<◌, ◌+◌, ◌-◌, ◌^◌, min, sum_by, ℕ, true, false, None, Some, Err, IsTrue, IfOk, IfErr, OnOk, List, map, length, slice_get};
 ghost use Rattle.std.specs.BTreeMap.{get};
 ghost use Rattle.fkv_records.specs.Records.{size_of};
-ghost use Rattle.fkv_pages.specs.Spelled.{IsEntryIn};
 ghost use Rattle.fkv_functions.specs.Plain.{Same};
 ghost use Rattle.fkv_operations.specs.After.{after, answer};
 ghost use Rattle.fkv_operations.specs.declared.operations.KeyedOp.TheVariants.{Read, Upsert, Rmw, Delete, Merge};
@@ -10,7 +9,7 @@ ghost use Rattle.fkv_partition.specs.CoreViews.{partition_of};
 ghost use Rattle.fkv_partition.specs.Limits.{IsWithinLimits};
 ghost use Rattle.fkv_partition.specs.Views.{PartitionView};
 ghost use Rattle.fkv_local.specs.Storing.{plain, IsRun, IsUpdateRun, IsUnopened, SameTerms, log_bytes, evicted_bytes};
-ghost use Rattle.fkv_local.specs.Clearing.{IsCutAt, AnyIsCut, IsAllCut, begin_at};
+ghost use Rattle.fkv_local.specs.Clearing.{IsCutAt, AnyIsCut, IsAllCut, IsGivenBack, IsAllGivenBack, begin_at};
 ghost use Rattle.fkv_local.specs.Refusing.{IsRefusal, IsUncompacted, IsUncompactedAt, FailedAsBefore, StaysAt};
 ghost use Rattle.fkv_local.specs.Listing.{IsUnlisted, lists_of, left};
 
@@ -31,8 +30,9 @@ use std::marker::Model;
 
 /// A store of values by key, on one thread, whose pages move to a device by themselves. **It is a plain map**: `plain` of it. On a
 /// device that keeps what it is given, each operation that is answered has made of that map what it makes of a plain one, and is
-/// answered as by a plain one; each that is refused has left it. On any other device the same holds of what comes back undamaged,
-/// and damage is told, not answered.
+/// answered as by a plain one; each that is refused has left it, and none is refused as damaged but where a reader told that and
+/// counted it. On any other device no clause says what an answer is: bytes that come back otherwise than they were written are
+/// answered where they spell records, unless the reader compares them, as the one of a folder does by their SHA-256.
 #[derive(Drop)]
 pub struct LocalStore<F: Mergeable, D: Disk> {
     terms: Terms<F>,
@@ -52,7 +52,6 @@ impl<F: Mergeable, D: Disk> Model for LocalStore<F, D> {
       writers = map (λ shard. shard.part.writer) s.shards.items;
       readers = map (λ shard. shard.reader) s.shards.items;
       keeps_log = s.terms.keeps_log;
-      tries = s.terms.tries;
       moments = s.clock;
     } };
 
@@ -74,7 +73,6 @@ impl<F: Mergeable, D: Disk> LocalStore<F, D> {
     ) -> Result<Self, Refused>
         ensures empty { IfOk result (λ s. (k : F.Key) → plain F.Key.cmp F.code s k ≡ None) }
         ensures compacts { IfOk result (λ s. s.keeps_log ≡ false) }
-        ensures tries { IfOk result (λ s. s.tries ≡ min (config.now.turns + 1) (2 ^ 64 - 1)) }
         ensures sized { IfOk result (λ s. length s.parts ≡ 2 ^ config.now.partition_bits) }
         ensures good { result ≢ Err Refused.BadConfig → IsWithinLimits config.now (size_of F.Key.SIZE F.Value.SIZE) }
         ensures bad { result ≡ Err Refused.BadConfig → IsWithinLimits config.now (size_of F.Key.SIZE F.Value.SIZE) → ⊥ }
@@ -90,8 +88,6 @@ impl<F: Mergeable, D: Disk> LocalStore<F, D> {
                 terms: Terms {
                     alloc,
                     functions,
-                    frames: config.frames,
-                    tries: config.turns.saturating_add(1),
                     keeps_log: false,
                 },
                 shards,
@@ -114,11 +110,10 @@ impl<F: Mergeable, D: Disk> LocalStore<F, D> {
     ///
     /// `NoMemory`; `NoMerge` of a merge, where the functions don't merge; `Device` with code 2 or 3 where a page can't be written
     /// or read; `Damaged` where a page came back with other bytes, or spells no record; `Worn` where no address or no two moments
-    /// are left; `Stalled` where it had to wait more often than the configuration has turns.
+    /// are left. It is never `Stalled`: where there is no room for a record pages move on, and then there is.
     pub fn run(&mut self, op: KeyedOpOf<F>) -> Result<Answer<F::Output>, Refused>
         ensures runs { IsTrue D.Receipt.keeps → IsRun F.Key.cmp F.meaning (plain F.Key.cmp F.code self.old) (plain F.Key.cmp F.code self.new) op result }
-        ensures told { IfErr result (IsRefusal F.MERGES
-            (IsEntryIn F.Key.codec F.Value.codec) F.Key.cmp
+        ensures told { IfErr result (IsRefusal D.Receipt.keeps F.MERGES
             F.code D.Writer.failures D.Reader.failures self.old self.new op) }
         ensures same_terms { SameTerms self.old self.new }
     {
@@ -135,8 +130,7 @@ impl<F: Mergeable, D: Disk> LocalStore<F, D> {
     /// As [`LocalStore::run`]'s.
     pub fn rmw(&mut self, key: &F::Key, input: &F::Input) -> Result<Answer<F::Output>, Refused>
         ensures runs { IsTrue D.Receipt.keeps → IsRun F.Key.cmp F.meaning (plain F.Key.cmp F.code self.old) (plain F.Key.cmp F.code self.new) (Rmw key.now input.now) result }
-        ensures told { IfErr result (IsRefusal F.MERGES
-            (IsEntryIn F.Key.codec F.Value.codec) F.Key.cmp
+        ensures told { IfErr result (IsRefusal D.Receipt.keeps F.MERGES
             F.code D.Writer.failures D.Reader.failures self.old self.new (Rmw key.now input.now)) }
         ensures same_terms { SameTerms self.old self.new }
     {
@@ -157,8 +151,7 @@ impl<F: Mergeable, D: Disk> LocalStore<F, D> {
         input: &F::Input,
     ) -> Result<Answer<F::Output>, Refused>
         ensures runs { IsTrue D.Receipt.keeps → IsUpdateRun F.Key.cmp F.meaning (plain F.Key.cmp F.code self.old) (plain F.Key.cmp F.code self.new) key.now input.now result }
-        ensures told { IfErr result (IsRefusal F.MERGES
-            (IsEntryIn F.Key.codec F.Value.codec) F.Key.cmp
+        ensures told { IfErr result (IsRefusal D.Receipt.keeps F.MERGES
             F.code D.Writer.failures D.Reader.failures self.old self.new (Rmw key.now input.now)) }
         ensures unread { IsTrue F.MERGES → IsTrue self.old.keeps_log → self.new.readers ≡ self.old.readers }
         ensures same_terms { SameTerms self.old self.new }
@@ -175,8 +168,7 @@ impl<F: Mergeable, D: Disk> LocalStore<F, D> {
     /// As [`LocalStore::run`]'s.
     pub fn read(&mut self, key: &F::Key, input: &F::Input) -> Result<Answer<F::Output>, Refused>
         ensures runs { IsTrue D.Receipt.keeps → IsRun F.Key.cmp F.meaning (plain F.Key.cmp F.code self.old) (plain F.Key.cmp F.code self.new) (Read key.now input.now) result }
-        ensures told { IfErr result (IsRefusal F.MERGES
-            (IsEntryIn F.Key.codec F.Value.codec) F.Key.cmp
+        ensures told { IfErr result (IsRefusal D.Receipt.keeps F.MERGES
             F.code D.Writer.failures D.Reader.failures self.old self.new (Read key.now input.now)) }
         ensures same_terms { SameTerms self.old self.new }
     {
@@ -192,8 +184,7 @@ impl<F: Mergeable, D: Disk> LocalStore<F, D> {
     /// As [`LocalStore::run`]'s.
     pub fn upsert(&mut self, key: &F::Key, value: &F::Value) -> Result<Answer<F::Output>, Refused>
         ensures runs { IsTrue D.Receipt.keeps → IsRun F.Key.cmp F.meaning (plain F.Key.cmp F.code self.old) (plain F.Key.cmp F.code self.new) (Upsert key.now value.now) result }
-        ensures told { IfErr result (IsRefusal F.MERGES
-            (IsEntryIn F.Key.codec F.Value.codec) F.Key.cmp
+        ensures told { IfErr result (IsRefusal D.Receipt.keeps F.MERGES
             F.code D.Writer.failures D.Reader.failures self.old self.new (Upsert key.now value.now)) }
         ensures same_terms { SameTerms self.old self.new }
     {
@@ -207,8 +198,7 @@ impl<F: Mergeable, D: Disk> LocalStore<F, D> {
     /// As [`LocalStore::run`]'s.
     pub fn delete(&mut self, key: &F::Key) -> Result<Answer<F::Output>, Refused>
         ensures runs { IsTrue D.Receipt.keeps → IsRun F.Key.cmp F.meaning (plain F.Key.cmp F.code self.old) (plain F.Key.cmp F.code self.new) (Delete key.now) result }
-        ensures told { IfErr result (IsRefusal F.MERGES
-            (IsEntryIn F.Key.codec F.Value.codec) F.Key.cmp
+        ensures told { IfErr result (IsRefusal D.Receipt.keeps F.MERGES
             F.code D.Writer.failures D.Reader.failures self.old self.new (Delete key.now)) }
         ensures same_terms { SameTerms self.old self.new }
     {
@@ -222,8 +212,7 @@ impl<F: Mergeable, D: Disk> LocalStore<F, D> {
     /// As [`LocalStore::run`]'s.
     pub fn merge(&mut self, key: &F::Key, input: &F::Input) -> Result<Answer<F::Output>, Refused>
         ensures runs { IsTrue D.Receipt.keeps → IsRun F.Key.cmp F.meaning (plain F.Key.cmp F.code self.old) (plain F.Key.cmp F.code self.new) (Merge key.now input.now) result }
-        ensures told { IfErr result (IsRefusal F.MERGES
-            (IsEntryIn F.Key.codec F.Value.codec) F.Key.cmp
+        ensures told { IfErr result (IsRefusal D.Receipt.keeps F.MERGES
             F.code D.Writer.failures D.Reader.failures self.old self.new (Merge key.now input.now)) }
         ensures same_terms { SameTerms self.old self.new }
     {
@@ -273,9 +262,9 @@ impl<F: Mergeable, D: Disk> LocalStore<F, D> {
         Lists::of(terms, shards)
     }
 
-    /// Appends what lives at the start of each log again, as far as there is room, and cuts that start. Answers whether any log's
-    /// start was cut. No key's value changes, whatever is refused. It is done by itself too, for each partition where its pages
-    /// have moved far enough.
+    /// Appends what lives in the pages that left memory again, and drops those pages: in memory they are freed, and the places that
+    /// they had in files are used again. Answers whether any log's start was cut. No key's value changes, whatever is refused. It is
+    /// done by itself too, as far as it pays, for each partition where its pages have moved far enough.
     ///
     /// # Errors
     ///
@@ -285,11 +274,11 @@ impl<F: Mergeable, D: Disk> LocalStore<F, D> {
         ensures stays { IsTrue D.Receipt.keeps → Same (plain F.Key.cmp F.code self.new) (plain F.Key.cmp F.code self.old) }
         ensures sized { length self.new.parts ≡ length self.old.parts }
         ensures same_terms { SameTerms self.old self.new }
+        ensures given_back { OnOk result (IsAllGivenBack self.old self.new) }
         ensures cut { IfOk result (AnyIsCut self.old self.new) }
         ensures whole { OnOk result ((p : ℕ) (v : PartitionView F.Key F.Value F.Input) → slice_get self.new.parts p ≡ Some v → IsAllCut v) }
         ensures steady { OnOk result ((p : ℕ) → FailedAsBefore D.Writer.failures D.Reader.failures self.old self.new p) }
-        ensures told { IfErr result (IsUncompacted
-            (IsEntryIn F.Key.codec F.Value.codec) F.Key.cmp
+        ensures told { IfErr result (IsUncompacted D.Receipt.keeps
             D.Writer.failures D.Reader.failures self.old self.new) }
     {
         let mut has_cut = false;
@@ -309,12 +298,13 @@ impl<F: Mergeable, D: Disk> LocalStore<F, D> {
         ensures sized { length self.new.parts ≡ length self.old.parts }
         ensures same_terms { SameTerms self.old self.new }
         ensures others { (p : ℕ) → p ≢ home → StaysAt self.old self.new p }
+        ensures given_back { OnOk result ((v w : PartitionView F.Key F.Value F.Input)
+            → slice_get self.old.parts home ≡ Some v → slice_get self.new.parts home ≡ Some w → IsGivenBack v w) }
         ensures cut { IfOk result (λ has_cut. IsTrue has_cut → IsCutAt self.old self.new home) }
         ensures uncut { IfOk result (λ has_cut. has_cut ≡ false → begin_at self.new home ≡ begin_at self.old home) }
         ensures whole { OnOk result ((v : PartitionView F.Key F.Value F.Input) → slice_get self.new.parts home ≡ Some v → IsAllCut v) }
         ensures steady { OnOk result (FailedAsBefore D.Writer.failures D.Reader.failures self.old self.new home) }
-        ensures told { IfErr result (IsUncompactedAt
-            (IsEntryIn F.Key.codec F.Value.codec) F.Key.cmp
+        ensures told { IfErr result (IsUncompactedAt D.Receipt.keeps
             D.Writer.failures D.Reader.failures self.old self.new home) }
     {
         let shard = &mut self.shards[home];

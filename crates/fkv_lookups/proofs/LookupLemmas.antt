@@ -61,6 +61,8 @@ raw-traced {code = code} cmp join v is t =
       below = alike-below v.tail v.text v.entries back t.below;
       regions = t.regions;
       flushed = t.flushed;
+      gone = t.gone;
+      held = t.held;
       chained = alike-chained (class_in code v) same_class v.from v.text v.entries back t.chained;
       buckets = t.buckets;
       map = t.map;

@@ -88,6 +88,8 @@ traced-alike {code = code} v text same t = record {
   below = alike-below v.tail v.text text same t.below;
   regions = t.regions;
   flushed = t.flushed;
+  gone = t.gone;
+  held = t.held;
   chained = alike-chained (class_in code v) same_class v.from v.text text same t.chained;
   buckets = t.buckets;
   map = t.map;
@@ -131,6 +133,8 @@ traced-by cmp join p k size words l few small log chained buckets map leads plac
   below = log.below;
   regions = record { agree = log.regions; timely = log.timely; bits = log.bits; headed = log.headed; read_only = log.read_only };
   flushed = log.flushed;
+  gone = log.gone;
+  held = log.held;
   chained = chained;
   buckets = buckets;
   map = map;
@@ -175,6 +179,8 @@ traced-words v words buckets map same t = record {
   below = t.below;
   regions = t.regions;
   flushed = t.flushed;
+  gone = t.gone;
+  held = t.held;
   chained = t.chained;
   buckets = buckets ∙ t.buckets;
   map = map;
@@ -302,6 +308,8 @@ traced-value {keeps = keeps} {code = code} v a value t = record {
   below = below-changed a value v.tail v.text t.below;
   regions = t.regions;
   flushed = t.flushed;
+  gone = t.gone;
+  held = t.held;
   chained = chained-changed a value (class_in code v) same_class v.from v.text t.chained;
   buckets = t.buckets;
   map = t.map;
@@ -431,6 +439,8 @@ traced-record {K} {V} {keeps} {code} v e key payload has t new moved =
       below = new.below;
       regions = below-tail t.regions rises;
       flushed = t.flushed;
+      gone = t.gone;
+      held = t.held;
       chained = new.chained;
       buckets = moved.buckets ∙ t.buckets;
       map = moved.map;

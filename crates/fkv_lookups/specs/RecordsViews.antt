@@ -4,7 +4,7 @@ use Rattle.std.specs.Prelude.{drop, replicate, map}
 use Rattle.std.specs.declared.cmp.Ordering.{Ordering}
 use Rattle.fkv_records.specs.Places.{page_at, offset_at, start_at}
 use Rattle.fkv_device.specs.Standing.{Standing}
-use Rattle.fkv_pages.specs.Views.{text_begin}
+use Rattle.fkv_pages.specs.Views.{text_begin, let_go}
 use Rattle.fkv_hybrid.specs.Views.{LogView}
 use Rattle.fkv_texts.specs.declared.entries.Entry.{Entry}
 use Rattle.fkv_texts.specs.Places.{tail_after}
@@ -39,7 +39,7 @@ pub record RecordsView (K V : Type 0) : Type 0 where
   pub from : ℕ
   pub tail : ℕ
   pub regions : RegionsView
-  pub receipts : List Standing
+  pub receipts : List (Option Standing)
   pub waiting : List (List ℕ)
   pub entries : List (Entry K V)
   pub text : List (Entry K V)
@@ -169,7 +169,7 @@ released v p = record v { words = with_word v.words p empty }
 -- with the lowest waiting page flushed, by this receipt
 abbrev pub with_receipt : {K V : Type 0} → RecordsView K V → Standing → RecordsView K V
 with_receipt v s = record v {
-  receipts = v.receipts ++ s ∷ [];
+  receipts = v.receipts ++ Some s ∷ [];
   waiting = drop 1 v.waiting;
   regions = with_flushed v.regions (v.regions.flushed + 1);
 }
@@ -198,12 +198,13 @@ pub record IsTruncationDue {K V : Type 0} (v : RecordsView K V) (page : ℕ) : T
   pub higher : v.begin < start_at v.page_bits page
   pub headed : start_at v.page_bits page ≤ v.regions.offsets.head
 
--- with the records below an address dropped, and the entries emptied that lead below it; each record is then in this text
--- with what its key has
+-- with the records below an address dropped, the receipts of the pages below its own let go, and the entries emptied that
+-- lead below it; each record is then in this text with what its key has
 abbrev pub truncated : {K V : Type 0} → Bool → RecordsView K V → ℕ → List (Entry K V) → RecordsView K V
 truncated keeps v begin text = record v {
   begin = begin;
   from = text_begin keeps begin v.regions.offsets.closed;
+  receipts = let_go (page_at v.page_bits begin) v.receipts;
   entries = text_from (text_begin keeps begin v.regions.offsets.closed) v.entries;
   text = text;
   words = map (map (swept begin)) v.words;

@@ -1,8 +1,9 @@
 -- What the records of a partition always keep: each record leads to the one before it in its class, and the entry of a
 -- class to the last; and the views of the sessions agree with the offsets of the log.
-use Rattle.std.specs.Prelude.{◌≡◌, ◌^◌, ◌≤◌, ℕ, Bool, length}
-use Rattle.fkv_pages.specs.Views.{text_begin}
-use Rattle.fkv_records.specs.Places.{IsShape}
+use Rattle.std.specs.Prelude.{◌≡◌, ◌^◌, ◌<◌, ◌≤◌, ℕ, Bool, None, length}
+use Rattle.fkv_pages.specs.Loads.{HasReceipt}
+use Rattle.fkv_pages.specs.Views.{text_begin, receipt_at}
+use Rattle.fkv_records.specs.Places.{IsShape, page_at}
 use Rattle.fkv_records.specs.Records.{IsPrevious}
 use Rattle.fkv_texts.specs.Places.{IsLaidOut}
 use Rattle.fkv_texts.specs.Text.{IsRising, IsFrom, IsBelow}
@@ -39,8 +40,13 @@ pub record IsTraced {K V : Type 0} (keeps : Bool) (code : K → ℕ) (v : Record
   pub from : IsFrom v.from v.text
   pub below : IsBelow v.tail v.text
   pub regions : AreRegionsBelow v.page_bits v.begin v.tail v.regions
-  -- each flushed page has its receipt
+  -- each flushed page has its receipt, but for those below that of Begin, of which none is held
   pub flushed : v.regions.flushed ≡ length v.receipts
+  pub gone : (page : ℕ) → page < page_at v.page_bits v.begin → receipt_at v.receipts page ≡ None
+  pub held : (page : ℕ)
+      → page_at v.page_bits v.begin ≤ page
+      → page < length v.receipts
+      → HasReceipt v.receipts page
   pub chained : IsChained (class_in code v) same_class v.from v.text
   -- the final entries are a map from class to address
   pub buckets : length v.words ≡ 2 ^ v.bucket_bits

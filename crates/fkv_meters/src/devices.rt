@@ -28,6 +28,10 @@ impl<'a, W: PageWriter> PageWriter for MeteredWriter<'a, W> {
         self.meters.count_written(bytes.bytes().len());
         Ok(receipt)
     }
+
+    fn drop_below(&mut self, page: u64) {
+        self.writer.drop_below(page);
+    }
 }
 
 /// Hands reads on to a reader, and counts the pages that were read.

@@ -27,7 +27,7 @@ use Rattle.fkv_pages.proofs.PutLemmas.{put_flushed, put_spelled, put_sized, put_
 
 module _ {K V : Type 0} {ksize vsize : ℕ} (key : Codec K ksize) (value : Codec V vsize) where
   -- bytes are put into the page of an edited entry
-  edited_puts : (keeps : Bool) (shape : Shape) (begin closed frozen tail : ℕ) (receipts : List Standing) (old new : Ring) (text : List (Entry K V)) (a : ℕ)
+  edited_puts : (keeps : Bool) (shape : Shape) (begin closed frozen tail : ℕ) (receipts : List (Option Standing)) (old new : Ring) (text : List (Entry K V)) (a : ℕ)
       (may : Record K V → Type 0) (v : Option V) (page : List ℕ) → IsPages key value keeps shape begin closed frozen tail receipts old text
       → frozen ≤ a → IsSome (entry_at text a) → held old (page_at shape.page_bits a) ≡ Some page → length page ≡ 2 ^ shape.page_bits
       → (r : IsEdited key value may v old.bits a old new page)
@@ -47,7 +47,7 @@ module _ {K V : Type 0} {ksize vsize : ℕ} (key : Codec K ksize) (value : Codec
       put_there bits (page_at bits closed) tail (page_at bits a) (offset_at bits a) r.bytes old new (record { page = page; here = here; sized = page_sized }) into room written
 
   -- the entry at an address has another value, or is a tombstone, where its record may be edited so
-  pub edited : (keeps : Bool) (shape : Shape) (begin closed frozen tail : ℕ) (receipts : List Standing) (old new : Ring) (text : List (Entry K V)) (a : ℕ)
+  pub edited : (keeps : Bool) (shape : Shape) (begin closed frozen tail : ℕ) (receipts : List (Option Standing)) (old new : Ring) (text : List (Entry K V)) (a : ℕ)
       (may : Record K V → Type 0) (v : Option V) (own : Entry K V) (page : List ℕ)
       → IsPages key value keeps shape begin closed frozen tail receipts old text
       → frozen ≤ a → entry_at text a ≡ Some own → may (record_of own) → IfSome v value.is_known → (IsTrue own.delta → IsSome v) → held old (page_at shape.page_bits a) ≡ Some page → length page ≡ 2 ^ shape.page_bits
@@ -123,7 +123,7 @@ module _ {K V : Type 0} {ksize vsize : ℕ} (key : Codec K ksize) (value : Codec
       }
 
   -- the same by what is found in the frames, and what a contract sees then
-  pub edited_by : (keeps : Bool) (shape : Shape) (begin closed frozen tail : ℕ) (receipts : List Standing) (old new : Ring) (text : List (Entry K V)) (a : ℕ)
+  pub edited_by : (keeps : Bool) (shape : Shape) (begin closed frozen tail : ℕ) (receipts : List (Option Standing)) (old new : Ring) (text : List (Entry K V)) (a : ℕ)
       (may : Record K V → Type 0) (v : Option V) (own : Entry K V) (page : List ℕ)
       → IsPages key value keeps shape begin closed frozen tail receipts old text
       → frozen ≤ a → entry_at text a ≡ Some own → may (record_of own) → IfSome v value.is_known → (IsTrue own.delta → IsSome v) → held old (page_at shape.page_bits a) ≡ Some page → length page ≡ 2 ^ shape.page_bits
@@ -158,7 +158,7 @@ module _ {K V : Type 0} {ksize vsize : ℕ} (key : Codec K ksize) (value : Codec
     pub here : IsHeld key value shape ring a entry
 
   -- the same two by what a contract asks
-  pub mutable : (keeps : Bool) (shape : Shape) (begin closed frozen tail : ℕ) (receipts : List Standing) (ring : Ring) (text : List (Entry K V)) (a : ℕ) (seen : PagesView K V)
+  pub mutable : (keeps : Bool) (shape : Shape) (begin closed frozen tail : ℕ) (receipts : List (Option Standing)) (ring : Ring) (text : List (Entry K V)) (a : ℕ) (seen : PagesView K V)
       → view_as keeps shape begin closed frozen tail receipts ring text ≡ seen → IsPages key value keeps shape begin closed frozen tail receipts ring text
       → IsSome (entry_at seen.text a) → seen.frozen ≤ a → IsMutable shape ring text a
   mutable keeps shape begin closed frozen tail receipts ring text a seen is log there high =
@@ -167,7 +167,7 @@ module _ {K V : Type 0} {ksize vsize : ℕ} (key : Codec K ksize) (value : Codec
       let behind = log.ordered.closed_frozen in
       record { entry = f.0; is = f.1; here = entry_held key value keeps shape begin closed frozen tail receipts ring text a f.0 log (omega arith) f.1 }
 
-  pub edited_seen : (keeps : Bool) (shape : Shape) (begin closed frozen tail : ℕ) (receipts : List Standing) (old new : Ring) (text : List (Entry K V)) (a : ℕ)
+  pub edited_seen : (keeps : Bool) (shape : Shape) (begin closed frozen tail : ℕ) (receipts : List (Option Standing)) (old new : Ring) (text : List (Entry K V)) (a : ℕ)
       (may : Record K V → Type 0) (v : Option V) (seen : PagesView K V) → view_as keeps shape begin closed frozen tail receipts old text ≡ seen
       → IsPages key value keeps shape begin closed frozen tail receipts old text → seen.frozen ≤ a → (m : IsMutable shape old text a) → may (record_of m.entry)
       → IfSome v value.is_known → (IsTrue m.entry.delta → IsSome v) → IfSome (held old (page_at old.bits a)) (IsEdited key value may v old.bits a old new)

@@ -13,7 +13,7 @@ use Rattle.fkv_device.specs.Standing.{Standing}
 use Rattle.fkv_frames.specs.Ring.{Ring}
 use Rattle.fkv_frames.specs.Held.{held}
 use Rattle.fkv_texts.specs.declared.entries.Entry.{Entry}
-use Rattle.fkv_functions.proofs.ListLemmas.{get-append_cases, get-append_left}
+use Rattle.fkv_pages.proofs.ReceiptLemmas.{more-left, more-last, more-cases}
 use Rattle.fkv_pages.specs.Views.{PagesView, text_begin, with_receipt}
 use Rattle.fkv_pages.specs.Spelled.{record_of, part_of, TheOne, IsTextOf, IsPageOf}
 use Rattle.fkv_pages.specs.Pages.{page_in, pages_from, view_as, IsOpen, IsPages}
@@ -48,7 +48,7 @@ awaited {K} {V} pages page came h = by_page (page == length pages.receipts) refl
 
 module _ {K V : Type 0} {ksize vsize : ℕ} (key : Codec K ksize) (value : Codec V vsize) where
   -- a page below the frozen offset that is not closed is in its frame
-  pub frozen_held : (keeps : Bool) (shape : Shape) (begin closed frozen tail : ℕ) (receipts : List Standing) (ring : Ring) (text : List (Entry K V)) (n : ℕ)
+  pub frozen_held : (keeps : Bool) (shape : Shape) (begin closed frozen tail : ℕ) (receipts : List (Option Standing)) (ring : Ring) (text : List (Entry K V)) (n : ℕ)
       → IsPages key value keeps shape begin closed frozen tail receipts ring text → page_at shape.page_bits closed ≤ n → n < page_at shape.page_bits frozen
       → IsOpen shape.page_bits ring n
   frozen_held keeps shape begin closed frozen tail receipts ring text n log low high =
@@ -61,7 +61,7 @@ module _ {K V : Type 0} {ksize vsize : ℕ} (key : Codec K ksize) (value : Codec
       log.ringed.there n low (omega (arith, up, down, more, pos, end))
 
   -- ---- the bytes of a page that is not closed
-  pub page_of : (keeps : Bool) (shape : Shape) (begin closed frozen tail : ℕ) (receipts : List Standing) (ring : Ring) (text : List (Entry K V)) (n : ℕ) (page : List ℕ)
+  pub page_of : (keeps : Bool) (shape : Shape) (begin closed frozen tail : ℕ) (receipts : List (Option Standing)) (ring : Ring) (text : List (Entry K V)) (n : ℕ) (page : List ℕ)
       → IsPages key value keeps shape begin closed frozen tail receipts ring text → page_at shape.page_bits closed ≤ n → held ring n ≡ Some page
       → length page ≡ 2 ^ shape.page_bits → IsPageOf key value shape.page_bits n text page
   page_of keeps shape begin closed frozen tail receipts ring text n page log low here sized = record {
@@ -75,18 +75,18 @@ module _ {K V : Type 0} {ksize vsize : ℕ} (key : Codec K ksize) (value : Codec
   }
 
   -- ---- one more page is flushed
-  pub flushed_more : (keeps : Bool) (shape : Shape) (begin closed frozen tail : ℕ) (receipts : List Standing) (ring : Ring) (text : List (Entry K V)) (s : Standing) (page : List ℕ)
+  pub flushed_more : (keeps : Bool) (shape : Shape) (begin closed frozen tail : ℕ) (receipts : List (Option Standing)) (ring : Ring) (text : List (Entry K V)) (s : Standing) (page : List ℕ)
       → IsPages key value keeps shape begin closed frozen tail receipts ring text
       → length receipts < page_at shape.page_bits frozen → held ring (length receipts) ≡ Some page → s.page ≡ length receipts → s.length ≡ 2 ^ shape.page_bits → (IsTrue keeps → s.bytes ≡ page)
-      → IsPages key value keeps shape begin closed frozen tail (receipts ++ s ∷ []) ring text
+      → IsPages key value keeps shape begin closed frozen tail (receipts ++ Some s ∷ []) ring text
   flushed_more keeps shape begin closed frozen tail receipts ring text s page log due here is_page sized kept =
       let bits = shape.page_bits in
       let o = log.ordered in
-      let more : length (receipts ++ s ∷ []) ≡ length receipts + 1 = length-append receipts (s ∷ []) in
+      let more : length (receipts ++ Some s ∷ []) ≡ length receipts + 1 = length-append receipts (Some s ∷ []) in
       let low = o.flushed_low in
       record {
         size = log.size;
-        spelled = transfer key value bits (page_in (page_at bits closed) receipts ring) (page_in (page_at bits closed) (receipts ++ s ∷ []) ring) (text_begin keeps begin closed) tail text
+        spelled = transfer key value bits (page_in (page_at bits closed) receipts ring) (page_in (page_at bits closed) (receipts ++ Some s ∷ []) ring) (text_begin keeps begin closed) tail text
             (λ i e g. page_in-more (page_at bits closed) (page_at bits e.address) receipts s ring low) log.spelled;
         ordered = record {
           begin_frozen = o.begin_frozen;
@@ -102,55 +102,60 @@ module _ {K V : Type 0} {ksize vsize : ℕ} (key : Codec K ksize) (value : Codec
         };
         ringed = log.ringed;
         flushed = record {
-          own = λ n r g. elim (get-append_cases receipts s n r g) [ inl old ↦ log.flushed.own n r old | inr new ↦ ap (λ (x : Standing). x.page) (sym new.1) ∙ is_page ∙ sym new.0 ];
-          sized = λ n r g. elim (get-append_cases receipts s n r g) [ inl old ↦ log.flushed.sized n r old | inr new ↦ ap (λ (x : Standing). x.length) (sym new.1) ∙ sized ];
-          kept = λ h n r low_page g. elim (get-append_cases receipts s n r g) [
+          gone = λ n under. more-left receipts (Some s) n (let h = o.begin_flushed in omega arith) ∙ log.flushed.gone n under;
+          there = λ n begun under. elim (cases_lt n (length receipts)) [
+            | inl old ↦ rw (more-left receipts (Some s) n old) (log.flushed.there n begun old)
+            | inr new ↦ (let is : n ≡ length receipts = omega (arith, more, under, new) in rw (is, more-last receipts (Some s)) refl)
+          ];
+          own = λ n r g. elim (more-cases receipts s r n g) [ inl old ↦ log.flushed.own n r old | inr new ↦ ap (λ (x : Standing). x.page) (sym new.1) ∙ is_page ∙ sym new.0 ];
+          sized = λ n r g. elim (more-cases receipts s r n g) [ inl old ↦ log.flushed.sized n r old | inr new ↦ ap (λ (x : Standing). x.length) (sym new.1) ∙ sized ];
+          kept = λ h n r low_page g. elim (more-cases receipts s r n g) [
             | inl old ↦ log.flushed.kept h n r low_page old
             | inr new ↦ ap (λ (m : ℕ). held ring m) new.0 ∙ here ∙ ap Some (sym (kept h)) ∙ ap (λ (x : Standing). Some x.bytes) new.1
           ];
         };
       }
     where
-      page_in-more : (f n : ℕ) (receipts : List Standing) (s : Standing) (ring : Ring) → f ≤ length receipts → page_in f (receipts ++ s ∷ []) ring n ≡ page_in f receipts ring n
+      page_in-more : (f n : ℕ) (receipts : List (Option Standing)) (s : Standing) (ring : Ring) → f ≤ length receipts → page_in f (receipts ++ Some s ∷ []) ring n ≡ page_in f receipts ring n
       page_in-more f n receipts s ring h = elim (cases_lt n f) [
-        | inl low ↦ (let yes : nat_lt n f ≡ true = grind (arith, nat_tests) in rw (yes, get-append_left receipts (s ∷ []) n (omega arith)) refl)
-        | inr high ↦ page_in-high f n (receipts ++ s ∷ []) ring high ∙ sym (page_in-high f n receipts ring high)
+        | inl low ↦ (let yes : nat_lt n f ≡ true = grind (arith, nat_tests) in rw (yes, more-left receipts (Some s) n (omega arith)) refl)
+        | inr high ↦ page_in-high f n (receipts ++ Some s ∷ []) ring high ∙ sym (page_in-high f n receipts ring high)
       ]
 
   -- what is known where the receipts are given by an equation
-  pub log_with : (keeps : Bool) (shape : Shape) (begin closed frozen tail : ℕ) (receipts more : List Standing) (ring : Ring)
+  pub log_with : (keeps : Bool) (shape : Shape) (begin closed frozen tail : ℕ) (receipts more : List (Option Standing)) (ring : Ring)
       (o : TheOne (λ t. IsTextOf key value shape.page_bits (page_in (page_at shape.page_bits closed) more ring) (text_begin keeps begin closed) tail t))
       (text : List (Entry K V)) → more ≡ receipts → IsPages key value keeps shape begin closed frozen tail receipts ring text
       → IsPages key value keeps shape begin closed frozen tail more ring (o.0).0
   log_with keeps shape begin closed frozen tail receipts more ring o text e l =
       log_of key value keeps shape begin closed frozen tail more ring o text
-      (subst (λ (r : List Standing). IsPages key value keeps shape begin closed frozen tail r ring text) (sym e) l)
+      (subst (λ (r : List (Option Standing)). IsPages key value keeps shape begin closed frozen tail r ring text) (sym e) l)
 
-  pub view_with : (keeps : Bool) (shape : Shape) (begin closed frozen tail : ℕ) (receipts more : List Standing) (ring : Ring)
+  pub view_with : (keeps : Bool) (shape : Shape) (begin closed frozen tail : ℕ) (receipts more : List (Option Standing)) (ring : Ring)
       (o : TheOne (λ t. IsTextOf key value shape.page_bits (page_in (page_at shape.page_bits closed) more ring) (text_begin keeps begin closed) tail t))
       (text : List (Entry K V)) → more ≡ receipts → IsPages key value keeps shape begin closed frozen tail receipts ring text
       → view_as keeps shape begin closed frozen tail more ring (o.0).0 ≡ view_as keeps shape begin closed frozen tail receipts ring text
   view_with keeps shape begin closed frozen tail receipts more ring o text e l =
       view_of key value keeps shape begin closed frozen tail more ring o text
-      (subst (λ (r : List Standing). IsPages key value keeps shape begin closed frozen tail r ring text) (sym e) l)
-      ∙ ap (λ (r : List Standing). view_as keeps shape begin closed frozen tail r ring text) e
+      (subst (λ (r : List (Option Standing)). IsPages key value keeps shape begin closed frozen tail r ring text) (sym e) l)
+      ∙ ap (λ (r : List (Option Standing)). view_as keeps shape begin closed frozen tail r ring text) e
 
   -- the pages that wait: the lowest of them, and the others once it is flushed
-  pub lowest_waits : (keeps : Bool) (shape : Shape) (begin closed frozen tail : ℕ) (receipts : List Standing) (ring : Ring) (text : List (Entry K V)) (page : List ℕ)
+  pub lowest_waits : (keeps : Bool) (shape : Shape) (begin closed frozen tail : ℕ) (receipts : List (Option Standing)) (ring : Ring) (text : List (Entry K V)) (page : List ℕ)
       → IsPages key value keeps shape begin closed frozen tail receipts ring text → length receipts < page_at shape.page_bits frozen → held ring (length receipts) ≡ Some page
       → pages_from ring (length receipts) (page_at shape.page_bits frozen - length receipts)
       ≡ page ∷ pages_from ring (length receipts + 1) (page_at shape.page_bits frozen - length receipts - 1)
   lowest_waits keeps shape begin closed frozen tail receipts ring text page log due here =
       pages_from-lowest ring (length receipts) (page_at shape.page_bits frozen - length receipts) page (omega arith) here
 
-  pub view_flushed : (keeps : Bool) (shape : Shape) (begin closed frozen tail : ℕ) (receipts : List Standing) (ring : Ring) (text : List (Entry K V)) (s : Standing) (page : List ℕ)
+  pub view_flushed : (keeps : Bool) (shape : Shape) (begin closed frozen tail : ℕ) (receipts : List (Option Standing)) (ring : Ring) (text : List (Entry K V)) (s : Standing) (page : List ℕ)
       → IsPages key value keeps shape begin closed frozen tail receipts ring text → length receipts < page_at shape.page_bits frozen → held ring (length receipts) ≡ Some page
-      → view_as keeps shape begin closed frozen tail (receipts ++ s ∷ []) ring text ≡ with_receipt (view_as keeps shape begin closed frozen tail receipts ring text) s
+      → view_as keeps shape begin closed frozen tail (receipts ++ Some s ∷ []) ring text ≡ with_receipt (view_as keeps shape begin closed frozen tail receipts ring text) s
   view_flushed keeps shape begin closed frozen tail receipts ring text s page log due here =
       let bits = shape.page_bits in
-      let more : length (receipts ++ s ∷ []) ≡ length receipts + 1 = length-append receipts (s ∷ []) in
+      let more : length (receipts ++ Some s ∷ []) ≡ length receipts + 1 = length-append receipts (Some s ∷ []) in
       let count : page_at bits frozen - (length receipts + 1) ≡ page_at bits frozen - length receipts - 1 = omega arith in
-      let waits : pages_from ring (length (receipts ++ s ∷ [])) (page_at bits frozen - length (receipts ++ s ∷ []))
+      let waits : pages_from ring (length (receipts ++ Some s ∷ [])) (page_at bits frozen - length (receipts ++ Some s ∷ []))
       ≡ drop 1 (pages_from ring (length receipts) (page_at bits frozen - length receipts)) =
       ap (λ (n : ℕ). pages_from ring n (page_at bits frozen - n)) more
       ∙ ap (λ (k : ℕ). pages_from ring (length receipts + 1) k) count
@@ -163,13 +168,13 @@ module _ {K V : Type 0} {ksize vsize : ℕ} (key : Codec K ksize) (value : Codec
         closed = closed;
         frozen = frozen;
         tail = tail;
-        receipts = receipts ++ s ∷ [];
+        receipts = receipts ++ Some s ∷ [];
         waiting = waits j;
         text = text;
       }
 
   -- each page that waits has the text's entries
-  pub waits_spelled : (keeps : Bool) (shape : Shape) (begin closed frozen tail : ℕ) (receipts : List Standing) (ring : Ring) (text : List (Entry K V))
+  pub waits_spelled : (keeps : Bool) (shape : Shape) (begin closed frozen tail : ℕ) (receipts : List (Option Standing)) (ring : Ring) (text : List (Entry K V))
       → IsPages key value keeps shape begin closed frozen tail receipts ring text
       → (i : ℕ) (page : List ℕ) → slice_get (pages_from ring (length receipts) (page_at shape.page_bits frozen - length receipts)) i ≡ Some page
       → IsPageOf key value shape.page_bits (length receipts + i) text page
@@ -183,11 +188,11 @@ module _ {K V : Type 0} {ksize vsize : ℕ} (key : Codec K ksize) (value : Codec
       page_of keeps shape begin closed frozen tail receipts ring text (length receipts + i) page log (omega arith) (p.here ∙ ap Some same) (ap length (sym same) ∙ p.sized)
 
   -- a page is taken in
-  pub flushed_by : (keeps : Bool) (shape : Shape) (begin closed frozen tail : ℕ) (receipts : List Standing) (ring : Ring) (text : List (Entry K V)) (s : Standing) (came : List ℕ)
+  pub flushed_by : (keeps : Bool) (shape : Shape) (begin closed frozen tail : ℕ) (receipts : List (Option Standing)) (ring : Ring) (text : List (Entry K V)) (s : Standing) (came : List ℕ)
       → IsPages key value keeps shape begin closed frozen tail receipts ring text
       → flush_refusal (view_as keeps shape begin closed frozen tail receipts ring text) s.page came ≡ None → s.length ≡ length came → (IsTrue keeps → s.bytes ≡ came)
-      → IsPages key value keeps shape begin closed frozen tail (receipts ++ s ∷ []) ring text
-      × (view_as keeps shape begin closed frozen tail (receipts ++ s ∷ []) ring text ≡ with_receipt (view_as keeps shape begin closed frozen tail receipts ring text) s)
+      → IsPages key value keeps shape begin closed frozen tail (receipts ++ Some s ∷ []) ring text
+      × (view_as keeps shape begin closed frozen tail (receipts ++ Some s ∷ []) ring text ≡ with_receipt (view_as keeps shape begin closed frozen tail receipts ring text) s)
   flushed_by keeps shape begin closed frozen tail receipts ring text s came log fine sized kept =
       let bits = shape.page_bits in
       let n = length receipts in

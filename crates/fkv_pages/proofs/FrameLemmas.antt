@@ -1,11 +1,10 @@
 -- Pages and their frames.
-use Rattle.std.proofs.Common.{◌≡◌, ◌≢◌, ◌+◌, ◌-◌, ◌*◌, ◌/◌, ◌%◌, ◌^◌, ◌<◌, ◌≤◌, inl, inr, ℕ, zero, suc, Bool, true, false, cond, List, [], ◌∷◌, ◌++◌, length, take, drop, replicate, Option, Some, None, get_or, slice_get, refl, sym, ◌∙◌, ap, subst, arith, nat_lt, nat_le, append_assoc}
-use Rattle.std.specs.Prelude.{IfSome, unwrap_or}
+use Rattle.std.proofs.Common.{◌≡◌, ◌≢◌, ◌+◌, ◌-◌, ◌*◌, ◌/◌, ◌%◌, ◌^◌, ◌<◌, ◌≤◌, inl, inr, ℕ, zero, suc, Bool, true, false, cond, List, [], ◌∷◌, ◌++◌, length, take, drop, replicate, Option, Some, None, slice_get, refl, sym, ◌∙◌, ap, subst, arith, nat_lt, nat_le, append_assoc}
+use Rattle.std.specs.Prelude.{IfSome, IsSome, unwrap_or}
 use Rattle.std.proofs.lemmas.Bool.{cases_lt}
 use Rattle.std.proofs.lemmas.Bool.Decides.{nat_tests}
 use Rattle.std.proofs.lemmas.Nat.{div-add-mod', pow_pos, pow-add, mul-le, le-div}
 use Rattle.std.proofs.lemmas.List.{length-replicate}
-use Rattle.std.proofs.lemmas.Option.{slice_get-get_or}
 use Rattle.std.proofs.Math.Nat.{div-mul-le_self}
 use Rattle.fkv_records.specs.Places.{IsShape, page_at, offset_at, start_at, end_at, place_after, IsRecordStart}
 use Rattle.fkv_records.proofs.PlaceLemmas.{page_sized, next_start, place_room}
@@ -15,6 +14,7 @@ use Rattle.fkv_frames.specs.Held.{held, Opens, Writes}
 use Rattle.fkv_frames.specs.Held as frame
 use Rattle.fkv_texts.specs.Places.{tail_after}
 use Rattle.fkv_texts.proofs.PlaceLemmas.{after_some, after_none, next_way}
+use Rattle.fkv_pages.specs.Views.{receipt_at}
 use Rattle.fkv_pages.specs.Pages.{page_in, pages_from, IsOpen, OpensAndWrites, there, made, IsRinged}
 use Rattle.fkv_pages.proofs.ByteLemmas.{written_at}
 
@@ -95,14 +95,21 @@ tail_in bits size a s place below = by_next (place_after bits size a) refl
         rw (after_none bits size a e) here
 
 -- ---- the page of a place in the text
-pub page_in-high : (first n : ℕ) (receipts : List Standing) (ring : Ring) → first ≤ n → page_in first receipts ring n ≡ held ring n
+pub page_in-high : (first n : ℕ) (receipts : List (Option Standing)) (ring : Ring) → first ≤ n → page_in first receipts ring n ≡ held ring n
 page_in-high first n receipts ring h = let no : nat_lt n first ≡ false = grind (arith, nat_tests) in rw no refl
 
-pub page_in-low : (first n : ℕ) (receipts : List Standing) (ring : Ring) (s : Standing) → n < first → slice_get receipts n ≡ Some s → page_in first receipts ring n ≡ Some s.bytes
+pub page_in-low : (first n : ℕ) (receipts : List (Option Standing)) (ring : Ring) (s : Standing) → n < first → receipt_at receipts n ≡ Some s → page_in first receipts ring n ≡ Some s.bytes
 page_in-low first n receipts ring s h e = let yes : nat_lt n first ≡ true = grind (arith, nat_tests) in rw (yes, e) refl
 
+-- other receipts, the same page
+pub page_in-held : (first n : ℕ) (old new : List (Option Standing)) (ring : Ring) → receipt_at old n ≡ receipt_at new n → page_in first old ring n ≡ page_in first new ring n
+page_in-held first n old new ring h = elim (cases_lt n first) [
+  | inl low ↦ (let yes : nat_lt n first ≡ true = grind (arith, nat_tests) in rw (yes, h) refl)
+  | inr high ↦ page_in-high first n old ring high ∙ sym (page_in-high first n new ring high)
+]
+
 -- other frames, the same pages
-pub page_in-same : (first n : ℕ) (receipts : List Standing) (old new : Ring) → (first ≤ n → held new n ≡ held old n) → page_in first receipts new n ≡ page_in first receipts old n
+pub page_in-same : (first n : ℕ) (receipts : List (Option Standing)) (old new : Ring) → (first ≤ n → held new n ≡ held old n) → page_in first receipts new n ≡ page_in first receipts old n
 page_in-same first n receipts old new h = elim (cases_lt n first) [
   | inl low ↦ (let yes : nat_lt n first ≡ true = grind (arith, nat_tests) in rw yes refl)
   | inr high ↦ page_in-high first n receipts new high ∙ h high ∙ sym (page_in-high first n receipts old high)
@@ -212,22 +219,20 @@ page_start bits n =
     omega arith
 
 -- pages that are flushed are the same by their receipts as by their frames, where the device keeps
-pub page_in-flushed : (first n m : ℕ) (receipts : List Standing) (ring : Ring) → first ≤ n → n ≤ length receipts
-    → ((k : ℕ) (s : Standing) → first ≤ k → slice_get receipts k ≡ Some s → held ring k ≡ Some s.bytes) → page_in n receipts ring m ≡ page_in first receipts ring m
-page_in-flushed first n m receipts ring le flushed kept = elim (cases_lt m first) [
+pub page_in-flushed : (base first n m : ℕ) (receipts : List (Option Standing)) (ring : Ring) → base ≤ m → first ≤ n → n ≤ length receipts
+    → ((k : ℕ) → base ≤ k → k < length receipts → IsSome (receipt_at receipts k))
+    → ((k : ℕ) (s : Standing) → first ≤ k → receipt_at receipts k ≡ Some s → held ring k ≡ Some s.bytes) → page_in n receipts ring m ≡ page_in first receipts ring m
+page_in-flushed base first n m receipts ring begun le flushed some kept = elim (cases_lt m first) [
   | inl low ↦ (let a : nat_lt m first ≡ true = grind (arith, nat_tests) in let b : nat_lt m n ≡ true = grind (arith, nat_tests) in rw (a, b) refl)
   | inr high ↦ elim (cases_lt m n) [
-    | inl below ↦ by_receipt (slice_get receipts m) refl high below
+    | inl below ↦ by_receipt (receipt_at receipts m) refl high below
     | inr above ↦ page_in-high n m receipts ring above ∙ sym (page_in-high first m receipts ring high)
   ]
 ]
   where
-    nothing : Standing
-    nothing = record { number = 0; page = 0; length = 0; bytes = []; mark = [] }
-
-    by_receipt : (o : Option Standing) → slice_get receipts m ≡ o → first ≤ m → m < n → page_in n receipts ring m ≡ page_in first receipts ring m
+    by_receipt : (o : Option Standing) → receipt_at receipts m ≡ o → first ≤ m → m < n → page_in n receipts ring m ≡ page_in first receipts ring m
     by_receipt (Some s) e high below = page_in-low n m receipts ring s below e ∙ sym (kept m s high e) ∙ sym (page_in-high first m receipts ring high)
-    by_receipt None e high below = absurd (let some : slice_get receipts m ≡ Some (get_or receipts m nothing) = slice_get-get_or receipts m nothing (omega arith) in cc)
+    by_receipt None e high below = absurd (let there : IsSome (receipt_at receipts m) = some m begun (omega arith) in let bad = rw e at there in cc)
 
 -- ---- pages in their order
 -- other frames, the same pages

@@ -1,5 +1,5 @@
 -- Entries of pages that are not closed.
-use Rattle.std.proofs.Common.{◌≡◌, ◌+◌, ◌^◌, ◌≤◌, ℕ, Bool, List, length, Some, refl, sym, ◌∙◌, ap, subst, arith}
+use Rattle.std.proofs.Common.{◌≡◌, ◌+◌, ◌^◌, ◌≤◌, ℕ, Bool, List, length, Option, Some, refl, sym, ◌∙◌, ap, subst, arith}
 use Rattle.fkv_functions.specs.Codecs.{Codec}
 use Rattle.fkv_records.specs.Places.{page_at, offset_at, IsRecordStart}
 use Rattle.fkv_records.specs.Records.{size_of, IsRecord, Spells}
@@ -30,7 +30,7 @@ module _ {K V : Type 0} {ksize vsize : ℕ} (key : Codec K ksize) (value : Codec
     pub sound : IsRecord key value a (record_of e)
     pub spells : Spells key value (part_of page (offset_at shape.page_bits a) shape.record_size) (record_of e)
 
-  pub entry_held : (keeps : Bool) (shape : Shape) (begin closed frozen tail : ℕ) (receipts : List Standing) (ring : Ring) (text : List (Entry K V)) (a : ℕ) (e : Entry K V)
+  pub entry_held : (keeps : Bool) (shape : Shape) (begin closed frozen tail : ℕ) (receipts : List (Option Standing)) (ring : Ring) (text : List (Entry K V)) (a : ℕ) (e : Entry K V)
       → IsPages key value keeps shape begin closed frozen tail receipts ring text → closed ≤ a → entry_at text a ≡ Some e → IsHeld shape ring a e
   entry_held keeps shape begin closed frozen tail receipts ring text a e log open_here is =
       let bits = shape.page_bits in

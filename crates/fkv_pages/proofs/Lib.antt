@@ -1,4 +1,5 @@
 pub mod ByteLemmas
+pub mod ReceiptLemmas
 pub mod FrameLemmas
 pub mod PageLemmas
 pub mod PutLemmas

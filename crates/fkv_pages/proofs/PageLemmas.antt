@@ -18,12 +18,13 @@ use Rattle.fkv_texts.specs.Text.{entry_at, value_of, IsRising}
 use Rattle.fkv_texts.proofs.PlaceLemmas.{Stands, stands, rising, entry_stands, entry_there}
 use Rattle.fkv_pages.specs.Views.{text_begin}
 use Rattle.fkv_pages.specs.Spelled.{record_of, part_of, TheOne, IsSpelled, IsTextOf}
-use Rattle.fkv_pages.specs.Pages.{page_in, pages_from, view_as, IsPages}
+use Rattle.fkv_pages.specs.Pages.{page_in, pages_from, receipts_from, view_as, IsPages}
 use Rattle.std.proofs.Math.Nat.{div-eq_of_lt}
 use Rattle.std.proofs.lemmas.List.{map-append}
 use Rattle.fkv_records.proofs.RecordLemmas.{same_record}
 use Rattle.fkv_pages.proofs.ByteLemmas.{one_of, one_is, text_code}
 use Rattle.fkv_pages.proofs.FrameLemmas.{start_rises, none_waits}
+use Rattle.fkv_pages.proofs.ReceiptLemmas.{from-more}
 
 -- where the text begins is a place
 higher : (P : ℕ → Type 0) (begin closed : ℕ) → P begin → P closed → P (cond (nat_le begin closed) closed begin)
@@ -101,7 +102,7 @@ module _ {K V : Type 0} {ksize vsize : ℕ} (key : Codec K ksize) (value : Codec
   text_is bits pages from tail o text h = sym (one_is (λ t. IsTextOf key value bits pages from tail t) o text h)
 
   -- what is known of a text that the pages spell is known of the one
-  pub log_of : (keeps : Bool) (shape : Shape) (begin closed frozen tail : ℕ) (receipts : List Standing) (ring : Ring)
+  pub log_of : (keeps : Bool) (shape : Shape) (begin closed frozen tail : ℕ) (receipts : List (Option Standing)) (ring : Ring)
       (o : TheOne (λ t. IsTextOf key value shape.page_bits (page_in (page_at shape.page_bits closed) receipts ring) (text_begin keeps begin closed) tail t))
       (text : List (Entry K V)) → IsPages key value keeps shape begin closed frozen tail receipts ring text
       → IsPages key value keeps shape begin closed frozen tail receipts ring (o.0).0
@@ -110,7 +111,7 @@ module _ {K V : Type 0} {ksize vsize : ℕ} (key : Codec K ksize) (value : Codec
       (sym (text_is shape.page_bits (page_in (page_at shape.page_bits closed) receipts ring) (text_begin keeps begin closed) tail o text l.spelled)) l
 
   -- what a contract sees of it
-  pub view_of : (keeps : Bool) (shape : Shape) (begin closed frozen tail : ℕ) (receipts : List Standing) (ring : Ring)
+  pub view_of : (keeps : Bool) (shape : Shape) (begin closed frozen tail : ℕ) (receipts : List (Option Standing)) (ring : Ring)
       (o : TheOne (λ t. IsTextOf key value shape.page_bits (page_in (page_at shape.page_bits closed) receipts ring) (text_begin keeps begin closed) tail t))
       (text : List (Entry K V)) → IsPages key value keeps shape begin closed frozen tail receipts ring text
       → view_as keeps shape begin closed frozen tail receipts ring (o.0).0 ≡ view_as keeps shape begin closed frozen tail receipts ring text
@@ -128,7 +129,7 @@ module _ {K V : Type 0} {ksize vsize : ℕ} (key : Codec K ksize) (value : Codec
   }
 
   -- each place from where the text begins has an entry
-  pub place_entry : (keeps : Bool) (shape : Shape) (begin closed frozen tail : ℕ) (receipts : List Standing) (ring : Ring) (text : List (Entry K V)) (a : ℕ)
+  pub place_entry : (keeps : Bool) (shape : Shape) (begin closed frozen tail : ℕ) (receipts : List (Option Standing)) (ring : Ring) (text : List (Entry K V)) (a : ℕ)
       → IsPages key value keeps shape begin closed frozen tail receipts ring text → begin ≤ a → closed ≤ a → a < tail → IsRecordStart shape.page_bits shape.record_size a → IsSome (entry_at text a)
   place_entry keeps shape begin closed frozen tail receipts ring text a log begun low high place =
       let o = log.ordered in
@@ -136,7 +137,7 @@ module _ {K V : Type 0} {ksize vsize : ℕ} (key : Codec K ksize) (value : Codec
       (rw (← log.size) at log.spelled.laid_out) place (begins_low keeps begin closed a begun low) high
 
   -- and an entry stands at a place below the tail
-  pub entry_place : (keeps : Bool) (shape : Shape) (begin closed frozen tail : ℕ) (receipts : List Standing) (ring : Ring) (text : List (Entry K V)) (a : ℕ)
+  pub entry_place : (keeps : Bool) (shape : Shape) (begin closed frozen tail : ℕ) (receipts : List (Option Standing)) (ring : Ring) (text : List (Entry K V)) (a : ℕ)
       → IsPages key value keeps shape begin closed frozen tail receipts ring text → IsSome (entry_at text a)
       → Stands shape.page_bits shape.record_size shape.limits (text_begin keeps begin closed) tail a
   entry_place keeps shape begin closed frozen tail receipts ring text a log some =
@@ -145,7 +146,7 @@ module _ {K V : Type 0} {ksize vsize : ℕ} (key : Codec K ksize) (value : Codec
       (rw (← log.size) at log.spelled.laid_out) some
 
   -- so there is one at each of these places, and nowhere else
-  pub text_places : (keeps : Bool) (shape : Shape) (begin closed frozen tail : ℕ) (receipts : List Standing) (ring : Ring) (text : List (Entry K V))
+  pub text_places : (keeps : Bool) (shape : Shape) (begin closed frozen tail : ℕ) (receipts : List (Option Standing)) (ring : Ring) (text : List (Entry K V))
       → IsPages key value keeps shape begin closed frozen tail receipts ring text → (a : ℕ)
       → IsSome (entry_at text a) ↔ ((text_begin keeps begin closed ≤ a) × (a < tail) × IsRecordStart shape.page_bits (size_of ksize vsize) a)
   text_places keeps shape begin closed frozen tail receipts ring text log a =
@@ -161,14 +162,14 @@ module _ {K V : Type 0} {ksize vsize : ℕ} (key : Codec K ksize) (value : Codec
       )
 
   -- what holds of every text
-  pub text_rises : (keeps : Bool) (shape : Shape) (begin closed frozen tail : ℕ) (receipts : List Standing) (ring : Ring) (text : List (Entry K V))
+  pub text_rises : (keeps : Bool) (shape : Shape) (begin closed frozen tail : ℕ) (receipts : List (Option Standing)) (ring : Ring) (text : List (Entry K V))
       → IsPages key value keeps shape begin closed frozen tail receipts ring text → IsRising text
   text_rises keeps shape begin closed frozen tail receipts ring text log =
       let o = log.ordered in
       rising shape.page_bits shape.record_size shape.limits (text_begin keeps begin closed) tail text (begin_place shape.page_bits shape.record_size begin closed o.begin_place o.closed_place keeps) o.most
       (rw (← log.size) at log.spelled.laid_out)
 
-  pub text_stands : (keeps : Bool) (shape : Shape) (begin closed frozen tail : ℕ) (receipts : List Standing) (ring : Ring) (text : List (Entry K V))
+  pub text_stands : (keeps : Bool) (shape : Shape) (begin closed frozen tail : ℕ) (receipts : List (Option Standing)) (ring : Ring) (text : List (Entry K V))
       → IsPages key value keeps shape begin closed frozen tail receipts ring text → (i : ℕ) (e : Entry K V) → slice_get text i ≡ Some e
       → Stands shape.page_bits shape.record_size shape.limits (text_begin keeps begin closed) tail e.address
   text_stands keeps shape begin closed frozen tail receipts ring text log i e g =
@@ -203,7 +204,13 @@ module _ {K V : Type 0} {ksize vsize : ℕ} (key : Codec K ksize) (value : Codec
           there = λ n h k. record { page = page; here = ap (λ (m : ℕ). held ring m) (first_page bits n p.low k) ∙ here; sized = sized };
           room = λ n k. let z = first_page bits n p.low k in omega (arith, z, some);
         };
-        flushed = record { own = λ n s g. absurd (cc); sized = λ n s g. absurd (cc); kept = λ h n s low g. absurd (cc) };
+        flushed = record {
+          gone = λ n low. refl;
+          there = λ n low high. absurd (omega arith);
+          own = λ n s g. absurd (cc);
+          sized = λ n s g. absurd (cc);
+          kept = λ h n s low g. absurd (cc);
+        };
       }
     where
       first_page : (bits n : ℕ) → 256 ≤ 2 ^ bits → start_at bits n < 64 → n ≡ 0
@@ -218,8 +225,9 @@ either (Ok x) p q f h = f p
 either (Err e) p q f h = h q
 
 -- the receipts once one is kept
-pub kept_more : {R : Type 0} (stands : R → Standing) (old new : List R) (r : R) → new ≡ old ++ r ∷ [] → map stands new ≡ map stands old ++ stands r ∷ []
-kept_more stands old new r e = ap (map stands) e ∙ map-append stands old (r ∷ [])
+pub kept_more : {R : Type 0} (stands : R → Standing) (gone : ℕ) (old new : List R) (r : R) → new ≡ old ++ r ∷ []
+    → receipts_from gone (map stands new) ≡ receipts_from gone (map stands old) ++ Some (stands r) ∷ []
+kept_more stands gone old new r e = ap (λ l. receipts_from gone (map stands l)) e ∙ ap (receipts_from gone) (map-append stands old (r ∷ [])) ∙ from-more gone (map stands old) (stands r)
 
 -- by what is there
 pub if_some : {A : Type 0} (o : Option A) {P : A → Type 0} → ((x : A) → o ≡ Some x → P x) → IfSome o P
@@ -235,6 +243,13 @@ if_err (Err e) h = h e refl
 pub some_is : {A : Type 0} (o : Option A) → IsSome o → (x : A) × (o ≡ Some x)
 some_is None h = absurd (cc)
 some_is (Some x) h = (x, refl)
+
+-- no receipt was let go where Begin is in page 0
+pub none_kept : (shape : Shape) → receipts_from (page_at shape.page_bits 64) [] ≡ []
+none_kept shape =
+    let p = page_sized shape.page_bits shape.record_size shape.limits in
+    let at : 64 / 2 ^ shape.page_bits ≡ 0 = div-eq_of_lt (let low = p.low in omega arith) in
+    ap (λ (n : ℕ). receipts_from n []) at
 
 -- no page waits where none is frozen
 pub none_frozen : (shape : Shape) (ring : Ring) → pages_from ring 0 (page_at shape.page_bits 64 - 0) ≡ []

@@ -1,5 +1,5 @@
 -- Bytes put into a page: an entry more, and what stays.
-use Rattle.std.proofs.Common.{◌≡◌, ◌≢◌, ◌+◌, ◌-◌, ◌*◌, ◌/◌, ◌^◌, ◌<◌, ◌≤◌, ◌==◌, inl, inr, ℕ, Bool, true, false, List, [], ◌∷◌, ◌++◌, length, Some, IsSome, refl, sym, ◌∙◌, ap, subst, arith}
+use Rattle.std.proofs.Common.{◌≡◌, ◌≢◌, ◌+◌, ◌-◌, ◌*◌, ◌/◌, ◌^◌, ◌<◌, ◌≤◌, ◌==◌, inl, inr, ℕ, Bool, true, false, List, [], ◌∷◌, ◌++◌, length, Option, Some, IsSome, refl, sym, ◌∙◌, ap, subst, arith}
 use Rattle.std.proofs.lemmas.Bool.{cases_eq, cases_lt, eqb-true, eq-eqb}
 use Rattle.std.proofs.lemmas.Nat.{div-add-mod', pow_pos}
 use Rattle.std.proofs.lemmas.Option.{slice_get_within}
@@ -21,10 +21,11 @@ use Rattle.fkv_pages.specs.Pages.{page_in, pages_from, view_as, OpensAndWrites, 
 use Rattle.fkv_pages.proofs.ByteLemmas.{written_at, written-length, written-here, written-below, written-above}
 use Rattle.fkv_pages.proofs.FrameLemmas.{page_high, page_low, page_rises, start_rises, tail_in, tail_begins, tail_inside, put_at, page_in-high, page_in-same, Puts, pages_from-same}
 use Rattle.fkv_pages.proofs.PageLemmas.{begin_place, text_is, log_of}
+use Rattle.fkv_pages.proofs.ReceiptLemmas.{receipt-within}
 
 module _ {K V : Type 0} {ksize vsize : ℕ} (key : Codec K ksize) (value : Codec V vsize) where
   -- ---- bytes are put into the page of an address
-  module _ (keeps : Bool) (shape : Shape) (begin closed frozen tail : ℕ) (receipts : List Standing) (old new : Ring) (bytes : List ℕ) (text : List (Entry K V)) (a : ℕ)
+  module _ (keeps : Bool) (shape : Shape) (begin closed frozen tail : ℕ) (receipts : List (Option Standing)) (old new : Ring) (bytes : List ℕ) (text : List (Entry K V)) (a : ℕ)
       (log : IsPages key value keeps shape begin closed frozen tail receipts old text) (place : IsRecordStart shape.page_bits shape.record_size a)
       (frozen_below : frozen ≤ a)
       (puts : Puts shape.page_bits (page_at shape.page_bits closed) tail (page_at shape.page_bits a) (offset_at shape.page_bits a) bytes old new)
@@ -36,13 +37,15 @@ module _ {K V : Type 0} {ksize vsize : ℕ} (key : Codec K ksize) (value : Codec
     put_sized = written-length puts.page bytes (offset_at shape.page_bits a) put_room ∙ puts.sized
 
     -- the receipts are of other pages
-    pub put_flushed : IsFlushed keeps shape.page_bits closed receipts new
+    pub put_flushed : IsFlushed keeps shape.page_bits begin closed receipts new
     put_flushed = record {
+      gone = log.flushed.gone;
+      there = log.flushed.there;
       own = log.flushed.own;
       sized = log.flushed.sized;
       kept = λ h n s low g.
           let bits = shape.page_bits in
-          let count = slice_get_within receipts n s g in
+          let count = receipt-within receipts n (rw g refl) in
           let high = log.ordered.flushed_high in
           let up = start_rises bits (n + 1) (length receipts) (omega arith) in
           let next = page_high bits (n + 1) a (omega (arith, up, high)) in
@@ -109,7 +112,7 @@ module _ {K V : Type 0} {ksize vsize : ℕ} (key : Codec K ksize) (value : Codec
         ]
 
   -- and so does one that stands behind it
-  pub put_above : (keeps : Bool) (shape : Shape) (begin closed frozen tail : ℕ) (receipts : List Standing) (old new : Ring) (bytes : List ℕ) (text : List (Entry K V)) (a : ℕ)
+  pub put_above : (keeps : Bool) (shape : Shape) (begin closed frozen tail : ℕ) (receipts : List (Option Standing)) (old new : Ring) (bytes : List ℕ) (text : List (Entry K V)) (a : ℕ)
       (log : IsPages key value keeps shape begin closed frozen tail receipts old text) (place : IsRecordStart shape.page_bits shape.record_size a)
       (frozen_below : frozen ≤ a)
       (puts : Puts shape.page_bits (page_at shape.page_bits closed) tail (page_at shape.page_bits a) (offset_at shape.page_bits a) bytes old new)
@@ -151,7 +154,7 @@ module _ {K V : Type 0} {ksize vsize : ℕ} (key : Codec K ksize) (value : Codec
       ]
 
   -- ---- one more entry
-  pub grown : (keeps : Bool) (shape : Shape) (begin closed frozen tail : ℕ) (receipts : List Standing) (old new : Ring) (bytes : List ℕ) (text : List (Entry K V)) (e : Entry K V)
+  pub grown : (keeps : Bool) (shape : Shape) (begin closed frozen tail : ℕ) (receipts : List (Option Standing)) (old new : Ring) (bytes : List ℕ) (text : List (Entry K V)) (e : Entry K V)
       → IsPages key value keeps shape begin closed frozen tail receipts old text → tail < 2 ^ 48 → e.address ≡ tail
       → Puts shape.page_bits (page_at shape.page_bits closed) tail (page_at shape.page_bits tail) (offset_at shape.page_bits tail) bytes old new
       → length bytes ≡ shape.record_size → IsRecord key value tail (record_of e) → Spells key value bytes (record_of e)
@@ -219,7 +222,7 @@ module _ {K V : Type 0} {ksize vsize : ℕ} (key : Codec K ksize) (value : Codec
       ]
 
   -- an append puts bytes into the page of the tail: the page is opened where the tail begins it, and there is room then
-  pub append_puts : (keeps : Bool) (shape : Shape) (begin closed frozen tail : ℕ) (receipts : List Standing) (old new : Ring) (bytes : List ℕ) (text : List (Entry K V)) (page offset : ℕ)
+  pub append_puts : (keeps : Bool) (shape : Shape) (begin closed frozen tail : ℕ) (receipts : List (Option Standing)) (old new : Ring) (bytes : List ℕ) (text : List (Entry K V)) (page offset : ℕ)
       → IsPages key value keeps shape begin closed frozen tail receipts old text
       → page ≡ page_at shape.page_bits tail → offset ≡ offset_at shape.page_bits tail
       → (offset ≡ 0 → page_at shape.page_bits closed + length old.slots ≤ page → ⊥)
@@ -245,7 +248,7 @@ module _ {K V : Type 0} {ksize vsize : ℕ} (key : Codec K ksize) (value : Codec
       room wrote
 
   -- what is known where the tail is given by an equation
-  pub log_at : (keeps : Bool) (shape : Shape) (begin closed frozen tail at : ℕ) (receipts : List Standing) (ring : Ring)
+  pub log_at : (keeps : Bool) (shape : Shape) (begin closed frozen tail at : ℕ) (receipts : List (Option Standing)) (ring : Ring)
       (o : TheOne (λ t. IsTextOf key value shape.page_bits (page_in (page_at shape.page_bits closed) receipts ring) (text_begin keeps begin closed) at t))
       (text : List (Entry K V)) → at ≡ tail → IsPages key value keeps shape begin closed frozen tail receipts ring text
       → IsPages key value keeps shape begin closed frozen at receipts ring (o.0).0
@@ -254,7 +257,7 @@ module _ {K V : Type 0} {ksize vsize : ℕ} (key : Codec K ksize) (value : Codec
       (subst (λ (n : ℕ). IsPages key value keeps shape begin closed frozen n receipts ring text) (sym e) l)
 
   -- the pages that wait lie below what bytes are put into
-  pub put_waiting : (keeps : Bool) (shape : Shape) (begin closed frozen tail : ℕ) (receipts : List Standing) (old new : Ring) (bytes : List ℕ) (text : List (Entry K V)) (a : ℕ)
+  pub put_waiting : (keeps : Bool) (shape : Shape) (begin closed frozen tail : ℕ) (receipts : List (Option Standing)) (old new : Ring) (bytes : List ℕ) (text : List (Entry K V)) (a : ℕ)
       → IsPages key value keeps shape begin closed frozen tail receipts old text → frozen ≤ a
       → Puts shape.page_bits (page_at shape.page_bits closed) tail (page_at shape.page_bits a) (offset_at shape.page_bits a) bytes old new
       → pages_from new (length receipts) (page_at shape.page_bits frozen - length receipts) ≡ pages_from old (length receipts) (page_at shape.page_bits frozen - length receipts)
@@ -272,7 +275,7 @@ module _ {K V : Type 0} {ksize vsize : ℕ} (key : Codec K ksize) (value : Codec
       puts.others m (λ e. (omega (arith, from, e))) (omega arith) (log.ringed.room m (omega (arith, up, down, more, pos, end))))
 
   -- what a contract sees once an entry is appended
-  pub view_at : (keeps : Bool) (shape : Shape) (begin closed frozen tail at size : ℕ) (receipts : List Standing) (was ring : Ring)
+  pub view_at : (keeps : Bool) (shape : Shape) (begin closed frozen tail at size : ℕ) (receipts : List (Option Standing)) (was ring : Ring)
       (o : TheOne (λ t. IsTextOf key value shape.page_bits (page_in (page_at shape.page_bits closed) receipts ring) (text_begin keeps begin closed) at t))
       (old : List (Entry K V)) (e : Entry K V) → e.address ≡ tail → shape.record_size ≡ size → at ≡ tail_after shape.page_bits shape.record_size tail → length ring.slots ≡ length was.slots
       → pages_from ring (length receipts) (page_at shape.page_bits frozen - length receipts) ≡ pages_from was (length receipts) (page_at shape.page_bits frozen - length receipts)

@@ -14,7 +14,7 @@ use Rattle.fkv_texts.specs.Text.{has_key, entry_at, IsRising}
 use Rattle.fkv_texts.specs.Chains.{IsChainFrom, ends, goes, StandsAt, leads_to, reached}
 use Rattle.fkv_texts.proofs.TextLemmas.{entry_at-in}
 use Rattle.fkv_texts.proofs.PlaceLemmas.{entry_found, entry_stands}
-use Rattle.fkv_pages.specs.Views.{text_begin}
+use Rattle.fkv_pages.specs.Views.{text_begin, receipt_at}
 use Rattle.fkv_pages.specs.Spelled.{record_of, part_of, IsEntryIn}
 use Rattle.fkv_pages.specs.Pages.{page_in, IsPages}
 use Rattle.fkv_pages.proofs.FrameLemmas.{page_high, page_rises, page_in-high, page_in-low}
@@ -29,8 +29,8 @@ use Rattle.fkv_pages.specs.Loads.{IsReached, below, none, found, on, first_place
 use Rattle.fkv_pages.proofs.PageLemmas.{begin_place}
 
 module _ {K V : Type 0} {ksize vsize : ℕ} (key : Codec K ksize) (value : Codec V vsize) where
-  pub entry_in : (keeps : Bool) (shape : Shape) (begin closed frozen tail : ℕ) (receipts : List Standing) (ring : Ring) (text : List (Entry K V)) (a : ℕ) (s : Standing) (e : Entry K V)
-      → IsPages key value keeps shape begin closed frozen tail receipts ring text → IsTrue keeps → slice_get receipts (page_at shape.page_bits a) ≡ Some s
+  pub entry_in : (keeps : Bool) (shape : Shape) (begin closed frozen tail : ℕ) (receipts : List (Option Standing)) (ring : Ring) (text : List (Entry K V)) (a : ℕ) (s : Standing) (e : Entry K V)
+      → IsPages key value keeps shape begin closed frozen tail receipts ring text → IsTrue keeps → receipt_at receipts (page_at shape.page_bits a) ≡ Some s
       → entry_at text a ≡ Some e → IsEntryIn key value shape.page_bits s.bytes a e
   entry_in keeps shape begin closed frozen tail receipts ring text a s e log h g is =
       let bits = shape.page_bits in
@@ -87,8 +87,8 @@ module _ {K V : Type 0} {ksize vsize : ℕ} (key : Codec K ksize) (value : Codec
       λ i. record { address = at i; previous = (r i).previous; key = (r i).key; value = (r i).value; delta = (r i).delta }
 
   -- the entries of the text in a flushed page are those that its receipt's bytes spell
-  pub entries_in : (keeps : Bool) (shape : Shape) (begin closed frozen tail : ℕ) (receipts : List Standing) (ring : Ring) (text : List (Entry K V)) (from page : ℕ) (s : Standing)
-      → IsPages key value keeps shape begin closed frozen tail receipts ring text → IsTrue keeps → slice_get receipts page ≡ Some s → page_at shape.page_bits from ≤ page
+  pub entries_in : (keeps : Bool) (shape : Shape) (begin closed frozen tail : ℕ) (receipts : List (Option Standing)) (ring : Ring) (text : List (Entry K V)) (from page : ℕ) (s : Standing)
+      → IsPages key value keeps shape begin closed frozen tail receipts ring text → IsTrue keeps → receipt_at receipts page ≡ Some s → page_at shape.page_bits from ≤ page
       → (b : ℕ) (e : Entry K V) → first_place shape.page_bits page ≤ b → b ≤ from → entry_at text b ≡ Some e
       → IsEntryIn key value shape.page_bits s.bytes b e
   entries_in keeps shape begin closed frozen tail receipts ring text from page s log h g within b e low high is =

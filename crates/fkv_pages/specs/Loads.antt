@@ -1,5 +1,5 @@
 -- What a reader of one loaded page comes to.
-use Rattle.std.specs.Prelude.{◌≡◌, ◌+◌, ◌<◌, ◌≤◌, ℕ, List, true, false, Some, slice_get, Result, Ok, Err}
+use Rattle.std.specs.Prelude.{◌≡◌, ◌+◌, ◌<◌, ◌≤◌, ℕ, List, true, false, Option, Some, IsSome, Result, Ok, Err}
 use Rattle.std.specs.declared.cmp.Ordering.{Ordering}
 use Rattle.fkv_functions.specs.declared.refusals.Refused.{Refused}
 use Rattle.fkv_functions.specs.declared.refusals.Refused.TheVariants.{Damaged}
@@ -9,10 +9,15 @@ use Rattle.fkv_texts.specs.declared.entries.Entry.{Entry}
 use Rattle.fkv_texts.specs.declared.entries.ChainPosition.{ChainPosition}
 use Rattle.fkv_texts.specs.declared.entries.ChainPosition.TheVariants.{Found, Below}
 use Rattle.fkv_texts.specs.Text.{has_key}
+use Rattle.fkv_pages.specs.Views.{receipt_at}
 
 -- the receipt of a page stands for this
-abbrev pub IsHeldBy : List Standing → ℕ → Standing → Type 0
-IsHeldBy receipts page s = slice_get receipts page ≡ Some s
+abbrev pub IsHeldBy : List (Option Standing) → ℕ → Standing → Type 0
+IsHeldBy receipts page s = receipt_at receipts page ≡ Some s
+
+-- a page is flushed, and its receipt was not let go
+abbrev pub HasReceipt : List (Option Standing) → ℕ → Type 0
+HasReceipt receipts page = IsSome (receipt_at receipts page)
 
 -- where the first record of a page stands
 abbrev pub first_place : ℕ → ℕ → ℕ

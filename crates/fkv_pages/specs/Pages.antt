@@ -1,6 +1,6 @@
 -- What pages in frames and on a device keep.
-use Rattle.std.specs.Prelude.{◌≡◌, ◌+◌, ◌-◌, ◌^◌, ◌<◌, ◌≤◌, ℕ, zero, suc, Bool, true, false, IsTrue, cond, List, [], ◌∷◌}
-use Rattle.std.specs.Prelude.{length, Option, Some, nat_lt, slice_get, option_map, unwrap_or}
+use Rattle.std.specs.Prelude.{◌≡◌, ◌+◌, ◌-◌, ◌^◌, ◌<◌, ◌≤◌, ℕ, zero, suc, Bool, true, false, IsTrue, cond, List, [], ◌∷◌, ◌++◌}
+use Rattle.std.specs.Prelude.{length, map, replicate, Option, Some, None, IsSome, nat_lt, option_map, unwrap_or}
 use Rattle.fkv_functions.specs.Codecs.{Codec}
 use Rattle.fkv_records.specs.Places.{page_at, offset_at, start_at, IsRecordStart}
 use Rattle.fkv_records.specs.Records.{size_of, Spells}
@@ -11,19 +11,23 @@ use Rattle.fkv_frames.specs.Ring.{Ring}
 use Rattle.fkv_frames.specs.Held.{held, Opens, Writes}
 use Rattle.fkv_texts.specs.declared.entries.Entry.{Entry}
 use Rattle.fkv_pages.specs.Spelled.{part_of, IsTextOf}
-use Rattle.fkv_pages.specs.Views.{PagesView, text_begin}
+use Rattle.fkv_pages.specs.Views.{PagesView, text_begin, receipt_at}
 
 -- a page's bytes: below page `first` those that its receipt stands for, else those of its frame
-abbrev pub page_in : ℕ → List Standing → Ring → ℕ → Option (List ℕ)
-page_in first receipts ring n = cond (nat_lt n first) (option_map (λ s. s.bytes) (slice_get receipts n)) (held ring n)
+abbrev pub page_in : ℕ → List (Option Standing) → Ring → ℕ → Option (List ℕ)
+page_in first receipts ring n = cond (nat_lt n first) (option_map (λ s. s.bytes) (receipt_at receipts n)) (held ring n)
 
 -- the bytes of so many pages from one on, each from its frame
 abbrev pub pages_from : Ring → ℕ → ℕ → List (List ℕ)
 pages_from ring n zero = []
 pages_from ring n (suc k) = unwrap_or (held ring n) [] ∷ pages_from ring (n + 1) k
 
+-- the receipts of all flushed pages, where those of so many pages were let go and these are held
+abbrev pub receipts_from : ℕ → List Standing → List (Option Standing)
+receipts_from gone rest = replicate gone None ++ map Some rest
+
 -- what pages are seen as: the frozen pages that are not flushed wait
-abbrev pub view_as : {K V : Type 0} → Bool → Shape → ℕ → ℕ → ℕ → ℕ → List Standing → Ring → List (Entry K V)
+abbrev pub view_as : {K V : Type 0} → Bool → Shape → ℕ → ℕ → ℕ → ℕ → List (Option Standing) → Ring → List (Entry K V)
     → PagesView K V
 view_as keeps shape begin closed frozen tail receipts ring text = record {
   bits = shape.page_bits;
@@ -85,23 +89,26 @@ pub record IsRinged (bits closed tail : ℕ) (ring : Ring) : Type 0 where
   pub there : (n : ℕ) → page_at bits closed ≤ n → start_at bits n < tail → IsOpen bits ring n
   pub room : (n : ℕ) → start_at bits n < tail → n < page_at bits closed + length ring.slots
 
--- each receipt is of its page, and where the device keeps, of the frame's bytes while the page is there
-pub record IsFlushed (keeps : Bool) (bits closed : ℕ) (receipts : List Standing) (ring : Ring) : Type 0 where
-  pub own : (n : ℕ) (s : Standing) → slice_get receipts n ≡ Some s → s.page ≡ n
-  pub sized : (n : ℕ) (s : Standing) → slice_get receipts n ≡ Some s → s.length ≡ 2 ^ bits
+-- each receipt is of its page, and where the device keeps, of the frame's bytes while the page is there; none is held of a
+-- page below that of Begin, and one of each flushed page from there on
+pub record IsFlushed (keeps : Bool) (bits begin closed : ℕ) (receipts : List (Option Standing)) (ring : Ring) : Type 0 where
+  pub gone : (n : ℕ) → n < page_at bits begin → receipt_at receipts n ≡ None
+  pub there : (n : ℕ) → page_at bits begin ≤ n → n < length receipts → IsSome (receipt_at receipts n)
+  pub own : (n : ℕ) (s : Standing) → receipt_at receipts n ≡ Some s → s.page ≡ n
+  pub sized : (n : ℕ) (s : Standing) → receipt_at receipts n ≡ Some s → s.length ≡ 2 ^ bits
   pub kept : IsTrue keeps
       → (n : ℕ) (s : Standing)
       → page_at bits closed ≤ n
-      → slice_get receipts n ≡ Some s
+      → receipt_at receipts n ≡ Some s
       → held ring n ≡ Some s.bytes
 
 -- all that holds at any time
 pub record IsPages {K V : Type 0} {ksize vsize : ℕ} (key : Codec K ksize) (value : Codec V vsize) (keeps : Bool)
-    (shape : Shape) (begin closed frozen tail : ℕ) (receipts : List Standing) (ring : Ring)
+    (shape : Shape) (begin closed frozen tail : ℕ) (receipts : List (Option Standing)) (ring : Ring)
     (text : List (Entry K V)) : Type 0 where
   pub size : shape.record_size ≡ size_of ksize vsize
   pub spelled : IsTextOf key value shape.page_bits
       (page_in (page_at shape.page_bits closed) receipts ring) (text_begin keeps begin closed) tail text
   pub ordered : IsOrdered shape.page_bits shape.record_size begin closed frozen tail (length receipts)
   pub ringed : IsRinged shape.page_bits closed tail ring
-  pub flushed : IsFlushed keeps shape.page_bits closed receipts ring
+  pub flushed : IsFlushed keeps shape.page_bits begin closed receipts ring

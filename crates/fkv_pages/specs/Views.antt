@@ -1,5 +1,5 @@
 -- What a contract sees of pages.
-use Rattle.std.specs.Prelude.{◌≡◌, ◌+◌, ◌^◌, ◌<◌, ◌≤◌, ℕ, Bool, cond, List, [], ◌∷◌, ◌++◌, drop, Option, nat_le}
+use Rattle.std.specs.Prelude.{◌≡◌, ◌+◌, ◌^◌, ◌<◌, ◌≤◌, ℕ, zero, suc, Bool, cond, List, [], ◌∷◌, ◌++◌, drop, Option, Some, None, unwrap_or, slice_get, nat_le}
 use Rattle.fkv_records.specs.Places.{page_at, offset_at}
 use Rattle.fkv_device.specs.Standing.{Standing}
 use Rattle.fkv_texts.specs.declared.entries.Entry.{Entry}
@@ -7,9 +7,9 @@ use Rattle.fkv_texts.specs.Places.{tail_after}
 use Rattle.fkv_texts.specs.Text.{entry_at, changed, text_from}
 
 -- Pages of 2 ^ bits bytes in so many frames. The text has an entry at each place from `from` to below `tail`. Entries
--- below `frozen` never change; pages below that of `closed` may have left their frames. `receipts` is what the receipts
--- of the flushed pages stand for, and `waiting` has the bytes of the frozen pages that are not flushed, lowest page
--- first.
+-- below `frozen` never change; pages below that of `closed` may have left their frames. `receipts` has for each flushed
+-- page what its receipt stands for, and none for a page below that of Begin, whose receipt was let go. `waiting` has the
+-- bytes of the frozen pages that are not flushed, lowest page first.
 pub record PagesView (K V : Type 0) : Type 0 where
   pub bits : ℕ
   pub frames : ℕ
@@ -18,7 +18,7 @@ pub record PagesView (K V : Type 0) : Type 0 where
   pub closed : ℕ
   pub frozen : ℕ
   pub tail : ℕ
-  pub receipts : List Standing
+  pub receipts : List (Option Standing)
   pub waiting : List (List ℕ)
   pub text : List (Entry K V)
 
@@ -63,9 +63,19 @@ with_value pages a v = record pages { text = changed pages.text a v }
 abbrev pub with_frozen : {K V : Type 0} → PagesView K V → ℕ → List (List ℕ) → PagesView K V
 with_frozen pages a waiting = record pages { frozen = a; waiting = waiting }
 
+-- what the receipt of a page stands for, if it is held
+abbrev pub receipt_at : List (Option Standing) → ℕ → Option Standing
+receipt_at receipts page = unwrap_or (slice_get receipts page) None
+
+-- of so many pages from page 0 on the receipts are let go
+abbrev pub let_go : ℕ → List (Option Standing) → List (Option Standing)
+let_go zero receipts = receipts
+let_go (suc n) [] = []
+let_go (suc n) (r ∷ receipts) = None ∷ let_go n receipts
+
 -- the lowest waiting page is flushed, by this receipt
 abbrev pub with_receipt : {K V : Type 0} → PagesView K V → Standing → PagesView K V
-with_receipt pages s = record pages { receipts = pages.receipts ++ s ∷ []; waiting = drop 1 pages.waiting }
+with_receipt pages s = record pages { receipts = pages.receipts ++ Some s ∷ []; waiting = drop 1 pages.waiting }
 
 -- another Begin, and frames closed up to there: entries below where the text begins then are dropped, which on a device
 -- that keeps are those below Begin alone
@@ -76,6 +86,10 @@ seen_from keeps pages begin closed = record pages {
   from = text_begin keeps begin closed;
   text = text_from (text_begin keeps begin closed) pages.text;
 }
+
+-- the receipts of the pages below that of Begin are let go
+abbrev pub with_let_go : {K V : Type 0} → PagesView K V → PagesView K V
+with_let_go pages = record pages { receipts = let_go (page_at pages.bits pages.begin) pages.receipts }
 
 -- what was frozen stays: the entries below what was the frozen address
 abbrev pub FrozenStay : {K V : Type 0} → PagesView K V → PagesView K V → Type 0

@@ -26,7 +26,7 @@ AppendsItWhole = (p k : ℕ) (v : Option ℕ) (d : Bool)
 abbrev pub SpelledInItsPage : Type 0
 SpelledInItsPage = (a b : List ℕ) (p k : ℕ) (v : Option ℕ)
     → IsSpelled word_codec word_codec 8
-    (page_in 1 (receipt 0 a ∷ []) (record { bits = 8; slots = (Some 2, a) ∷ (Some 1, b) ∷ [] })) (entry 288 p k v)
+    (page_in 1 (Some (receipt 0 a) ∷ []) (record { bits = 8; slots = (Some 2, a) ∷ (Some 1, b) ∷ [] })) (entry 288 p k v)
     → Spells word_codec word_codec (part_of b 32 24) (record_of (entry 288 p k v))
 
 -- a page below the first is its receipt's, though its frame has another; a page above is its frame's, though it has a
@@ -35,10 +35,10 @@ abbrev pub TakesPagesInTurn : Type 0
 TakesPagesInTurn = (a b c d : List ℕ)
     → (ring : Ring)
     → ring ≡ record { bits = 8; slots = (Some 2, c) ∷ (Some 1, d) ∷ [] }
-    → (page_in 1 (receipt 0 a ∷ receipt 1 b ∷ []) ring 0 ≡ Some a)
-    × (page_in 1 (receipt 0 a ∷ receipt 1 b ∷ []) ring 1 ≡ Some d)
-    × (page_in 1 (receipt 0 a ∷ receipt 1 b ∷ []) ring 2 ≡ Some c)
-    × (page_in 0 (receipt 0 a ∷ receipt 1 b ∷ []) ring 0 ≡ None)
+    → (page_in 1 (Some (receipt 0 a) ∷ Some (receipt 1 b) ∷ []) ring 0 ≡ Some a)
+    × (page_in 1 (Some (receipt 0 a) ∷ Some (receipt 1 b) ∷ []) ring 1 ≡ Some d)
+    × (page_in 1 (Some (receipt 0 a) ∷ Some (receipt 1 b) ∷ []) ring 2 ≡ Some c)
+    × (page_in 0 (Some (receipt 0 a) ∷ Some (receipt 1 b) ∷ []) ring 0 ≡ None)
     × (pages_from ring 1 2 ≡ d ∷ c ∷ [])
 
 -- the text begins at Begin where the device keeps, else where frames are closed
@@ -63,7 +63,7 @@ DiffersFirst =
 -- the lowest page that is not flushed is taken in, where it waits, with its own bytes
 abbrev pub RefusesInTurn : Type 0
 RefusesInTurn = (pages : PagesView ℕ ℕ) (s : Standing)
-    → pages.receipts ≡ s ∷ []
+    → pages.receipts ≡ Some s ∷ []
     → pages.waiting ≡ (1 ∷ 2 ∷ []) ∷ []
     → (flush_refusal pages 0 (1 ∷ 2 ∷ []) ≡ Some (Stranger Page 1 0))
     × (flush_refusal pages 1 (1 ∷ 3 ∷ []) ≡ Some (Stranger Bytes 2 3))

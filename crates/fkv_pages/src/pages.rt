@@ -9,8 +9,9 @@ ghost use Rattle.fkv_texts.specs.Places.{IsLaidOut, tail_after};
 ghost use Rattle.fkv_texts.specs.Text.{entry_at, IsRising, IsFrom, IsBelow};
 ghost use Rattle.fkv_texts.specs.Deltas.{AreValued};
 ghost use Rattle.fkv_pages.specs.Spelled.{TheOne, IsTextOf, IsPageOf, IsIn};
-ghost use Rattle.fkv_pages.specs.Pages.{page_in};
-ghost use Rattle.fkv_pages.specs.Views.{text_begin, IsFull, empty_pages, with_entry};
+ghost use Rattle.fkv_pages.specs.Pages.{page_in, receipts_from};
+ghost use Rattle.fkv_pages.specs.Loads.{HasReceipt, IsHeldBy};
+ghost use Rattle.fkv_pages.specs.Views.{text_begin, receipt_at, IsFull, empty_pages, with_entry};
 
 mod edits;
 mod flushes;
@@ -26,6 +27,7 @@ use fkv_records::{Address, END, FIRST, Record, Shape};
 use fkv_texts::Entry;
 use fkv_texts::entries::entry_of;
 use std::alloc::Global;
+use std::collections::VecDeque;
 use std::marker::{Model, PhantomData};
 
 /// The records of a log: a record at each place from [`FIRST`] to below the tail, in frames or on a device.
@@ -37,26 +39,28 @@ pub struct Pages<K: Fixed, V: Fixed, R: Receipt> {
     frozen: Address,
     tail: Address,
     frames: Frames,
-    receipts: Vec<R>,
+    /// Those of the flushed pages from that of `begin` on, in order.
+    receipts: VecDeque<R>,
     keys: PhantomData<K>,
     values: PhantomData<V>,
     ghost text: { TheOne (λ t. IsTextOf K.codec V.codec shape.page_bits
-        (page_in (page_at shape.page_bits closed) (map R.stands receipts.items) frames)
+        (page_in (page_at shape.page_bits closed) (receipts_from (page_at shape.page_bits begin) (map R.stands receipts.items)) frames)
         (text_begin R.keeps begin closed) tail t) } by { IsContr-prop },
 }
 
 impl<K: Fixed, V: Fixed, R: Receipt> Model for Pages<K, V, R> {
     ghost use Rattle.std.specs.Prelude.{map};
+    ghost use Rattle.fkv_records.specs.Places.{page_at};
     ghost use Rattle.fkv_pages.specs.Views.{PagesView};
-    ghost use Rattle.fkv_pages.specs.Pages.{IsPages, view_as};
+    ghost use Rattle.fkv_pages.specs.Pages.{IsPages, receipts_from, view_as};
 
     ghost Value = { PagesView K V };
 
     ghost view = { λ p. view_as R.keeps p.shape p.begin p.closed p.frozen p.tail
-        (map R.stands p.receipts.items) p.frames p.text.0.0 };
+        (receipts_from (page_at p.shape.page_bits p.begin) (map R.stands p.receipts.items)) p.frames p.text.0.0 };
 
     ghost invariant = { λ p. IsPages K.codec V.codec R.keeps
-        p.shape p.begin p.closed p.frozen p.tail (map R.stands p.receipts.items) p.frames p.text.0.0 };
+        p.shape p.begin p.closed p.frozen p.tail (receipts_from (page_at p.shape.page_bits p.begin) (map R.stands p.receipts.items)) p.frames p.text.0.0 };
 }
 
 impl<K: Fixed, V: Fixed, R: Receipt> Pages<K, V, R> {
@@ -76,7 +80,7 @@ impl<K: Fixed, V: Fixed, R: Receipt> Pages<K, V, R> {
             frozen: FIRST,
             tail: FIRST,
             frames,
-            receipts: Vec::new(alloc),
+            receipts: VecDeque::new(alloc),
             keys: PhantomData,
             values: PhantomData,
         })
@@ -229,8 +233,16 @@ impl<K: Fixed, V: Fixed, R: Receipt> Pages<K, V, R> {
         ensures flushed { length self.now.receipts ≤ page_at self.now.bits self.now.frozen }
         // each receipt is of its page
         ensures receipts { (n : ℕ) (s : Standing)
-            → slice_get self.now.receipts n ≡ Some s
+            → IsHeldBy self.now.receipts n s
             → (s.page ≡ n) × (s.length ≡ 2 ^ self.now.bits) }
+        // of a page below that of Begin none is held, and of each flushed page from there on one is
+        ensures gone { (n : ℕ)
+            → n < page_at self.now.bits self.now.begin
+            → receipt_at self.now.receipts n ≡ None }
+        ensures held { (n : ℕ)
+            → page_at self.now.bits self.now.begin ≤ n
+            → n < length self.now.receipts
+            → HasReceipt self.now.receipts n }
         // the pages from the first that is not flushed to below that of `frozen` wait, each with the text's entries
         ensures waiting { length self.now.waiting
             ≡ page_at self.now.bits self.now.frozen - length self.now.receipts }

@@ -21,7 +21,9 @@ use Rattle.fkv_texts.specs.declared.entries.ChainPosition.{ChainPosition}
 use Rattle.fkv_texts.specs.declared.entries.ChainPosition.TheVariants.{Found, Below}
 use Rattle.fkv_texts.specs.Text.{has_key, last_of}
 use Rattle.fkv_texts.proofs.LastWhere.{last_where-found}
-use Rattle.fkv_pages.specs.Loads.{first_place}
+use Rattle.fkv_pages.specs.Loads.{HasReceipt, first_place}
+use Rattle.fkv_pages.proofs.FrameLemmas.{page_rises}
+use Rattle.fkv_pages.proofs.ReceiptLemmas.{receipt-within}
 use Rattle.fkv_operations.specs.After.{key_of}
 use Rattle.fkv_operations.specs.declared.operations.KeyedOp.{KeyedOp}
 use Rattle.fkv_operations.specs.declared.operations.Answer.{Answer}
@@ -201,8 +203,8 @@ module _ {K V I : Type 0} (cmp : K → K → Ordering) (join : V → V → V) (c
             }
 
 -- ---- pages on disk are flushed
-pub page_flushed : {K V : Type 0} {keeps : Bool} {code : K → ℕ} (v : RecordsView K V) (b : ℕ) → IsTraced keeps code v → v.begin ≤ b → b < v.regions.offsets.head → page_at v.page_bits b < length v.receipts
-page_flushed v b t begun low = by_mark o.head_mark
+pub page_flushed : {K V : Type 0} {keeps : Bool} {code : K → ℕ} (v : RecordsView K V) (b : ℕ) → IsTraced keeps code v → v.begin ≤ b → b < v.regions.offsets.head → HasReceipt v.receipts (page_at v.page_bits b)
+page_flushed v b t begun low = t.held (page_at v.page_bits b) (page_rises v.page_bits v.begin b begun) (by_mark o.head_mark)
   where
     o : IsInOrder v.regions.bits v.regions.flushed v.regions.offsets
     o = t.regions.agree.in_order
@@ -221,6 +223,11 @@ page_flushed v b t begun low = by_mark o.head_mark
         let below = by_page (nat_lt (page_at v.page_bits b) (page_at v.page_bits v.regions.offsets.head)) refl (rw t.regions.bits at start) in
         let high = rw t.regions.bits at o.flushed_low in
         omega (arith, below, high, t.flushed)
+
+-- so is a lower page, from that of Begin on
+pub lower_flushed : {K V : Type 0} {keeps : Bool} {code : K → ℕ} (v : RecordsView K V) (b page : ℕ) → IsTraced keeps code v → v.begin ≤ b → page_at v.page_bits b < page → HasReceipt v.receipts page
+    → HasReceipt v.receipts (page_at v.page_bits b)
+lower_flushed v b page t begun low top = t.held (page_at v.page_bits b) (page_rises v.page_bits v.begin b begun) (let high = receipt-within v.receipts page top in omega arith)
 
 -- an address below a page's first record, and not below Begin, lies in a lower page
 pub lower_page : {K V : Type 0} {keeps : Bool} {code : K → ℕ} (v : RecordsView K V) (b page : ℕ) → IsTraced keeps code v → v.begin ≤ b → b < first_place v.page_bits page → page_at v.page_bits b < page

@@ -30,6 +30,7 @@ pub mod AgainLemmas
 pub mod HeldLemmas
 pub mod LookLemmas
 pub mod ReadLemmas
+pub mod DamageLemmas
 pub mod TraceLemmas
 pub mod EffectLemmas
 pub mod ProceedLemmas

@@ -18,8 +18,8 @@ use Rattle.fkv_texts.specs.declared.entries.ChainPosition.TheVariants.{Below}
 use Rattle.fkv_texts.specs.Text.{newest, value_of}
 use Rattle.fkv_texts.specs.Deltas.{onto, AreDeltasBetween}
 use Rattle.fkv_lookups.specs.declared.chain_results.ChainResult.{ChainResult}
-use Rattle.fkv_pages.specs.Views.{text_begin}
-use Rattle.fkv_pages.specs.Loads.{IsHeldBy, IsReached, first_place}
+use Rattle.fkv_pages.specs.Views.{text_begin, receipt_at}
+use Rattle.fkv_pages.specs.Loads.{HasReceipt, IsHeldBy, IsReached, first_place}
 use Rattle.fkv_pages.proofs.FrameLemmas.{page_rises}
 use Rattle.fkv_operations.specs.After.{key_of, shown_of}
 use Rattle.fkv_operations.specs.declared.operations.KeyedOp.{KeyedOp}
@@ -38,11 +38,12 @@ use Rattle.fkv_partition.specs.CoreContexts.{at_phase, loading_by}
 use Rattle.fkv_partition.specs.CoreViews.{CoreView, with_context, context_at}
 use Rattle.fkv_partition.specs.CoreSound.{IsKept, IsLoading, StandsFor, IsSound}
 use Rattle.fkv_partition.specs.CoreLoading.{Tells, MayLoad, AwaitsPage, ReadsOn, IsTold, Loads, WaitsFor, ReadsBy, found, ended}
-use Rattle.std.proofs.lemmas.Option.{slice_get_cases}
 use Rattle.fkv_index.specs.Words.{address_of}
 use Rattle.fkv_partition.proofs.GrownLemmas.{newest-nowhere, newest-under}
 use Rattle.fkv_partition.proofs.EventLemmas.{stands-at}
-use Rattle.fkv_partition.proofs.DecidedLemmas.{page_flushed, lower_page}
+use Rattle.fkv_partition.proofs.DecidedLemmas.{page_flushed, lower_flushed, lower_page}
+use Rattle.fkv_partition.proofs.ReadLemmas.{kept-from}
+use Rattle.fkv_partition.proofs.DamageLemmas.{class-place}
 
 -- what waits for a page is a read or an update, and knows where it goes on
 loading-by : {K V I : Type 0} (keeps : Bool) (cmp : K → K → Ordering) (join : V → V → V) (code : K → ℕ) (r : RecordsView K V) (op : KeyedOp K V I) (l : Loading V) → StandsFor keeps cmp join code r op (Load l) → MayLoad op × IsLoading keeps cmp join code r (key_of op) l
@@ -125,7 +126,7 @@ module _ {K V I : Type 0} {keeps : Bool} (cmp : K → K → Ordering) (join : V 
   begun = let h = loading-at.begun in let same = a.begin in omega arith
 
   -- its page is flushed
-  pub wanted-flushed : page_at v.records.page_bits l.wanted < length v.records.receipts
+  pub wanted-flushed : HasReceipt v.records.receipts (page_at v.records.page_bits l.wanted)
   wanted-flushed = page_flushed v.records l.wanted s.traced begun loading-at.on_disk
 
   text-begins : IsTrue keeps → v.records.from ≤ l.wanted
@@ -155,6 +156,19 @@ module _ {K V I : Type 0} {keeps : Bool} (cmp : K → K → Ordering) (join : V 
         let both : Ok k.0 ≡ Ok r = sym k.1 ∙ is in
         let same : k.0 ≡ r = cc in
         subst (ComesTo cmp join code v.records (key_of x.op) floor l.wanted l.parts) same k.2
+
+    -- on a device that keeps, its bytes spell the records on the way
+    pub page-undamaged : {P : Type 0} {why : Refused} → IsTrue keeps → result ≡ Err why → P
+    page-undamaged {P} {why} yes_keeps is =
+        let k = came.kept yes_keeps begun (class-at yes_keeps) in
+        let bad : Ok k.0 ≡ Err why = sym k.1 ∙ is in
+        absurd (cc)
+
+    -- and lead to a place, or below Begin
+    pub page-place : IsTrue keeps → (b : ℕ) (parts : Option V) → result ≡ Ok (record { parts = parts; position = Below b }) → v.records.begin ≤ b → IsRecordStart v.records.page_bits v.records.record_size b
+    page-place yes_keeps b parts is high =
+        class-place v.records s.traced s.stood (key_of x.op) b
+        (way-class cmp join code v.records (key_of x.op) floor l.wanted l.parts _ (goes yes_keeps _ is) b refl (let from = kept-from v.records s.traced yes_keeps in omega arith))
 
     -- what the key has from where the entry led, by where the look-up stands
     pub newest-at : IsTrue keeps → (r : ChainResult K V) → result ≡ Ok r → value_of (newest cmp v.records.text (key_of x.op) (address_of l.kept.word)) ≡ onto join (end_of cmp v.records (key_of x.op) r.position) r.parts
@@ -200,8 +214,8 @@ module _ {K V I : Type 0} {keeps : Bool} (cmp : K → K → Ordering) (join : V 
           let low = lower in
           absurd (omega arith)
 
-      pub further-flushed : page_at v.records.page_bits b < length v.records.receipts
-      further-flushed = let low = lower in let top = wanted-flushed in omega arith
+      pub further-flushed : HasReceipt v.records.receipts (page_at v.records.page_bits b)
+      further-flushed = lower_flushed v.records b (page_at v.records.page_bits l.wanted) s.traced high lower wanted-flushed
 
       further-between : IsTrue keeps → AreDeltasBetween cmp v.records.entries (key_of x.op) b (address_of l.kept.word)
       further-between yes_keeps e m own above under = elim (cases_lt l.wanted e.address) [
@@ -232,20 +246,17 @@ module _ {K V I : Type 0} {keeps : Bool} (cmp : K → K → Ordering) (join : V 
 pub stranger-kept : {K V I : Type 0} (u v : CoreView K V I) (page wanted : ℕ) (st : Standing) (why : Refused)
     → u ≡ v
     → page ≡ page_at u.records.page_bits wanted
-    → page_at v.records.page_bits wanted < length v.records.receipts
-    → IfSome (slice_get u.records.receipts page) (λ s. (s ≢ st) × (why ≡ Stranger what.Receipt s.number st.number))
-    → (s : Standing) × (slice_get v.records.receipts (page_at v.records.page_bits wanted) ≡ Some s) × (s ≢ st) × (why ≡ Stranger what.Receipt s.number st.number)
+    → HasReceipt v.records.receipts (page_at v.records.page_bits wanted)
+    → IfSome (receipt_at u.records.receipts page) (λ s. (s ≢ st) × (why ≡ Stranger what.Receipt s.number st.number))
+    → (s : Standing) × (receipt_at v.records.receipts (page_at v.records.page_bits wanted) ≡ Some s) × (s ≢ st) × (why ≡ Stranger what.Receipt s.number st.number)
 stranger-kept {K} {V} {I} u v page wanted st why same page_is there told =
-    by_get (slice_get v.records.receipts (page_at v.records.page_bits wanted)) refl
-    (subst (λ (w : CoreView K V I). IfSome (slice_get w.records.receipts (page_at w.records.page_bits wanted)) (λ s. (s ≢ st) × (why ≡ Stranger what.Receipt s.number st.number))) same
-    (subst (λ (n : ℕ). IfSome (slice_get u.records.receipts n) (λ s. (s ≢ st) × (why ≡ Stranger what.Receipt s.number st.number))) page_is told))
+    by_get (receipt_at v.records.receipts (page_at v.records.page_bits wanted)) refl
+    (subst (λ (w : CoreView K V I). IfSome (receipt_at w.records.receipts (page_at w.records.page_bits wanted)) (λ s. (s ≢ st) × (why ≡ Stranger what.Receipt s.number st.number))) same
+    (subst (λ (n : ℕ). IfSome (receipt_at u.records.receipts n) (λ s. (s ≢ st) × (why ≡ Stranger what.Receipt s.number st.number))) page_is told))
   where
-    by_get : (o : Option Standing) → slice_get v.records.receipts (page_at v.records.page_bits wanted) ≡ o → IfSome o (λ s. (s ≢ st) × (why ≡ Stranger what.Receipt s.number st.number))
-        → (s : Standing) × (slice_get v.records.receipts (page_at v.records.page_bits wanted) ≡ Some s) × (s ≢ st) × (why ≡ Stranger what.Receipt s.number st.number)
-    by_get None h t = elim (slice_get_cases v.records.receipts (page_at v.records.page_bits wanted)).1 [
-      | inl some ↦ absurd (let bad = sym h ∙ some.2 in cc)
-      | inr past ↦ absurd (let le = past.0 in omega (arith, there))
-    ]
+    by_get : (o : Option Standing) → receipt_at v.records.receipts (page_at v.records.page_bits wanted) ≡ o → IfSome o (λ s. (s ≢ st) × (why ≡ Stranger what.Receipt s.number st.number))
+        → (s : Standing) × (receipt_at v.records.receipts (page_at v.records.page_bits wanted) ≡ Some s) × (s ≢ st) × (why ≡ Stranger what.Receipt s.number st.number)
+    by_get None h t = absurd (let bad = rw h at there in cc)
     by_get (Some s) h t = (s, h, t.0, t.1)
 
 -- what is told, by the operation
@@ -292,7 +303,7 @@ module _ {K V I : Type 0} (v : CoreView K V I) (slot c : ℕ) where
       other (ap (λ (q : Loading V). q.begin) is ∙ w.awaits.begin)
 
 -- ---- what a load that reads for itself comes to
-module _ {R S A : Type 0} {stands : R → Standing} {receipts : List Standing} {awaits : ℕ → Type 0} {loads : Result (Joined R) Refused → Type 0} {old new : S} {before after_ : ℕ} {result : Result A Refused} where
+module _ {R S A : Type 0} {stands : R → Standing} {receipts : List (Option Standing)} {awaits : ℕ → Type 0} {loads : Result (Joined R) Refused → Type 0} {old new : S} {before after_ : ℕ} {result : Result A Refused} where
   -- what any load does, or nothing
   pub reads-any : (P : Type 0) → ReadsBy stands receipts awaits loads old new before after_ result → ((came : Result (Joined R) Refused) → loads came → P)
       → ((why : Refused) → new ≡ old → result ≡ Err why → P) → P

@@ -7,6 +7,7 @@ use Rattle.fkv_texts.specs.declared.entries.Entry.{Entry}
 use Rattle.fkv_texts.specs.Text.{entry_at}
 use Rattle.fkv_texts.proofs.LastWhere.{last_where-found}
 use Rattle.fkv_lookups.proofs.TracedLemmas.{raw, traced-raw}
+use Rattle.fkv_pages.specs.Loads.{HasReceipt}
 use Rattle.fkv_partition.specs.CoreSound.{IsSound}
 use Rattle.fkv_partition.proofs.DecidedLemmas.{page_flushed}
 use Rattle.fkv_partition.specs.declared.relocations.Relocation.{Relocation}
@@ -30,7 +31,7 @@ module _ {K V I : Type 0} {keeps : Bool} (cmp : K → K → Ordering) (join : V 
     on-disk : x.target < v.core.records.regions.offsets.head
     on-disk = low-disk cmp join code v.core p slot (open-here v slot c x h).inside x.target under begun-here
 
-    pub place-flushed : page_at v.core.records.page_bits x.target < length v.core.records.receipts
+    pub place-flushed : HasReceipt v.core.records.receipts (page_at v.core.records.page_bits x.target)
     place-flushed = page_flushed v.core.records x.target p.traced begun-here on-disk
 
     pub place-reading : IsReading v.core.records x.target v.core.records.begin

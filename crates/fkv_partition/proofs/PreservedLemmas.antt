@@ -7,7 +7,6 @@ use Rattle.fkv_functions.specs.Meanings.{Meanings}
 use Rattle.fkv_functions.specs.Plain.{IsKeyOrder}
 use Rattle.fkv_functions.specs.declared.asks.Ask.{Ask}
 use Rattle.fkv_functions.specs.declared.refusals.Refused.{Refused}
-use Rattle.fkv_functions.proofs.ListLemmas.{get-append_left}
 use Rattle.fkv_records.specs.Places.{start_at}
 use Rattle.fkv_device.specs.Standing.{Standing, Joined}
 use Rattle.fkv_pages.specs.Views.{text_begin}
@@ -44,6 +43,8 @@ use Rattle.fkv_texts.specs.Deltas.{IsCleared}
 use Rattle.fkv_lookups.specs.declared.payloads.Payload.{Payload}
 use Rattle.fkv_lookups.specs.declared.payloads.Payload.TheVariants.{Whole}
 use Rattle.fkv_lookups.specs.Payloads.{value_in, is_part, standing}
+use Rattle.fkv_pages.proofs.ReceiptLemmas.{more-left, receipt-within, let_go-high}
+use Rattle.fkv_records.specs.Places.{page_at}
 use Rattle.fkv_partition.specs.declared.changes.Write.{Write}
 use Rattle.fkv_partition.specs.declared.contexts.Context.{Context}
 use Rattle.fkv_partition.specs.declared.contexts.Phase.TheVariants.{Confirm}
@@ -80,7 +81,7 @@ module _ {K V : Type 0} {keeps : Bool} (cmp : K → K → Ordering) (join : V �
     begin = omega arith;
     tail = omega arith;
     raised = up;
-    receipts = λ page s h. h;
+    receipts = λ page s begun h. h;
     stay = λ a begun low. refl;
     clear = λ limit low yes_keeps c. c;
     places = places;
@@ -93,7 +94,7 @@ module _ {K V : Type 0} {keeps : Bool} (cmp : K → K → Ordering) (join : V �
     begin = omega arith;
     tail = omega arith;
     raised = up;
-    receipts = λ page s h. h;
+    receipts = λ page s begun h. h;
     stay = λ a begun low. cut-entry (text_begin keeps v.begin regions.offsets.closed) a v.entries begun;
     clear = λ limit low yes_keeps c. subst (λ u. IsCleared cmp u limit) (sym (kept yes_keeps)) c;
     places = λ p h. h;
@@ -106,7 +107,7 @@ module _ {K V : Type 0} {keeps : Bool} (cmp : K → K → Ordering) (join : V �
     begin = omega arith;
     tail = omega arith;
     raised = raised-self v.regions.offsets;
-    receipts = λ page s h. get-append_left v.receipts (st ∷ []) page (slice_get_within v.receipts page s h) ∙ h;
+    receipts = λ page s begun h. more-left v.receipts (Some st) page (receipt-within v.receipts page (rw h refl)) ∙ h;
     stay = λ a begun low. refl;
     clear = λ limit low yes_keeps c. c;
     places = λ p h. h;
@@ -121,7 +122,7 @@ module _ {K V : Type 0} {keeps : Bool} (cmp : K → K → Ordering) (join : V �
     begin = omega arith;
     tail = tail-up v.page_bits v.record_size v.tail (tail-most v t);
     raised = raised-self v.regions.offsets;
-    receipts = λ page s h. h;
+    receipts = λ page s begun h. h;
     stay = λ a begun low. (let o = t.regions.agree.in_order in let safe = o.safe in let top = t.regions.read_only in
         entry_at-old v.entries (record { address = v.tail; previous = _; key = k; value = value_in payload; delta = is_part payload }) a (λ same. omega arith));
     clear = λ limit low yes_keeps c. clears limit low c;
@@ -137,7 +138,7 @@ module _ {K V : Type 0} {keeps : Bool} (cmp : K → K → Ordering) (join : V �
     begin = omega arith;
     tail = omega arith;
     raised = raised-self v.regions.offsets;
-    receipts = λ page s h. h;
+    receipts = λ page s begun h. h;
     stay = λ b begun low. entry_at-elsewhere a value v.entries b (λ same. omega arith);
     clear = λ limit low yes_keeps c. clears limit low c;
     places = λ p h. h;
@@ -152,7 +153,7 @@ module _ {K V : Type 0} {keeps : Bool} (cmp : K → K → Ordering) (join : V �
     begin = omega arith;
     tail = omega arith;
     raised = raised-self v.regions.offsets;
-    receipts = λ page s h. h;
+    receipts = λ page s begun h. let_go-high (page_at v.page_bits low) page v.receipts begun ∙ h;
     stay = λ a begun under. cut-entry (text_begin keeps low v.regions.offsets.closed) a v.entries begun;
     clear = λ limit under yes_keeps c. clears limit c;
     places = λ p h. ((sweeps low v.words).places p).1 h;

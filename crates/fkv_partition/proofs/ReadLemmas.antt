@@ -1,8 +1,7 @@
 -- What the page that a relocation waited for says of the record of its place.
 use Rattle.std.proofs.Common.{◌≡◌, ◌≢◌, ◌+◌, ◌^◌, ◌<◌, ◌≤◌, inl, inr, ℕ, Bool, true, false, cond, length, nat_le, option_map, IsTrue, IsSome, List, [], ◌∷◌, Option, Some, None, slice_get, unwrap_or, refl, sym, ap, subst, ◌∙◌, arith}
 use Rattle.std.proofs.lemmas.Bool.Decides.{nat_tests}
-use Rattle.std.proofs.lemmas.Option.{slice_get_cases}
-use Rattle.std.specs.Prelude.{Result, Ok, IfSome}
+use Rattle.std.specs.Prelude.{Result, Ok, Err, IfSome}
 use Rattle.std.specs.declared.cmp.Ordering.{Ordering}
 use Rattle.fkv_functions.specs.declared.refusals.Refused.{Refused}
 use Rattle.fkv_functions.specs.declared.refusals.Refused.TheVariants.{Stranger}
@@ -14,8 +13,9 @@ use Rattle.fkv_regions.proofs.MoveLemmas.{mark-place}
 use Rattle.fkv_texts.specs.declared.entries.Entry.{Entry}
 use Rattle.fkv_texts.specs.Places.{IsLaidOut, tail_after}
 use Rattle.fkv_texts.specs.Text.{entry_at}
-use Rattle.fkv_texts.proofs.PlaceLemmas.{entry_there}
-use Rattle.fkv_pages.specs.Views.{text_begin}
+use Rattle.fkv_texts.proofs.PlaceLemmas.{entry_there, entry_stands}
+use Rattle.fkv_pages.specs.Views.{text_begin, receipt_at}
+use Rattle.fkv_pages.specs.Loads.{HasReceipt}
 use Rattle.fkv_pages.proofs.PageLemmas.{begin_place, begins_low}
 use Rattle.fkv_lookups.specs.RecordsViews.{RecordsView}
 use Rattle.fkv_lookups.specs.Traced.{IsTraced}
@@ -63,6 +63,12 @@ module _ {K V : Type 0} {keeps : Bool} {code : K → ℕ} (v : RecordsView K V) 
   place-held a place low high =
       entry_there v.page_bits v.record_size t.shape v.from v.tail a v.text first-place
       (tail-most v.page_bits v.record_size v.from v.tail v.text first-low t.laid_out) t.laid_out place low high
+
+  -- and a record that stands there stands at a place
+  pub entry-place : (a : ℕ) → IsSome (entry_at v.text a) → IsRecordStart v.page_bits v.record_size a
+  entry-place a some =
+      (entry_stands v.page_bits v.record_size t.shape v.from v.tail a v.text first-place
+      (tail-most v.page_bits v.record_size v.from v.tail v.text first-low t.laid_out) t.laid_out some).place
 
   -- on a device that keeps, the text begins at Begin
   pub kept-from : IsTrue keeps → v.from ≡ v.begin
@@ -124,7 +130,7 @@ module _ {K V I : Type 0} {keeps : Bool} (cmp : K → K → Ordering) (join : V 
     place-begun = let h = (reading here).begun in omega arith
 
     -- its page is flushed
-    pub place-flushed : page_at v.core.records.page_bits x.target < length v.core.records.receipts
+    pub place-flushed : HasReceipt v.core.records.receipts (page_at v.core.records.page_bits x.target)
     place-flushed = page_flushed v.core.records x.target sound.traced place-begun (reading here).on_disk
 
     -- what is read there is the record that stands there
@@ -139,29 +145,38 @@ module _ {K V I : Type 0} {keeps : Bool} (cmp : K → K → Ordering) (join : V 
         by_entry None some h = absurd (cc)
         by_entry (Some y) some h = let both : Ok y ≡ Ok e = sym h ∙ is in let same : y ≡ e = cc in ap Some same
 
+    -- and so one is read there
+    pub place-undamaged : {E P : Type 0} {why : E} (result : Result (Entry K V) E) → result ≡ Err why
+        → (IsTrue keeps → IfSome (entry_at v.core.records.entries x.target) (λ y. result ≡ Ok y))
+        → IsTrue keeps → P
+    place-undamaged {E} {P} {why} result is kept yes_keeps =
+        let st = stands-here v slot c x here s in
+        by_entry (entry_at v.core.records.entries x.target) (frozen-held (raw v.core.records) (traced-raw sound.traced sound.stood) x.target st.place place-begun st.frozen yes_keeps) (kept yes_keeps)
+      where
+        by_entry : (o : Option (Entry K V)) → IsSome o → IfSome o (λ y. result ≡ Ok y) → P
+        by_entry None some h = absurd (cc)
+        by_entry (Some y) some h = let bad : Ok y ≡ Err why = sym h ∙ is in absurd (cc)
+
 -- the page of an address is one of those that were flushed
-pub page-within : {K V : Type 0} {u w v : RecordsView K V} {page : ℕ} (wanted : ℕ) → page ≡ page_at u.page_bits wanted → u ≡ v → w ≡ v → page_at v.page_bits wanted < length v.receipts → page < length w.receipts
+pub page-within : {K V : Type 0} {u w v : RecordsView K V} {page : ℕ} (wanted : ℕ) → page ≡ page_at u.page_bits wanted → u ≡ v → w ≡ v → HasReceipt v.receipts (page_at v.page_bits wanted) → HasReceipt w.receipts page
 page-within {K} {V} {w = w} {v = v} {page = page} wanted is u_is w_is there =
-    subst (λ (r : RecordsView K V). page < length r.receipts) (sym w_is) (subst (λ n. n < length v.receipts) (sym (is ∙ ap (λ (r : RecordsView K V). page_at r.page_bits wanted) u_is)) there)
+    subst (λ (r : RecordsView K V). HasReceipt r.receipts page) (sym w_is) (subst (HasReceipt v.receipts) (sym (is ∙ ap (λ (r : RecordsView K V). page_at r.page_bits wanted) u_is)) there)
 
 -- the receipt that is kept of a page that was read by another
 pub stranger-held : {K V : Type 0} (u v : RecordsView K V) (page wanted : ℕ) (st : Standing) (why : Refused)
     → u ≡ v
     → page ≡ page_at u.page_bits wanted
-    → page_at v.page_bits wanted < length v.receipts
-    → IfSome (slice_get u.receipts page) (λ s. (s ≢ st) × (why ≡ Stranger what.Receipt s.number st.number))
-    → (s : Standing) × (slice_get v.receipts (page_at v.page_bits wanted) ≡ Some s) × (s ≢ st) × (why ≡ Stranger what.Receipt s.number st.number)
+    → HasReceipt v.receipts (page_at v.page_bits wanted)
+    → IfSome (receipt_at u.receipts page) (λ s. (s ≢ st) × (why ≡ Stranger what.Receipt s.number st.number))
+    → (s : Standing) × (receipt_at v.receipts (page_at v.page_bits wanted) ≡ Some s) × (s ≢ st) × (why ≡ Stranger what.Receipt s.number st.number)
 stranger-held {K} {V} u v page wanted st why same page_is there told =
-    by_get (slice_get v.receipts (page_at v.page_bits wanted)) refl
-    (subst (λ (w : RecordsView K V). IfSome (slice_get w.receipts (page_at w.page_bits wanted)) (λ s. (s ≢ st) × (why ≡ Stranger what.Receipt s.number st.number))) same
-    (subst (λ (n : ℕ). IfSome (slice_get u.receipts n) (λ s. (s ≢ st) × (why ≡ Stranger what.Receipt s.number st.number))) page_is told))
+    by_get (receipt_at v.receipts (page_at v.page_bits wanted)) refl
+    (subst (λ (w : RecordsView K V). IfSome (receipt_at w.receipts (page_at w.page_bits wanted)) (λ s. (s ≢ st) × (why ≡ Stranger what.Receipt s.number st.number))) same
+    (subst (λ (n : ℕ). IfSome (receipt_at u.receipts n) (λ s. (s ≢ st) × (why ≡ Stranger what.Receipt s.number st.number))) page_is told))
   where
-    by_get : (o : Option Standing) → slice_get v.receipts (page_at v.page_bits wanted) ≡ o → IfSome o (λ s. (s ≢ st) × (why ≡ Stranger what.Receipt s.number st.number))
-        → (s : Standing) × (slice_get v.receipts (page_at v.page_bits wanted) ≡ Some s) × (s ≢ st) × (why ≡ Stranger what.Receipt s.number st.number)
-    by_get None h t = elim (slice_get_cases v.receipts (page_at v.page_bits wanted)).1 [
-      | inl some ↦ absurd (let bad = sym h ∙ some.2 in cc)
-      | inr past ↦ absurd (let le = past.0 in omega (arith, there))
-    ]
+    by_get : (o : Option Standing) → receipt_at v.receipts (page_at v.page_bits wanted) ≡ o → IfSome o (λ s. (s ≢ st) × (why ≡ Stranger what.Receipt s.number st.number))
+        → (s : Standing) × (receipt_at v.receipts (page_at v.page_bits wanted) ≡ Some s) × (s ≢ st) × (why ≡ Stranger what.Receipt s.number st.number)
+    by_get None h t = absurd (let bad = rw h at there in cc)
     by_get (Some s) h t = (s, h, t.0, t.1)
 
 -- the page that is at hand is that of the relocation's target, or the one on the way to it

@@ -2,11 +2,11 @@
 use Rattle.std.proofs.Common.{◌≡◌, ◌+◌, ◌<◌, ◌≤◌, inl, inr, nat_le, ℕ, Bool, true, false, cond, length, nat_lt, IsTrue, List, Option, Some, None, refl, sym, ap, subst, ◌∙◌, arith}
 use Rattle.std.proofs.lemmas.Bool.Decides.{nat_tests}
 use Rattle.std.proofs.lemmas.Bool.{cases_lt, ltb-true}
-use Rattle.std.specs.Prelude.{Result, Ok}
+use Rattle.std.specs.Prelude.{Result, Ok, Err}
 use Rattle.std.specs.declared.cmp.Ordering.{Ordering}
 use Rattle.fkv_functions.specs.Plain.{IsKeyOrder}
 use Rattle.fkv_functions.specs.declared.refusals.Refused.{Refused}
-use Rattle.fkv_records.specs.Places.{page_at}
+use Rattle.fkv_records.specs.Places.{page_at, IsRecordStart}
 use Rattle.fkv_device.specs.Standing.{Standing}
 use Rattle.fkv_texts.specs.declared.entries.Entry.{Entry}
 use Rattle.fkv_texts.specs.declared.entries.ChainPosition.TheVariants.{Below}
@@ -14,7 +14,7 @@ use Rattle.fkv_texts.specs.Text.{entry_at, has_key, newest, last_of, value_of}
 use Rattle.fkv_texts.specs.Chains.{IsIn}
 use Rattle.fkv_texts.specs.Deltas.{onto, IsSuperseded}
 use Rattle.fkv_texts.proofs.CoverLemmas.{cleared-lower}
-use Rattle.fkv_pages.specs.Loads.{IsHeldBy, first_place}
+use Rattle.fkv_pages.specs.Loads.{HasReceipt, IsHeldBy, first_place}
 use Rattle.fkv_pages.proofs.FrameLemmas.{page_rises}
 use Rattle.fkv_index.specs.Words.{address_of}
 use Rattle.fkv_index.specs.Places.{word_at}
@@ -26,7 +26,7 @@ use Rattle.fkv_lookups.proofs.LookupLemmas.{raw-traced, values_tell, between_tel
 use Rattle.fkv_partition.specs.declared.contexts.Loading.{Loading}
 use Rattle.fkv_partition.specs.CoreSound.{IsLoading, IsSound}
 use Rattle.fkv_partition.specs.CoreViews.{partition_of}
-use Rattle.fkv_partition.proofs.DecidedLemmas.{page_flushed, lower_page}
+use Rattle.fkv_partition.proofs.DecidedLemmas.{page_flushed, lower_flushed, lower_page}
 use Rattle.fkv_partition.proofs.LoadLemmas.{left_of, gathered-low}
 use Rattle.fkv_partition.proofs.StoodLemmas.{rises}
 use Rattle.fkv_partition.specs.declared.relocations.Relocation.{Relocation}
@@ -41,6 +41,7 @@ use Rattle.fkv_partition.specs.Views.{PartitionView}
 use Rattle.fkv_partition.specs.Checking.{liveness, higher_of, renewed}
 use Rattle.fkv_partition.proofs.MoveLemmas.{stands-here}
 use Rattle.fkv_partition.proofs.ReadLemmas.{kept-from, same-awaited, place-flushed}
+use Rattle.fkv_partition.proofs.DamageLemmas.{class-place}
 use Rattle.fkv_partition.proofs.CheckingLemmas.{higher-left, higher-right, stands-in, found-in, way-class, met-dead, lands, place-value, ready-by, at-last, at-further}
 
 -- ---- what the page that came says
@@ -94,7 +95,7 @@ module _ {K V I : Type 0} {keeps : Bool} (cmp : K → K → Ordering) (join : V 
   begun = let h = tracing.loading.begun in let same = begin-same in omega arith
 
   -- its page is flushed
-  pub way-flushed : page_at v.core.records.page_bits l.wanted < length v.core.records.receipts
+  pub way-flushed : HasReceipt v.core.records.receipts (page_at v.core.records.page_bits l.wanted)
   way-flushed = page_flushed v.core.records l.wanted sound.traced begun tracing.loading.on_disk
 
   text-begins : IsTrue keeps → v.core.records.from ≤ l.wanted
@@ -135,6 +136,13 @@ module _ {K V I : Type 0} {keeps : Bool} (cmp : K → K → Ordering) (join : V 
         let both : Ok k.0 ≡ Ok r = sym k.1 ∙ is in
         let same : k.0 ≡ r = cc in
         subst (ComesTo cmp join code v.core.records e.key floor l.wanted l.parts) same k.2
+
+    -- on a device that keeps, its bytes spell the records on the way
+    pub way-undamaged : {P : Type 0} {why : Refused} → IsTrue keeps → result ≡ Err why → P
+    way-undamaged {P} {why} yes_keeps is =
+        let k = came.kept yes_keeps begun ((tracing.loading.leads yes_keeps begin-same).class (text-begins yes_keeps)) in
+        let bad : Ok k.0 ≡ Err why = sym k.1 ∙ is in
+        absurd (cc)
 
     -- a newer record of the key that is no delta was met: the record of the place is superseded
     pub way-dead : (r : ChainResult K V) → result ≡ Ok r → liveness x.target r ≡ Superseded → IsTrue keeps → (y : Entry K V) → entry_at v.core.records.entries x.target ≡ Some y → IsSuperseded cmp v.core.records.entries y
@@ -229,6 +237,13 @@ module _ {K V I : Type 0} {keeps : Bool} (cmp : K → K → Ordering) (join : V 
       begins : v.core.records.begin ≤ b
       begins = let up = above-place in let h = tracing.begun in let same = begin-same in omega arith
 
+      -- on a device that keeps, a record of the class stands there
+      way-stands : IsTrue keeps → IsOfClass code v.core.records e.key b
+      way-stands yes_keeps = way-class cmp join code v.core.records e.key floor l.wanted l.parts r (goes yes_keeps r is) b further.0 (let from = kept-from v.core.records sound.traced yes_keeps in let low = begins in omega arith)
+
+      pub way-place : IsTrue keeps → IsRecordStart v.core.records.page_bits v.core.records.record_size b
+      way-place yes_keeps = class-place v.core.records sound.traced sound.stood e.key b (way-stands yes_keeps)
+
       out-low : b < floor
       out-low = gathered-low join (entry v.core.records.page_bits bytes) cmp e.key v.core.records.page_bits floor l.wanted b l.parts result came.reads (ap left_of is-below)
 
@@ -243,8 +258,8 @@ module _ {K V I : Type 0} {keeps : Bool} (cmp : K → K → Ordering) (join : V 
           let low = lower in
           absurd (omega arith)
 
-      pub lower-flushed : page_at v.core.records.page_bits b < length v.core.records.receipts
-      lower-flushed = let low = lower in let top = way-flushed in omega arith
+      pub lower-flushed : HasReceipt v.core.records.receipts (page_at v.core.records.page_bits b)
+      lower-flushed = lower_flushed v.core.records b (page_at v.core.records.page_bits l.wanted) sound.traced begins lower way-flushed
 
       loading-lower : IsLoading keeps cmp join code v.core.records e.key (record l { wanted = b; parts = parts })
       loading-lower =
@@ -296,16 +311,16 @@ module _ {K V I : Type 0} {keeps : Bool} (cmp : K → K → Ordering) (join : V 
   same-begin : (q : Stage K V) (begin at : ℕ) → x.stage ≡ q → asked_by q ≡ Some (record { begin = begin; wanted = at }) → (begin ≡ v.core.records.begin) × (at ≡ wanted)
   same-begin q begin at is told = same-awaited (record { begin = begin; wanted = at }) (record { begin = v.core.records.begin; wanted = wanted }) (sym told ∙ sym (ap asked_by is) ∙ a.awaits)
 
-  pub awaited-flushed : page_at v.core.records.page_bits wanted < length v.core.records.receipts
+  pub awaited-flushed : HasReceipt v.core.records.receipts (page_at v.core.records.page_bits wanted)
   awaited-flushed = by_stage x.stage refl
     where
-      by_stage : (q : Stage K V) → x.stage ≡ q → page_at v.core.records.page_bits wanted < length v.core.records.receipts
+      by_stage : (q : Stage K V) → x.stage ≡ q → HasReceipt v.core.records.receipts (page_at v.core.records.page_bits wanted)
       by_stage Fresh at = absurd (waits-none Fresh at refl)
       by_stage (Ready e kept) at = absurd (waits-none (Ready e kept) at refl)
       by_stage (Reading begin) at =
           let same = same-begin (Reading begin) begin x.target at refl in
-          subst (λ (n : ℕ). page_at v.core.records.page_bits n < length v.core.records.receipts) same.1 (place-flushed cmp join code v sound s slot c x begin at same.0 a.here)
+          subst (λ (n : ℕ). HasReceipt v.core.records.receipts (page_at v.core.records.page_bits n)) same.1 (place-flushed cmp join code v sound s slot c x begin at same.0 a.here)
       by_stage (Tracing e l) at =
           let same = same-begin (Tracing e l) l.begin l.wanted at refl in
           let here = subst (λ (n : ℕ). AwaitsPage v slot c x n) (sym same.1) a in
-          subst (λ (n : ℕ). page_at v.core.records.page_bits n < length v.core.records.receipts) same.1 (way-flushed cmp join code order v sound s slot c x e l here at)
+          subst (λ (n : ℕ). HasReceipt v.core.records.receipts (page_at v.core.records.page_bits n)) same.1 (way-flushed cmp join code order v sound s slot c x e l here at)

@@ -103,7 +103,7 @@ pub data Loads {K V I O R : Type 0} (stands : R → Standing) (entry : ℕ → L
   stranger : (x : Context K V I) (l : Loading V) (p : Joined R) (s : Standing)
       → AwaitsPage old slot c x l
       → came ≡ Ok p
-      → slice_get old.records.receipts (page_at old.records.page_bits l.wanted) ≡ Some s
+      → IsHeldBy old.records.receipts (page_at old.records.page_bits l.wanted) s
       → s ≢ stands p.receipt
       → new ≡ old
       → result ≡ Err (Stranger what.Receipt s.number (stands p.receipt).number)
@@ -161,7 +161,7 @@ pub data Loads {K V I O R : Type 0} (stands : R → Standing) (entry : ℕ → L
 
 -- what comes of a load that reads for itself, by the receipt that is kept of a page. `awaits` says which page is waited for,
 -- and `loads` what comes of what is handed in.
-pub data ReadsBy {R S A : Type 0} (stands : R → Standing) (receipts : List Standing) (awaits : ℕ → Type 0)
+pub data ReadsBy {R S A : Type 0} (stands : R → Standing) (receipts : List (Option Standing)) (awaits : ℕ → Type 0)
     (loads : Result (Joined R) Refused → Type 0) (old new : S) (before after : ℕ) (result : Result A Refused)
     : Type 0 where
   -- no page is waited for: whatever was handed in would do the same

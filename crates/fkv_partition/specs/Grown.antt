@@ -1,7 +1,9 @@
 -- What events leave for one who keeps, beside a partition, entries, look-ups, records and addresses of its own.
 use Rattle.std.specs.Prelude.{◌≡◌, ◌<◌, ◌≤◌, Bool, IsTrue, true, ℕ, List, [], ◌∷◌, Option, Some, slice_get}
 use Rattle.std.specs.declared.cmp.Ordering.{Ordering}
+use Rattle.fkv_records.specs.Places.{page_at}
 use Rattle.fkv_device.specs.Standing.{Standing}
+use Rattle.fkv_pages.specs.Loads.{IsHeldBy}
 use Rattle.fkv_regions.specs.Agree.{IsRaised}
 use Rattle.fkv_texts.specs.declared.entries.Entry.{Entry}
 use Rattle.fkv_texts.specs.Text.{entry_at}
@@ -34,7 +36,7 @@ pub record IsSameShape {K V : Type 0} (old new : RecordsView K V) : Type 0 where
   pub record_size : new.record_size ≡ old.record_size
   pub frames : new.frames ≡ old.frames
 
--- nothing falls, what is flushed stays so, and what is frozen stays as it is, where the text begins now or above; on a
+-- nothing falls, what is flushed stays so, by the same receipt where Begin is now or above, and what is frozen stays as it is, where the text begins now or above; on a
 -- device that keeps, what was cleared is cleared; and a record at an address that was taken is of the key that it was of, and
 -- a delta where it was one
 pub record IsGrown {K V : Type 0} (keeps : Bool) (cmp : K → K → Ordering) (old new : RecordsView K V) : Type 0 where
@@ -43,8 +45,9 @@ pub record IsGrown {K V : Type 0} (keeps : Bool) (cmp : K → K → Ordering) (o
   pub tail : old.tail ≤ new.tail
   pub raised : IsRaised old.regions.offsets new.regions.offsets
   pub receipts : (page : ℕ) (s : Standing)
-      → slice_get old.receipts page ≡ Some s
-      → slice_get new.receipts page ≡ Some s
+      → page_at new.page_bits new.begin ≤ page
+      → IsHeldBy old.receipts page s
+      → IsHeldBy new.receipts page s
   pub stay : (a : ℕ)
       → new.from ≤ a
       → a < old.regions.offsets.safe_read_only

@@ -84,7 +84,7 @@ pub data LoadsOn {K V I O R : Type 0} (stands : R → Standing) (spells : ℕ �
   stranger : (x : Relocation K V) (wanted : ℕ) (p : Joined R) (s : Standing)
       → AwaitsPage old slot c x wanted
       → came ≡ Ok p
-      → slice_get old.core.records.receipts (page_at old.core.records.page_bits wanted) ≡ Some s
+      → IsHeldBy old.core.records.receipts (page_at old.core.records.page_bits wanted) s
       → s ≢ stands p.receipt
       → new ≡ old
       → result ≡ Err (Stranger what.Receipt s.number (stands p.receipt).number)

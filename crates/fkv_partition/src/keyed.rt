@@ -1,5 +1,5 @@
 //! Events of operations on keys: they are the core's, and leave relocations and what is cleared.
-ghost use Rattle.std.specs.Prelude.{◌≡◌, ◌≢◌, ◌<◌, ◌≤◌, ℕ, None, IsTrue, IfOk, OnOk, OnErr};
+ghost use Rattle.std.specs.Prelude.{◌≡◌, ◌≢◌, ◌+◌, ◌<◌, ◌≤◌, ℕ, None, Err, IsTrue, IfOk, OnOk, OnErr};
 ghost use Rattle.fkv_pages.specs.Spelled.{IsEntryIn};
 ghost use Rattle.fkv_hybrid.specs.Scans.{MayFail};
 ghost use Rattle.fkv_partition.specs.CoreGoing.{Goes};
@@ -136,6 +136,7 @@ impl<F: Mergeable, R: Receipt> Partition<F, R> {
         ensures rest { IsPassedOn self.old self.new }
         ensures event { IsTrue R.keeps → IfOk result (λ progress.
             IsLoaded F.Key.cmp F.meaning self.old.core self.new.core slot context now progress) }
+        ensures undamaged { IsTrue R.keeps → (page : ℕ) → result ≡ Err (Refused.Damaged page) → came ≡ Err (Refused.Damaged page) }
         ensures within { IfOk result (λ _. (slot < 16) × (context < 8)) }
         ensures moment { self.new.core.moment ≤ now }
     {
@@ -163,6 +164,8 @@ impl<F: Mergeable, R: Receipt> Partition<F, R> {
         ensures rest { IsPassedOn self.old self.new }
         ensures event { IsTrue R.keeps → IfOk result (λ progress.
             IsLoaded F.Key.cmp F.meaning self.old.core self.new.core slot context now progress) }
+        ensures undamaged { IsTrue R.keeps → (page : ℕ) → result ≡ Err (Refused.Damaged page)
+            → P.failures reader.new ≡ P.failures reader.old + 1 }
         ensures unread { ((page : ℕ) → WaitsFor self.old.core slot context page → ⊥) → reader.new ≡ reader.old }
         ensures caused { P.failures reader.new ≢ P.failures reader.old → (page : ℕ)
             × MayFail R.stands P.can_fail self.old.core.records.receipts self.old.core.records.page_bits page }

@@ -1,9 +1,9 @@
 //! What an operation does with the page that it waited for.
-ghost use Rattle.std.specs.Prelude.{◌≡◌, ◌≢◌, ◌<◌, ◌≤◌, ◌↔◌, ℕ, Some, None, Ok, IsTrue, IfOk, IfErr, OnOk, OnErr, length};
+ghost use Rattle.std.specs.Prelude.{◌≡◌, ◌≢◌, ◌+◌, ◌<◌, ◌≤◌, ◌↔◌, ℕ, Some, None, Ok, Err, IsTrue, IfOk, IfErr, OnOk, OnErr};
 ghost use Rattle.fkv_records.specs.Places.{page_at};
 ghost use Rattle.fkv_device.specs.Failing.{ReadFailsBy};
 ghost use Rattle.fkv_pages.specs.Spelled.{IsEntryIn};
-ghost use Rattle.fkv_pages.specs.Loads.{IsHeldBy};
+ghost use Rattle.fkv_pages.specs.Loads.{HasReceipt, IsHeldBy};
 ghost use Rattle.fkv_hybrid.specs.Scans.{MayFail};
 ghost use Rattle.fkv_operations.specs.After.{key_of, shown_of};
 ghost use Rattle.fkv_operations.specs.declared.operations.KeyedOp.TheVariants.{Read, Rmw};
@@ -59,6 +59,8 @@ impl<F: Mergeable, R: Receipt> Core<F, R> {
         // on a device that keeps, what comes of it is what the look-up was to find
         ensures event { IsTrue R.keeps → IfOk result
             (λ progress. IsLoaded F.Key.cmp F.meaning self.old self.new slot context now progress) }
+        // there it finds no damage, and tells only of what came in place of the page
+        ensures undamaged { IsTrue R.keeps → (page : ℕ) → result ≡ Err (Refused.Damaged page) → came ≡ Err (Refused.Damaged page) }
         ensures within { IfOk result (λ _. (slot < 16) × (context < 8)) }
         ensures moment { self.new.moment ≤ now }
     {
@@ -102,6 +104,9 @@ impl<F: Mergeable, R: Receipt> Core<F, R> {
             (P.failures reader.old) (P.failures reader.new) result }
         ensures event { IsTrue R.keeps → IfOk result
             (λ progress. IsLoaded F.Key.cmp F.meaning self.old self.new slot context now progress) }
+        // on a device that keeps, it finds no damage, and tells only of what the reader counted
+        ensures undamaged { IsTrue R.keeps → (page : ℕ) → result ≡ Err (Refused.Damaged page)
+            → P.failures reader.new ≡ P.failures reader.old + 1 }
         ensures unread { ((page : ℕ) → WaitsFor self.old slot context page → ⊥) → reader.new ≡ reader.old }
         ensures caused { P.failures reader.new ≢ P.failures reader.old → (page : ℕ)
             × MayFail R.stands P.can_fail self.old.records.receipts self.old.records.page_bits page }
@@ -135,7 +140,7 @@ impl<F: Mergeable, R: Receipt> Core<F, R> {
         reader: &mut P,
         page: u64,
     ) -> Result<Loaded<R>, Refused>
-        requires flushed { page < length self.now.records.receipts }
+        requires flushed { HasReceipt self.now.records.receipts page }
         ensures own { IfOk result (λ l. IsHeldBy self.now.records.receipts page (R.stands l.receipt)) }
         ensures steady { OnOk result (P.failures reader.new ≡ P.failures reader.old) }
         ensures counted { IfErr result (ReadFailsBy page (P.failures reader.old) (P.failures reader.new)) }
@@ -172,6 +177,7 @@ impl<F: Mergeable, R: Receipt> Core<F, R> {
         ensures effect { Loads R.stands (IsEntryIn F.Key.codec F.Value.codec) F.Key.cmp F.parts.joined F.meaning self.old self.new slot context (Ok loaded) now result }
         ensures event { IsTrue R.keeps → IfOk result
             (λ progress. IsLoaded F.Key.cmp F.meaning self.old self.new slot context now progress) }
+        ensures undamaged { IsTrue R.keeps → (page : ℕ) → result ≢ Err (Refused.Damaged page) }
         ensures moment { self.new.moment ≤ now }
     {
         self.known();
@@ -202,6 +208,7 @@ impl<F: Mergeable, R: Receipt> Core<F, R> {
         ensures effect { Loads R.stands (IsEntryIn F.Key.codec F.Value.codec) F.Key.cmp F.parts.joined F.meaning self.old self.new slot context (Ok loaded) now result }
         ensures event { IsTrue R.keeps → IfOk result
             (λ progress. IsLoaded F.Key.cmp F.meaning self.old self.new slot context now progress) }
+        ensures undamaged { IsTrue R.keeps → (page : ℕ) → result ≢ Err (Refused.Damaged page) }
         ensures moment { self.new.moment ≤ now }
     {
         self.known();
@@ -310,7 +317,7 @@ impl<F: Mergeable, R: Receipt> Core<F, R> {
         requires context { context < 8 }
         requires awaits { AwaitsPage self.old slot context operation.now loading }
         requires asks { MayLoad operation.now.op }
-        requires flushed { page_at self.old.records.page_bits address < length self.old.records.receipts }
+        requires flushed { HasReceipt self.old.records.receipts (page_at self.old.records.page_bits address) }
         requires stands { IsLoading R.keeps F.Key.cmp F.parts.joined F.code self.old.records (key_of operation.now.op)
             (record loading { wanted = address; parts = parts }) }
         ensures asked { IfOk result (λ progress. (r : R)

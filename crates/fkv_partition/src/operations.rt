@@ -1,6 +1,6 @@
 //! Operations: on keys, which are the core's, and relocations. Each stands in a context of a session from its issue on, and
 //! goes on by events of its own session.
-ghost use Rattle.std.specs.Prelude.{◌≡◌, ◌≢◌, ◌<◌, ◌≤◌, ◌⊎◌, ℕ, IsTrue, None, Ok, IfOk, IfErr, IfSome, IsSome, OnOk, OnErr};
+ghost use Rattle.std.specs.Prelude.{◌≡◌, ◌≢◌, ◌+◌, ◌<◌, ◌≤◌, ◌⊎◌, ℕ, IsTrue, None, Ok, Err, IfOk, IfErr, IfSome, IsSome, OnOk, OnErr};
 ghost use Rattle.fkv_pages.specs.Loads.{IsHeldBy};
 ghost use Rattle.fkv_pages.specs.Spelled.{IsEntryIn};
 ghost use Rattle.fkv_hybrid.specs.Scans.{MayFail};
@@ -178,6 +178,8 @@ impl<F: Mergeable, R: Receipt> Partition<F, R> {
         // of a relocation also where the device does not keep
         ensures relocating { IsSome (relocation_at self.old slot context) → IfOk result (λ _.
             IsRelocating R.keeps F.Key.cmp self.old self.new slot context now) }
+        // there it finds no damage, and tells only of what came in place of the page
+        ensures undamaged { IsTrue R.keeps → (page : ℕ) → result ≡ Err (Refused.Damaged page) → came ≡ Err (Refused.Damaged page) }
         ensures fails { IfErr result (λ _. (self.new ≡ self.old) ⊎ IsGiveUp self.old self.new slot context now) }
         ensures others { IsTrue R.keeps → OthersPend F.Key.cmp self.old.core self.new.core slot context }
         ensures cleared { result ≡ Ok (Done Cleared now)
@@ -221,6 +223,9 @@ impl<F: Mergeable, R: Receipt> Partition<F, R> {
         // of a relocation also where the device does not keep
         ensures relocating { IsSome (relocation_at self.old slot context) → IfOk result (λ _.
             IsRelocating R.keeps F.Key.cmp self.old self.new slot context now) }
+        // there it finds no damage, and tells only of what the reader counted
+        ensures undamaged { IsTrue R.keeps → (page : ℕ) → result ≡ Err (Refused.Damaged page)
+            → P.failures reader.new ≡ P.failures reader.old + 1 }
         ensures fails { IfErr result (λ _. (self.new ≡ self.old) ⊎ IsGiveUp self.old self.new slot context now) }
         ensures others { IsTrue R.keeps → OthersPend F.Key.cmp self.old.core self.new.core slot context }
         ensures cleared { result ≡ Ok (Done Cleared now)
@@ -262,6 +267,8 @@ impl<F: Mergeable, R: Receipt> Partition<F, R> {
         // of a relocation also where the device does not keep
         ensures relocating { IsSome (relocation_at self.old slot context) → IfOk result (λ _.
             IsRelocating R.keeps F.Key.cmp self.old self.new slot context now) }
+        // there it finds no damage
+        ensures undamaged { IsTrue R.keeps → (page : ℕ) → result ≢ Err (Refused.Damaged page) }
         ensures fails { IfErr result (λ _. (self.new ≡ self.old) ⊎ IsGiveUp self.old self.new slot context now) }
         ensures others { IsTrue R.keeps → OthersPend F.Key.cmp self.old.core self.new.core slot context }
         ensures cleared { result ≡ Ok (Done Cleared now)

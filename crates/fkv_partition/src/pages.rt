@@ -6,6 +6,7 @@ ghost use Rattle.std.specs.List.Sorted.{IsStrictlySortedBy};
 ghost use Rattle.fkv_records.specs.Places.{page_at, start_at};
 ghost use Rattle.fkv_device.specs.Standing.{Standing};
 ghost use Rattle.fkv_pages.specs.Spelled.{IsPageOf};
+ghost use Rattle.fkv_pages.specs.Loads.{IsHeldBy};
 ghost use Rattle.fkv_functions.specs.Plain.{Same};
 ghost use Rattle.fkv_hybrid.specs.Scans.{IsScanRefusal, MayFail};
 ghost use Rattle.fkv_lookups.specs.Overlays.{with_text, HasFront};
@@ -74,7 +75,7 @@ impl<F: Mergeable, R: Receipt> Partition<F, R> {
     /// What holds of all pages that are kept or wait. It does nothing when it runs.
     pub fn pages_known(&self)
         ensures receipts { (n : ℕ) (s : Standing)
-            → slice_get self.now.core.records.receipts n ≡ Some s
+            → IsHeldBy self.now.core.records.receipts n s
             → (s.page ≡ n) × (s.length ≡ 2 ^ self.now.core.records.page_bits) }
         // the pages from the first that is not flushed to below that of SafeReadOnly wait, each with the records there
         ensures waiting { length self.now.core.records.waiting

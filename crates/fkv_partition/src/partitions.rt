@@ -118,6 +118,14 @@ impl<F: Mergeable, R: Receipt> Partition<F, R> {
         self.core.records().log().regions().offsets().head
     }
 
+    /// How many frames its pages have in memory: one at least.
+    pub fn frames(&self) -> u64
+        ensures value { result ≡ self.now.core.records.frames }
+        ensures some { 0 < result }
+    {
+        self.core.records().log().pages().frame_count()
+    }
+
     /// The bytes of a page.
     pub fn page_size(&self) -> usize
         ensures { result ≡ 2 ^ self.now.core.records.page_bits }

@@ -1,5 +1,5 @@
 //! What a relocation does with the page that it waited for.
-ghost use Rattle.std.specs.Prelude.{◌≡◌, ◌≢◌, ◌<◌, ◌≤◌, ℕ, IfOk, IfSome, Ok, length};
+ghost use Rattle.std.specs.Prelude.{◌≡◌, ◌≢◌, ◌+◌, ◌<◌, ◌≤◌, ℕ, IsTrue, IfOk, IfSome, Ok, Err, length};
 ghost use Rattle.fkv_records.specs.Places.{page_at};
 ghost use Rattle.fkv_pages.specs.Loads.{IsHeldBy};
 ghost use Rattle.fkv_pages.specs.Spelled.{IsEntryIn};
@@ -45,6 +45,7 @@ impl<F: Mergeable, R: Receipt> Partition<F, R> {
         ensures cleared { result ≡ Ok (Progress.Done Answer.Cleared now)
             → IfSome (relocation_at self.old slot context) (λ x. x.target < self.new.cleared) }
         ensures within { IfOk result (λ _. (slot < 16) × (context < 8)) }
+        ensures undamaged { IsTrue R.keeps → (page : ℕ) → result ≡ Err (Refused.Damaged page) → came ≡ Err (Refused.Damaged page) }
         ensures moment { self.new.core.moment ≤ now }
     {
         let Some(relocation) = self.relocation(slot, context) else {
@@ -93,6 +94,8 @@ impl<F: Mergeable, R: Receipt> Partition<F, R> {
         ensures caused { P.failures reader.new ≢ P.failures reader.old → (page : ℕ)
             × MayFail R.stands P.can_fail self.old.core.records.receipts self.old.core.records.page_bits page }
         ensures within { IfOk result (λ _. (slot < 16) × (context < 8)) }
+        ensures undamaged { IsTrue R.keeps → (page : ℕ) → result ≡ Err (Refused.Damaged page)
+            → P.failures reader.new ≡ P.failures reader.old + 1 }
         ensures moment { self.new.core.moment ≤ now }
     {
         let Some(relocation) = self.relocation(slot, context) else {
@@ -132,6 +135,7 @@ impl<F: Mergeable, R: Receipt> Partition<F, R> {
         ensures cleared { result ≡ Ok (Progress.Done Answer.Cleared now)
             → IfSome (relocation_at self.old slot context) (λ x. x.target < self.new.cleared) }
         ensures within { IfOk result (λ _. (slot < 16) × (context < 8)) }
+        ensures undamaged { IsTrue R.keeps → (page : ℕ) → result ≢ Err (Refused.Damaged page) }
         ensures moment { self.new.core.moment ≤ now }
     {
         let Some(relocation) = self.relocation(slot, context) else {
@@ -166,6 +170,7 @@ impl<F: Mergeable, R: Receipt> Partition<F, R> {
         ensures effect { LoadsOn R.stands (IsEntryIn F.Key.codec F.Value.codec) F.Key.cmp F.parts.joined F.code self.old self.new slot context (Ok loaded) now result }
         ensures event { IfOk result (λ _. IsRelocating R.keeps F.Key.cmp self.old self.new slot context now) }
         ensures cleared { result ≡ Ok (Progress.Done Answer.Cleared now) → relocation.now.target < self.new.cleared }
+        ensures undamaged { IsTrue R.keeps → (page : ℕ) → result ≢ Err (Refused.Damaged page) }
         ensures moment { self.new.core.moment ≤ now }
     {
         self.known();
@@ -193,6 +198,7 @@ impl<F: Mergeable, R: Receipt> Partition<F, R> {
         ensures effect { LoadsOn R.stands (IsEntryIn F.Key.codec F.Value.codec) F.Key.cmp F.parts.joined F.code self.old self.new slot context (Ok loaded) now result }
         ensures event { IfOk result (λ _. IsRelocating R.keeps F.Key.cmp self.old self.new slot context now) }
         ensures cleared { result ≡ Ok (Progress.Done Answer.Cleared now) → relocation.now.target < self.new.cleared }
+        ensures undamaged { IsTrue R.keeps → (page : ℕ) → result ≢ Err (Refused.Damaged page) }
         ensures moment { self.new.core.moment ≤ now }
     {
         match relocation.stage {
@@ -226,6 +232,7 @@ impl<F: Mergeable, R: Receipt> Partition<F, R> {
         ensures effect { LoadsOn R.stands (IsEntryIn F.Key.codec F.Value.codec) F.Key.cmp F.parts.joined F.code self.old self.new slot context (Ok loaded.now) now result }
         ensures event { IfOk result (λ _. IsRelocating R.keeps F.Key.cmp self.old self.new slot context now) }
         ensures cleared { result ≡ Ok (Progress.Done Answer.Cleared now) → relocation.now.target < self.new.cleared }
+        ensures undamaged { IsTrue R.keeps → (page : ℕ) → result ≢ Err (Refused.Damaged page) }
         ensures moment { self.new.core.moment ≤ now }
     {
         self.known();
@@ -260,6 +267,7 @@ impl<F: Mergeable, R: Receipt> Partition<F, R> {
         ensures effect { LoadsOn R.stands (IsEntryIn F.Key.codec F.Value.codec) F.Key.cmp F.parts.joined F.code self.old self.new slot context (Ok loaded.now) now result }
         ensures event { IfOk result (λ _. IsRelocating R.keeps F.Key.cmp self.old self.new slot context now) }
         ensures cleared { result ≡ Ok (Progress.Done Answer.Cleared now) → relocation.now.target < self.new.cleared }
+        ensures undamaged { IsTrue R.keeps → (page : ℕ) → result ≢ Err (Refused.Damaged page) }
         ensures moment { self.new.core.moment ≤ now }
     {
         self.known();

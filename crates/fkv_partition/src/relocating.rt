@@ -1,6 +1,7 @@
 //! What a relocation does when it goes on.
-ghost use Rattle.std.specs.Prelude.{◌≡◌, ◌<◌, ◌≤◌, IsSome, IfOk, IfErr, IfSome, OnErr, Ok, Some, length};
+ghost use Rattle.std.specs.Prelude.{◌≡◌, ◌<◌, ◌≤◌, IsSome, IfOk, IfErr, IfSome, OnErr, Ok, Some};
 ghost use Rattle.fkv_records.specs.Places.{page_at};
+ghost use Rattle.fkv_pages.specs.Loads.{HasReceipt};
 ghost use Rattle.fkv_partition.specs.declared.relocations.Stage.TheVariants.{Fresh, Tracing, Ready};
 ghost use Rattle.fkv_partition.specs.Views.{relocation_at, with_relocation, at_stage};
 ghost use Rattle.fkv_partition.specs.Stages.{StageStands};
@@ -117,8 +118,8 @@ impl<F: Mergeable, R: Receipt> Partition<F, R> {
         requires context { context < 8 }
         requires here { relocation_at self.old slot context ≡ Some relocation.now }
         requires later { self.old.core.moment < now }
-        requires flushed { page_at self.old.core.records.page_bits wanted
-            < length self.old.core.records.receipts }
+        requires flushed { HasReceipt self.old.core.records.receipts
+            (page_at self.old.core.records.page_bits wanted) }
         requires stands { StageStands R.keeps F.Key.cmp F.parts.joined F.code self.old.core relocation.now.target stage }
         ensures effect { Asks R.stands self.old self.new
             (with_relocation self.old slot context (Some (at_stage relocation.now stage)) now) wanted result }

@@ -1,3 +1,4 @@
 pub mod OffsetLemmas
 pub mod RegionLemmas
 pub mod MoveLemmas
+pub mod SettledLemmas

@@ -261,7 +261,7 @@ module _ {V O R : Type 0} (stands : R → Standing) (entry : ℕ → List ℕ �
         headline = headline;
         steps = run.steps;
         stepped = run.ran;
-        issued = issued-runs stands entry name_cmp join f code merges config size w run.steps run.ran;
+        issued = issued-runs stands entry name_cmp join f code merges config size w run.steps run.ran headline;
         answers = sym run.answers;
         map = map;
         rising = rising;

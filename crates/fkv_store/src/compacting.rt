@@ -8,7 +8,7 @@ use crate::refusals::told_of_compaction;
 use crate::stores::Store;
 use crate::tidying::KEEPER;
 use fkv_compaction::Compactor;
-use fkv_device::{Disk, Loaded, PageReader, Receipt};
+use fkv_device::{Disk, Loaded, PageReader, PageWriter, Receipt};
 use fkv_functions::{Mergeable, Refused};
 use fkv_histories::Recorder;
 use fkv_partition::{Progress, ProgressOf};
@@ -96,10 +96,11 @@ fn after_event<F: Mergeable, D: Disk>(
 }
 
 impl<F: Mergeable, D: Disk, H: Recorder<F>> Store<F, D, H> {
-    /// Relocates what lives at the start of a partition's log, up to the Head that it finds at the most, and moves Begin
-    /// behind what is cleared. It stops early where a part is not due; where a relocation waits, or has begun anew eight times
-    /// because callers wrote its key meanwhile, it begins no other, and gives that one up. Its session is refreshed wherever pages
-    /// were moved, so that callers need not wait for it. No value of a key changes.
+    /// Relocates what lives at the start of a partition's log, up to the Head that it finds at the most, moves Begin
+    /// behind what is cleared, also where something is refused, and drops the pages below: in memory they are freed, and the places
+    /// that they had in files are used again. It stops early where a part is not due; where a relocation waits, or has begun anew
+    /// eight times because callers wrote its key meanwhile, it begins no other, and gives that one up. Its session is refreshed
+    /// wherever pages were moved, so that callers need not wait for it. No value of a key changes.
     ///
     /// # Errors
     ///
@@ -156,11 +157,12 @@ impl<F: Mergeable, D: Disk, H: Recorder<F>> Store<F, D, H> {
             Err(refused) => return Err(refused),
         };
         let relocated = self.relocate(rt, at, &joined, &mut pages, gate, stop);
-        let truncated = match relocated {
-            Ok(()) => self.truncate(rt, at, &joined.compactor, gate),
-            Err(refused) => Err(refused),
-        };
+        let truncated = self.truncate(rt, at, &joined.compactor, gate);
         let parted = self.part(rt, at, joined.compactor, gate);
+        match relocated {
+            Ok(()) => {}
+            Err(refused) => return Err(refused),
+        }
         match truncated {
             Ok(()) => parted,
             Err(refused) => Err(refused),
@@ -292,7 +294,7 @@ impl<F: Mergeable, D: Disk, H: Recorder<F>> Store<F, D, H> {
         }
     }
 
-    /// Moves Begin behind what is cleared, where that is due.
+    /// Moves Begin behind what is cleared, where that is due, and gives the room back that the pages below take on the device.
     fn truncate<G: Gate>(
         &self,
         rt: &impl Wait,
@@ -303,12 +305,31 @@ impl<F: Mergeable, D: Disk, H: Recorder<F>> Store<F, D, H> {
         requires { at.partition < self.now.count }
         ensures only { IfErr result IsUncompacted }
     {
-        let mut held = self.locks[at.partition].lock(rt);
-        gate.pass(at.worker, at.locked());
-        match held.truncate_cleared(compactor) {
-            Ok(_) | Err(Refused::NotDue) => Ok(()),
+        match self.move_begin(rt, at, compactor, gate) {
+            Ok(begin) => {
+                // the partition's lock is let go: who writes a page takes it while the writer is held
+                let mut writer = self.writers[at.partition].lock(rt);
+                writer.drop_below(self.page_of(begin));
+                Ok(())
+            }
+            Err(Refused::NotDue) => Ok(()),
             Err(refused) => Err(told_of_compaction(refused)),
         }
+    }
+
+    /// Moves Begin behind what is cleared, and answers it. Refused as [`fkv_locked::Locked::truncate_cleared`] is.
+    fn move_begin<G: Gate>(
+        &self,
+        rt: &impl Wait,
+        at: At,
+        compactor: &Compactor,
+        gate: &G,
+    ) -> Result<Address, Refused>
+        requires { at.partition < self.now.count }
+    {
+        let mut held = self.locks[at.partition].lock(rt);
+        gate.pass(at.worker, at.locked());
+        held.truncate_cleared(compactor)
     }
 
     /// A compactor leaves a partition, with what it has open given up.

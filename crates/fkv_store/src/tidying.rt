@@ -102,7 +102,7 @@ impl<F: Mergeable, D: Disk, H: Recorder<F>> Store<F, D, H> {
     }
 
     /// The page of an address.
-    fn page_of(&self, address: Address) -> u64 {
+    pub(crate) fn page_of(&self, address: Address) -> u64 {
         address.checked_div(self.page_size as u64).unwrap_or(0)
     }
 

@@ -2,6 +2,7 @@
 ghost use Rattle.std.specs.Prelude.{◌≡◌, ◌≤◌, ◌↔◌, IsTrue, length};
 ghost use Rattle.fkv_records.specs.Places.{page_at, IsRecordStart};
 ghost use Rattle.fkv_records.specs.Records.{size_of, IsPrevious};
+ghost use Rattle.fkv_pages.specs.Loads.{HasReceipt};
 
 use crate::lines::{Line, Subject};
 use fkv_device::{Disk, FileDevice, FlushJob, Loaded, MemoryDevice, Page, Receipt, Written};
@@ -69,6 +70,14 @@ fn is_low<K: Fixed, V: Fixed, R: Receipt>(pages: &Pages<K, V, R>, address: Addre
     shape.is_record_start(address)
         && shape.page_of(address) <= pages.unflushed()
         && address <= pages.frozen()
+}
+
+/// Whether a page is flushed, and its receipt was not let go.
+fn has_receipt<K: Fixed, V: Fixed, R: Receipt>(pages: &Pages<K, V, R>, page: u64) -> bool
+    ensures { IsTrue result → HasReceipt pages.now.receipts page }
+{
+    pages.known();
+    pages.shape().page_of(pages.begin()) <= page && page < pages.unflushed()
 }
 
 /// A page as it was taken; or with another number, with another byte at a place, or without its last byte, as the line
@@ -186,7 +195,7 @@ impl<D: Disk> Driven<D> {
 
     /// Reads a flushed page by its receipt.
     fn fetch(&mut self, page: u64) -> Result<Loaded<D::Receipt>, Refused> {
-        if page >= self.pages.unflushed() {
+        if !has_receipt(&self.pages, page) {
             return Err(Refused::NotReady);
         }
         match self.pages.receipt(page) {
@@ -203,7 +212,7 @@ impl<D: Disk> Driven<D> {
             Err(refused) => return Told::Refused(refused),
         };
         let own = self.pages.shape().page_of(address);
-        if own >= self.pages.unflushed() {
+        if !has_receipt(&self.pages, own) {
             return Told::Refused(Refused::NotReady);
         }
         let Some(key) = Name::new(line.texts[2].as_bytes()) else {

@@ -50,6 +50,8 @@ impl PageWriter for UnsureWriter {
             }
         }
     }
+
+    fn drop_below(&mut self, _page: u64) {}
 }
 
 /// What a reader does once.

@@ -79,6 +79,10 @@ impl<'a, W: PageWriter> PageWriter for FailingWriter<'a, W> {
         }
         self.writer.write(page, bytes)
     }
+
+    fn drop_below(&mut self, page: u64) {
+        self.writer.drop_below(page);
+    }
 }
 
 /// A reader of which a call may fail.

@@ -51,7 +51,7 @@ pub type Row = (Call, Told);
 /// A partition, the last moment that it was given, and its device.
 #[derive(Drop)]
 pub struct Filed {
-    partition: Partition<SumFns, FileReceipt>,
+    partition: Partition<SumFns, FileReceipt<File>>,
     reader: FileReader<File>,
     writer: FileWriter<File>,
     now: u64,

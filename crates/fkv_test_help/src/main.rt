@@ -3,6 +3,7 @@
 #![tactic(auto)]
 
 use fkv_commands::{FeedFiles, run};
+use fkv_device::PageFile;
 use fkv_meters::Silent;
 use fkv_streams::{CountedReader, CountedWriter, write_out};
 use std::alloc::{AllocError, Global};
@@ -26,7 +27,7 @@ fn words_of(alloc: Global, line: &str) -> Result<Vec<String>, AllocError> {
 /// Writes a line that shows these words, and what they print. Answers whether all was written.
 fn show<R: Files + Threads + Wait + Clock + Print + Sync>(rt: &R, alloc: Global, line: &str) -> bool
 where
-    R::File: Send,
+    R::File: PageFile + Send,
     R::Dir: Send,
 {
     let Ok(words) = words_of(alloc, line) else {

@@ -12,6 +12,8 @@ mod faults;
 mod growths;
 #[cfg(test)]
 mod random;
+#[cfg(test)]
+mod room;
 
 /// The partitions that random operations are made over.
 pub const PARTITION_BITS: [u64; 2] = [0, 3];

@@ -55,6 +55,7 @@ fn what_is_known_at_any_time(rt: HostRuntime) {
 
 #[test]
 fn laws_are_called() {
+    fkv_device::files_keep_or_collide();
     fkv_epoch::laws::safe_by_test();
     fkv_epoch::laws::once_in_order();
     fkv_epoch::laws::seen_first();

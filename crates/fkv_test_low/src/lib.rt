@@ -1,4 +1,4 @@
-//! Tests of functions, laws and devices. What the calls of epochs, regions, frames, the index, pages, records and names
+//! Tests of functions, laws and devices, and types of files that show what is promised of files. What the calls of epochs, regions, frames, the index, pages, records and names
 //! answer stands in `fkv_test_calls`.
 //!
 //! What is to come is written as constant rows, and a helper a kind says whether a row comes so. No crate below
@@ -13,3 +13,5 @@ mod files;
 mod functions;
 #[cfg(test)]
 mod known;
+pub mod replays;
+pub mod sevens;

@@ -14,7 +14,7 @@ const CAUSES: [(&str, Refused, &str); 19] = [
     (
         "fkv_cli sum",
         Refused::NoMemory,
-        "fkv_cli: --memory 64M sets a limit, and --dir keeps pages out of memory\n",
+        "fkv_cli: --memory 64M limits buckets and frames, and --dir keeps pages out of memory\n",
     ),
     ("fkv_cli sum", Refused::Stalled, ""),
     (

@@ -1,6 +1,7 @@
 //! Whole runs as rows: their statuses, their texts, and streams that fail. Scripts stand in `fkv_test_steps`.
 use fkv_commands::FeedFiles;
 use fkv_commands::running::{refuse_words, run, tell};
+use fkv_device::PageFile;
 use fkv_functions::{Refused, What};
 use fkv_meters::{Progress, Silent};
 use fkv_requests::{command_lines, words_of};
@@ -104,7 +105,7 @@ pub(crate) fn ends<H: Files + Threads + Wait + Clock + Sync>(
     told: &str,
 ) -> bool
 where
-    H::File: Send,
+    H::File: PageFile + Send,
     H::Dir: Send,
 {
     let reader = Breaking::new(start.input.as_bytes(), start.piece, start.calls);
@@ -134,7 +135,7 @@ pub(crate) fn ends_by<R: Source, H: Files + Threads + Wait + Clock + Sync, P: Pr
     told: &str,
 ) -> bool
 where
-    H::File: Send,
+    H::File: PageFile + Send,
     H::Dir: Send,
 {
     let Ok(words) = split(alloc, start.line) else {
@@ -567,7 +568,7 @@ fn first_unread<H: Files + Threads + Wait + Clock + Sync>(
     printed: &str,
 ) -> Option<u64>
 where
-    H::File: Send,
+    H::File: PageFile + Send,
     H::Dir: Send,
 {
     let least = input.len().div_ceil(PIECE) as u64 + 1;
@@ -600,7 +601,7 @@ fn first_unwritten<H: Files + Threads + Wait + Clock + Sync>(
     printed: &str,
 ) -> Option<usize>
 where
-    H::File: Send,
+    H::File: PageFile + Send,
     H::Dir: Send,
 {
     let unwritable = "fkv_cli: cannot write output\n";

@@ -13,6 +13,8 @@ mod growths;
 #[cfg(test)]
 mod merging;
 #[cfg(test)]
+mod room;
+#[cfg(test)]
 mod sharing;
 #[cfg(test)]
 mod threads;

@@ -80,8 +80,8 @@ fn stalled(rt: HostRuntime) -> Result<(), Fail> {
     Ok(())
 }
 
-/// A value that left its frame is read from the device, until it is relocated.
-fn evicted() -> [Row; 12] {
+/// A value that left its frame is read from the device, until it is relocated, as all that left theirs are.
+fn evicted() -> [Row; 15] {
     [
         stored(Call::Upsert(0, b'a', 10)),
         stored(Call::Upsert(0, b'b', 1)),
@@ -94,6 +94,9 @@ fn evicted() -> [Row; 12] {
         (Call::Loads, Told::Count(1)),
         (Call::Compact(0), Told::Ok),
         value(Call::Read(0, b'a'), 10),
+        value(Call::Read(0, b'b'), 1),
+        value(Call::Read(0, b'c'), 1),
+        (Call::Compact(0), Told::Ok),
         (Call::Loads, Told::Count(1)),
     ]
 }

@@ -76,6 +76,29 @@ fn nine_stalls(rt: HostRuntime) -> Result<(), Fail> {
     Ok(())
 }
 
+/// So it is in the second of two partitions, which has the keys of every other letter.
+#[test]
+fn nine_stalls_of_the_second_partition(rt: HostRuntime) -> Result<(), Fail> {
+    let alloc = rt.alloc();
+    let config = Config {
+        partition_bits: 1,
+        ..IMPATIENT
+    };
+    let mut rows = Vec::new(alloc);
+    rows.push(value(Call::Update(1, b'b', 1), 1))?;
+    for letter in *b"dfhjln" {
+        rows.push(stored(Call::Upsert(0, letter, 1)))?;
+    }
+    for _stall in 0..9 {
+        rows.push((Call::Upsert(0, b'p', 1), Told::Refused(Refused::Stalled)))?;
+    }
+    rows.push((Call::Rest(1), Told::Ok))?;
+    rows.push(stored(Call::Upsert(0, b'p', 1)))?;
+    let audited = first_other::<Audited<SumFns>>(&rt, alloc, &config, &rows)?;
+    assert!(rt; audited == None, "row {audited:?}");
+    Ok(())
+}
+
 /// A pass refreshes its sessions of itself before its next operation after 64 answers: until then an update waits for it.
 #[test]
 fn refreshed_after_64_answers(rt: HostRuntime) -> Result<(), Fail> {

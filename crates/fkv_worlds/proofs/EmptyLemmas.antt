@@ -22,7 +22,7 @@ use Rattle.fkv_worlds.specs.declared.tables.Seat.{Seat}
 use Rattle.fkv_worlds.specs.States.{StateView, state_of, IsBlank, empty_partitions, empty_state}
 use Rattle.fkv_lives.specs.declared.lives.Life.{Life}
 use Rattle.fkv_lives.specs.declared.steps.ContextId.{ContextId}
-use Rattle.fkv_worlds.specs.Worlds.{asked_at, pending_in}
+use Rattle.fkv_worlds.specs.Worlds.{asked_at, asked_in, pending_in}
 use Rattle.fkv_worlds.proofs.HeldLemmas.{waiting-at}
 use Rattle.fkv_worlds.specs.Sound.{IsState}
 
@@ -57,6 +57,21 @@ empty-at merges config size n p v h =
     let same : m.0 ≡ p = omega arith in
     m.2 ∙ ap (empty_partition merges config size) same
 
+-- nothing is open in them
+unasked : {K V I : Type 0} (merges : Bool) (config : Config) (size p slot c : ℕ) (x : Asked K V I) → asked (empty_partition {K = K} {V = V} {I = I} merges config size p) slot c ≡ Some x → ⊥
+unasked {K} {V} {I} merges config size p slot c x h =
+    let out : is_session (replicate 16 None) slot ≡ false = replicate-none 16 slot in
+    let none : asked (empty_partition {K = K} {V = V} {I = I} merges config size p) slot c ≡ None = rw out refl in
+    let bad : None ≡ Some x = sym none ∙ h in
+    absurd (cc)
+
+none-asked : {K V I : Type 0} (merges : Bool) (config : Config) (size : ℕ) (o : Option (PartitionView K V I)) (slot c : ℕ) (x : Asked K V I) → ((v : PartitionView K V I) → o ≡ Some v → (p : ℕ) × (v ≡ empty_partition merges config size p)) → asked_at o slot c ≡ Some x → ⊥
+none-asked merges config size None slot c x h k = absurd (cc)
+none-asked merges config size (Some v) slot c x h k = let e = h v refl in unasked merges config size e.0 slot c x (ap (λ w. asked w slot c) (sym e.1) ∙ k)
+
+pub asked-empty : {K V I : Type 0} (merges : Bool) (config : Config) (size n : ℕ) (w : ContextId) (x : Asked K V I) → asked_in (empty_partitions merges config size n) w ≡ Some x → ⊥
+asked-empty merges config size n w x h = none-asked merges config size (slice_get (plains merges config size n) w.partition) w.slot w.context x (λ v k. (w.partition, empty-at merges config size n w.partition v k)) h
+
 -- one partition more
 pub partitions-more : {K V I : Type 0} (merges : Bool) (config : Config) (size n : ℕ) (xs ys : List (PartitionView K V I)) → xs ≡ empty_partitions merges config size n → ys ≡ xs ++ empty_partition merges config size n ∷ [] → ys ≡ empty_partitions merges config size (n + 1)
 partitions-more merges config size n xs ys before one =
@@ -75,26 +90,14 @@ module _ {K V I O : Type 0} (R : Type 0) (cmp : K → K → Ordering) (f : Meani
   made : length (empty_partitions {K = K} {V = V} {I = I} merges config size (2 ^ config.partition_bits)) ≡ 2 ^ config.partition_bits
   made = length-map-range_with_len (empty_partition merges config size) 0 (2 ^ config.partition_bits)
 
-  -- nothing is open in one
-  unasked : (p slot c : ℕ) (x : Asked K V I) → asked (empty_partition {K = K} {V = V} {I = I} merges config size p) slot c ≡ Some x → ⊥
-  unasked p slot c x h =
-      let out : is_session (replicate 16 None) slot ≡ false = replicate-none 16 slot in
-      let none : asked (empty_partition {K = K} {V = V} {I = I} merges config size p) slot c ≡ None = rw out refl in
-      let bad : None ≡ Some x = sym none ∙ h in
-      absurd (cc)
-
   none-live : (o : Option (PartitionView K V I)) (k : K) → ((v : PartitionView K V I) → o ≡ Some v → (p : ℕ) × (v ≡ empty_partition merges config size p)) → live_at cmp o k ≡ None
   none-live None k h = refl
   none-live (Some v) k h = let e = h v refl in ap (λ w. live_at cmp (Some w) k) e.1
 
-  none-asked : (o : Option (PartitionView K V I)) (slot c : ℕ) (x : Asked K V I) → ((v : PartitionView K V I) → o ≡ Some v → (p : ℕ) × (v ≡ empty_partition merges config size p)) → asked_at o slot c ≡ Some x → ⊥
-  none-asked None slot c x h k = absurd (cc)
-  none-asked (Some v) slot c x h k = let e = h v refl in unasked e.0 slot c x (ap (λ w. asked w slot c) (sym e.1) ∙ k)
-
   none-pending : (w : ContextId) (q : Pending V) → pending_in cmp (plains {K = K} {V = V} {I = I} merges config size (2 ^ config.partition_bits)) w ≡ Some q → ⊥
   none-pending w q h =
       let a = waiting-at cmp (plains merges config size (2 ^ config.partition_bits)) w q h in
-      none-asked (slice_get (plains merges config size (2 ^ config.partition_bits)) w.partition) w.slot w.context a.0 (λ v k. (w.partition, empty-at merges config size (2 ^ config.partition_bits) w.partition v k)) a.1
+      asked-empty merges config size (2 ^ config.partition_bits) w a.0 a.1
 
   pub state-empty : IsState {R = R} cmp f code (empty_state merges config size)
   state-empty = let b = small config.partition_bits within.partition_bits in record {
@@ -118,15 +121,15 @@ module _ {K V I O : Type 0} (R : Type 0) (cmp : K → K → Ordering) (f : Meani
       };
       denotes = λ k. (let p = partition_of (length (plains {K = K} {V = V} {I = I} merges config size (2 ^ config.partition_bits))) (code k) in none-live (slice_get (plains merges config size (2 ^ config.partition_bits)) p) k (λ v h. (p, empty-at merges config size (2 ^ config.partition_bits) p v h)));
       linked = record {
-        linked = λ w x h. absurd (none-asked (slice_get (plains merges config size (2 ^ config.partition_bits)) w.partition) w.slot w.context x (λ v k. (w.partition, empty-at merges config size (2 ^ config.partition_bits) w.partition v k)) h);
-        apart = λ w u x y h k e. absurd (none-asked (slice_get (plains merges config size (2 ^ config.partition_bits)) w.partition) w.slot w.context x (λ v q. (w.partition, empty-at merges config size (2 ^ config.partition_bits) w.partition v q)) h);
+        linked = λ w x h. absurd (asked-empty merges config size (2 ^ config.partition_bits) w x h);
+        apart = λ w u x y h k e. absurd (asked-empty merges config size (2 ^ config.partition_bits) w x h);
       };
       housed = record {
         some = rw sized b.0;
         numbered = λ p v h. ap (λ (z : PartitionView K V I). z.core.number) (empty-at merges config size (2 ^ config.partition_bits) p v h);
         counted = λ p v h. ap (λ (z : PartitionView K V I). z.core.count) (empty-at merges config size (2 ^ config.partition_bits) p v h) ∙ sym sized;
         past = λ p v h. (let e = ap (λ (z : PartitionView K V I). z.core.moment) (empty-at merges config size (2 ^ config.partition_bits) p v h) in omega arith);
-        routed = λ w x q h k. absurd (none-asked (slice_get (plains merges config size (2 ^ config.partition_bits)) w.partition) w.slot w.context x (λ v r. (w.partition, empty-at merges config size (2 ^ config.partition_bits) w.partition v r)) h);
+        routed = λ w x q h k. absurd (asked-empty merges config size (2 ^ config.partition_bits) w x h);
       };
       held = record {
         held = λ w q h. absurd (none-pending w q h);

@@ -1,5 +1,5 @@
 -- Reports and replays.
-use Rattle.std.proofs.Common.{◌≡◌, ◌≢◌, ℕ, zero, suc, ◌≤◌, true, inl, inr, take, List, [], ◌∷◌, ◌++◌, length, Result, refl, ap, subst, arith}
+use Rattle.std.proofs.Common.{◌≡◌, ◌≢◌, ℕ, zero, suc, ◌≤◌, true, inl, inr, take, List, [], ◌∷◌, ◌++◌, length, Option, Result, refl, ap, subst, arith}
 use Rattle.std.specs.declared.cmp.Ordering.{Ordering}
 use Rattle.fkv_functions.specs.Meanings.{Meanings}
 use Rattle.fkv_functions.specs.declared.refusals.Refused.{Refused}
@@ -26,7 +26,7 @@ take-all (suc n) [] h = refl
 take-all (suc n) (x ∷ xs) h = ap (λ ys. x ∷ ys) (take-all n xs (omega arith))
 
 -- where no read of a page may fail, the list of what is live is refused for want of memory alone
-module _ {R : Type 0} (stands : R → Standing) (can_fail : R → ℕ → Type 0) (receipts : List Standing) (bits : ℕ) (never : (page : ℕ) → MayFail stands can_fail receipts bits page → ⊥) where
+module _ {R : Type 0} (stands : R → Standing) (can_fail : R → ℕ → Type 0) (receipts : List (Option Standing)) (bits : ℕ) (never : (page : ℕ) → MayFail stands can_fail receipts bits page → ⊥) where
   reads-never : (page old new : ℕ) (e : Refused) → ReadFailsBy page old new e → (e ≢ NoMemory → (n : ℕ) × MayFail stands can_fail receipts bits n) → e ≡ NoMemory
   reads-never page old new e f caused = elim f [
     | inl a ↦ elim a [

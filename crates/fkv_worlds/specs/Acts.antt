@@ -364,12 +364,13 @@ pub data Acts {K V I O R : Type 0} (stands : R → Standing) (entry : ℕ → Li
       → result ≡ Ok (outcome.Truncated v'.core.records.begin)
       → Acts stands entry cmp join f code old new step result
 
--- a step of a world: its outcome is kept, after those of the steps before it; where there is no memory to keep it,
--- nothing is done
+-- a step of a world: it is kept with its outcome, after those before it; where there is no memory to keep them, nothing is
+-- done
 pub data Steps {K V I O R : Type 0} (stands : R → Standing) (entry : ℕ → List ℕ → ℕ → Entry K V → Type 0)
     (cmp : K → K → Ordering) (join : V → V → V) (f : Meanings K V I O) (code : K → ℕ) (old new : WorldView K V I O R)
     (step : Step K V I) (result : Result (Outcome V O) Refused) : Type 0 where
   unkept : new ≡ old → result ≡ Err NoMemory → Steps stands entry cmp join f code old new step result
   kept : Acts stands entry cmp join f code old.state new.state step result
+      → new.steps ≡ old.steps ++ step ∷ []
       → new.outcomes ≡ old.outcomes ++ result ∷ []
       → Steps stands entry cmp join f code old new step result

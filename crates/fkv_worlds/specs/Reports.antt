@@ -41,6 +41,7 @@ pub record IsStepTaken {K V I O R : Type 0} (stands : R → Standing) (entry : �
     (cmp : K → K → Ordering) (join : V → V → V) (f : Meanings K V I O) (code : K → ℕ) (old new : WorldView K V I O R)
     (step : Step K V I) (r : Result (Outcome V O) Refused) : Type 0 where
   pub acts : Acts stands entry cmp join f code old.state new.state step r
+  pub steps : new.steps ≡ old.steps ++ step ∷ []
   pub outcomes : new.outcomes ≡ old.outcomes ++ r ∷ []
   pub headline : IsHeadline cmp f code new
 

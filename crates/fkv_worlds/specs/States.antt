@@ -11,6 +11,7 @@ use Rattle.fkv_lives.specs.declared.outcomes.Outcome.{Outcome}
 use Rattle.fkv_worlds.specs.declared.tables.Seat.{Seat}
 use Rattle.fkv_lives.specs.declared.steps.ContextId.{ContextId}
 use Rattle.fkv_lives.specs.declared.steps.Step.{Step}
+use Rattle.fkv_lives.specs.Histories.{Event, backwards}
 use Rattle.fkv_lives.specs.declared.steps.Step.TheVariants.{Enter, Leave, Refresh, ReadOnly, Take, Write, Head, Issue, Go, Install, Load, GiveUp, Truncate}
 
 -- the partitions; for each context the place of the life that began there last, what it asked to be built last, and the
@@ -43,10 +44,15 @@ state_of partitions begun questions receipts jobs seats enters lives moment = re
   moment = moment;
 }
 
--- a world: its state, and the outcome of each step, refused ones included
+-- a world: its state, its steps, refused ones included, and the outcome of each
 pub record WorldView (K V I O R : Type 0) : Type 0 where
   pub state : StateView K V I O R
+  pub steps : List (Step K V I)
   pub outcomes : List (Result (Outcome V O) Refused)
+
+-- its steps with what each was told, the last one first
+abbrev pub history_of : {K V I O R : Type 0} → WorldView K V I O R → List (Event K V I O)
+history_of w = backwards w.steps w.outcomes []
 
 -- the row of a slot, and of a context, in the tables
 abbrev pub seat_row : ℕ → ℕ → ℕ
@@ -125,4 +131,8 @@ empty_state merges config record_size = record {
 }
 
 abbrev pub empty_world : {K V I O R : Type 0} → Bool → Config → ℕ → WorldView K V I O R
-empty_world merges config record_size = record { state = empty_state merges config record_size; outcomes = [] }
+empty_world merges config record_size = record {
+  state = empty_state merges config record_size;
+  steps = [];
+  outcomes = [];
+}

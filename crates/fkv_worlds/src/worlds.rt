@@ -18,24 +18,25 @@ use std::alloc::Global;
 use std::marker::Model;
 
 /// Partitions that are driven by single steps. Each step that is not refused takes the next moment, its
-/// number from 1. The world keeps what became of each operation that was issued (its lives), and the
-/// outcome of each call of [`World::step`], refused ones included.
+/// number from 1. The world keeps what became of each operation that was issued (its lives), and each step with its
+/// outcome, refused ones included.
 #[derive(Drop)]
 pub struct World<F: Mergeable> {
     pub(crate) state: State<F>,
+    pub(crate) steps: Vec<StepOf<F>>,
     pub(crate) outcomes: Vec<Result<OutcomeOf<F>, Refused>>,
 }
 
 impl<F: Mergeable> Model for World<F> {
     ghost use Rattle.fkv_device.specs.declared.memory.MemoryReceipt.{MemoryReceipt};
     ghost use Rattle.fkv_worlds.specs.States.{WorldView};
-    ghost use Rattle.fkv_lives.specs.Told.{IsAccount, taken};
+    ghost use Rattle.fkv_worlds.specs.Sound.{IsRecorded};
 
     ghost Value = { WorldView F.Key F.Value F.Input F.Output MemoryReceipt };
 
-    ghost view = { λ w. record { state = w.state; outcomes = w.outcomes.items } };
+    ghost view = { λ w. record { state = w.state; steps = w.steps.items; outcomes = w.outcomes.items } };
 
-    ghost invariant = { λ w. IsAccount w.state.lives (taken w.outcomes.items) w.state.moment };
+    ghost invariant = { λ w. IsRecorded w.state w.steps.items w.outcomes.items };
 }
 
 impl<F: Mergeable> World<F> {
@@ -50,13 +51,14 @@ impl<F: Mergeable> World<F> {
         match State::new(alloc, config) {
             Ok(state) => Ok(World {
                 state,
+                steps: Vec::new(alloc),
                 outcomes: Vec::new(alloc),
             }),
             Err(refused) => Err(refused),
         }
     }
 
-    /// Does a step and keeps its outcome, which it answers; `None` where there is no memory to keep it, and
+    /// Does a step and keeps it with its outcome, which it answers; `None` where there is no memory to keep them, and
     /// then nothing is done. [`World::step`] has what is refused.
     pub fn try_step(
         &mut self,
@@ -66,23 +68,27 @@ impl<F: Mergeable> World<F> {
         ensures kept { IfSome result (IsStepTaken ⟦<MemoryReceipt as Receipt>⟧.stands (IsEntryIn F.Key.codec F.Value.codec) F.Key.cmp F.parts.joined F.meaning F.code self.old self.new step) }
         ensures none { IfNone result (self.new ≡ self.old) }
     {
+        let Ok(()) = self.steps.try_reserve(1) else {
+            return None;
+        };
         let Ok(()) = self.outcomes.try_reserve(1) else {
             return None;
         };
         self.state.sound();
         let result = self.state.act(functions, step);
-        // there is room for it
+        // there is room for both
+        let _noted = self.steps.push(step);
         let _kept = self.outcomes.push(result);
         self.headline();
         Some(result)
     }
 
-    /// Does a step and answers its outcome, which is kept. Refused, in this order: `NoMemory` where there
-    /// is no memory to keep the outcome, and then nothing is done; `Unknown` where there is no such
+    /// Does a step and answers its outcome; both are kept. Refused, in this order: `NoMemory` where there
+    /// is no memory to keep them, and then nothing is done; `Unknown` where there is no such
     /// partition; `NotReady` where nothing was asked for that is to be installed in an open context, or written; `Worn` where
     /// no moment is left; `NoMemory` where there is none for the life of an issue; and what the partition refuses, which is
     /// `Unknown` or `NotReady` too of a load for which no page was asked.
-    /// A refused step takes no moment and changes nothing but the list of outcomes, with two exceptions: a write spends
+    /// A refused step takes no moment and changes nothing but the lists of steps and outcomes, with two exceptions: a write spends
     /// the page that was taken, and a load whose page could not be read, or is damaged, ends its operation without effect
     /// and takes its moment.
     pub fn step(&mut self, functions: &F, step: StepOf<F>) -> Result<OutcomeOf<F>, Refused>

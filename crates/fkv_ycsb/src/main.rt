@@ -18,7 +18,7 @@ use crate::lone::run_local;
 use crate::outcomes::Outcome;
 use crate::sharing::run_shared;
 use anyhow::{Context, Result, bail};
-use fkv_device::{Disk, FileDevice, MemoryDevice};
+use fkv_device::{Disk, FileDevice, MemoryDevice, PageFile};
 use fkv_functions::Refused;
 use fkv_histories::{Audited, Plain};
 use std::alloc::Global;
@@ -55,7 +55,7 @@ fn run<R: Files + Threads + Wait + Clock + CpuClock + Sync>(
     plan: &Plan<'_>,
 ) -> Result<Outcome, Refused>
 where
-    R::File: Send,
+    R::File: PageFile + Send,
     R::Dir: Send,
 {
     let Some(folder) = plan.folder else {

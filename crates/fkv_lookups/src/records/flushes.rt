@@ -1,7 +1,7 @@
 //! Pages on their way to a device.
 ghost use Rattle.std.specs.Prelude.{◌≡◌, ◌-◌, ◌<◌, None, Err, IfOk, IfErr, IfSome, OnOk, OnErr};
 ghost use Rattle.std.specs.Prelude.{length};
-ghost use Rattle.fkv_pages.specs.Loads.{IsHeldBy};
+ghost use Rattle.fkv_pages.specs.Loads.{HasReceipt, IsHeldBy};
 ghost use Rattle.fkv_lookups.specs.Flushes.{flush_refusal};
 ghost use Rattle.fkv_lookups.specs.RecordsViews.{with_receipt};
 
@@ -25,9 +25,9 @@ impl<F: Mergeable, R: Receipt> Records<F, R> {
         done
     }
 
-    /// A receipt of a flushed page, by which it can be read. Refused: `NoMemory`.
+    /// A receipt of a flushed page that is not dropped, by which it can be read. Refused: `NoMemory`.
     pub fn receipt(&self, page: u64) -> Result<R, Refused>
-        requires { page < length self.now.receipts }
+        requires { HasReceipt self.now.receipts page }
         ensures stands { IfOk result (λ r. IsHeldBy self.now.receipts page (R.stands r)) }
         ensures memory { IfErr result (λ refused. refused ≡ Refused.NoMemory) }
     {

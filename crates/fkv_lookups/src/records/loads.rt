@@ -1,12 +1,12 @@
 //! Records of flushed pages, read from what a device gave.
 ghost use Rattle.std.specs.Prelude.{◌≡◌, ◌≢◌, ◌<◌, ◌≤◌, ◌↔◌, ◌⊎◌, Ok, IsOk, IfOk, IfErr, IfSome, OnOk, IsTrue, length};
-ghost use Rattle.std.specs.Prelude.{slice_get};
 ghost use Rattle.fkv_functions.specs.declared.refusals.What.TheVariants as what;
 ghost use Rattle.fkv_records.specs.Places.{page_at, IsRecordStart};
 ghost use Rattle.fkv_texts.specs.declared.entries.Entry.{Entry};
 ghost use Rattle.fkv_texts.specs.Text.{entry_at};
 ghost use Rattle.fkv_pages.specs.Spelled.{IsEntryIn};
-ghost use Rattle.fkv_pages.specs.Loads.{IsHeldBy, first_place};
+ghost use Rattle.fkv_pages.specs.Loads.{HasReceipt, IsHeldBy, first_place};
+ghost use Rattle.fkv_pages.specs.Views.{receipt_at};
 ghost use Rattle.fkv_lookups.specs.declared.chain_results.ChainResult.{ChainResult};
 ghost use Rattle.fkv_lookups.specs.Lookups.{IsOfClass, ComesToInPage, ComesTo};
 
@@ -34,9 +34,9 @@ impl<F: Mergeable, R: Receipt> Records<F, R> {
 
     /// Whether a page was read by the receipt that is kept of it. Refused: `Stranger` where it was read by another.
     pub fn is_own(&self, loaded: &Loaded<R>, page: u64) -> Result<(), Refused>
-        requires { page < length self.now.receipts }
+        requires { HasReceipt self.now.receipts page }
         ensures own { IsOk result ↔ IsHeldBy self.now.receipts page (R.stands loaded.now.receipt) }
-        ensures stranger { IfErr result (λ refused. IfSome (slice_get self.now.receipts page) (λ s.
+        ensures stranger { IfErr result (λ refused. IfSome (receipt_at self.now.receipts page) (λ s.
             (s ≢ R.stands loaded.now.receipt)
             × (refused
             ≡ Refused.Stranger what.Receipt s.number (R.stands loaded.now.receipt).number))) }

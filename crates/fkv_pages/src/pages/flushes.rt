@@ -3,7 +3,7 @@ ghost use Rattle.std.specs.Prelude.{◌≡◌, ◌<◌, ◌++◌, ◌∷◌, ◌
 ghost use Rattle.std.specs.Prelude.{length, slice_get, IsTrue, false};
 ghost use Rattle.fkv_records.specs.Places.{page_at};
 ghost use Rattle.fkv_pages.specs.Views.{with_receipt};
-ghost use Rattle.fkv_pages.specs.Loads.{IsHeldBy};
+ghost use Rattle.fkv_pages.specs.Loads.{HasReceipt, IsHeldBy};
 ghost use Rattle.fkv_pages.specs.Flushes.{flush_refusal};
 
 use crate::differences::refusal_of_bytes;
@@ -11,13 +11,14 @@ use crate::pages::Pages;
 use fkv_device::{FlushJob, Page, Receipt, Written};
 use fkv_functions::{Fixed, Refused, What};
 use std::alloc::Global;
+use std::collections::VecDeque;
 
 impl<K: Fixed, V: Fixed, R: Receipt> Pages<K, V, R> {
     /// The lowest page that is not flushed.
     pub fn unflushed(&self) -> u64
         ensures { result ≡ length self.now.receipts }
     {
-        self.receipts.len() as u64
+        self.shape.page_of(self.begin) + self.receipts.len() as u64
     }
 
     /// Whether the lowest page that is not flushed ends at or below what is frozen, so that it waits.
@@ -82,31 +83,32 @@ impl<K: Fixed, V: Fixed, R: Receipt> Pages<K, V, R> {
         keep(&mut self.receipts, written.into_receipt())
     }
 
-    /// A receipt of a flushed page, by which it can be read. Refused: `NoMemory`.
+    /// A receipt of a flushed page that is not dropped, by which it can be read. Refused: `NoMemory`.
     pub fn receipt(&self, page: u64) -> Result<R, Refused>
-        requires { page < length self.now.receipts }
+        requires { HasReceipt self.now.receipts page }
         ensures stands { IfOk result (λ r. IsHeldBy self.now.receipts page (R.stands r)) }
         ensures memory { IfErr result (λ refused. refused ≡ Refused.NoMemory) }
     {
         self.kept(page).again()
     }
 
-    /// The receipt that is kept of a flushed page.
+    /// The receipt that is kept of a flushed page that is not dropped.
     pub(crate) fn kept(&self, page: u64) -> &R
-        requires { page < length self.now.receipts }
+        requires { HasReceipt self.now.receipts page }
         ensures { IsHeldBy self.now.receipts page (R.stands result.now) }
     {
-        &self.receipts[page as usize]
+        let first = self.shape.page_of(self.begin);
+        &self.receipts[(page - first) as usize]
     }
 }
 
 /// Keeps one more receipt. Refused, and then the receipts are as they were: `NoMemory`.
-fn keep<R: Receipt>(receipts: &mut Vec<R>, receipt: R) -> Result<(), Refused>
+fn keep<R: Receipt>(receipts: &mut VecDeque<R>, receipt: R) -> Result<(), Refused>
     ensures ok { OnOk result (receipts.new.items ≡ receipts.old.items ++ receipt ∷ []) }
     ensures unchanged { OnErr result (receipts.new.items ≡ receipts.old.items) }
     ensures only { IfErr result (λ refused. refused ≡ Refused.NoMemory) }
 {
-    match receipts.push(receipt) {
+    match receipts.push_back(receipt) {
         Ok(()) => Ok(()),
         Err(_) => Err(Refused::NoMemory),
     }

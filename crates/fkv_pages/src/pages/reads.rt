@@ -1,12 +1,13 @@
 //! Entries of flushed pages, read from what a device gave.
 ghost use Rattle.std.specs.Prelude.{◌≡◌, ◌≢◌, ◌<◌, ◌≤◌, ◌↔◌, ℕ, List, Ok, Err, IsOk, IfOk, IfErr, IfSome, OnOk, IsTrue};
-ghost use Rattle.std.specs.Prelude.{find, length, slice_get};
+ghost use Rattle.std.specs.Prelude.{find, length};
 ghost use Rattle.fkv_records.specs.Places.{page_at};
 ghost use Rattle.fkv_texts.specs.Text.{entry_at, has_key};
 ghost use Rattle.fkv_texts.specs.Chains.{IsChainFrom, leads_to, reached};
 ghost use Rattle.fkv_texts.specs.declared.entries.Entry.{Entry};
 ghost use Rattle.fkv_pages.specs.Spelled.{IsEntryIn};
-ghost use Rattle.fkv_pages.specs.Loads.{IsHeldBy, IsReached, first_place};
+ghost use Rattle.fkv_pages.specs.Loads.{HasReceipt, IsHeldBy, IsReached, first_place};
+ghost use Rattle.fkv_pages.specs.Views.{receipt_at};
 
 use crate::loads::{entry_in, reached_in};
 use crate::pages::Pages;
@@ -20,8 +21,8 @@ impl<K: Fixed, V: Fixed, R: Receipt> Pages<K, V, R> {
     /// text's. Refused: `Stranger` where the page was read by another receipt than the one that is kept of it,
     /// `Damaged` where its bytes spell no entry there.
     pub fn record_in(&self, loaded: &Loaded<R>, address: Address) -> Result<Entry<K, V>, Refused>
-        requires flushed { page_at self.now.bits address < length self.now.receipts }
-        ensures stranger { IfSome (slice_get self.now.receipts (page_at self.now.bits address)) (λ s.
+        requires held { HasReceipt self.now.receipts (page_at self.now.bits address) }
+        ensures stranger { IfSome (receipt_at self.now.receipts (page_at self.now.bits address)) (λ s.
             s ≢ R.stands loaded.now.receipt
             → result ≡ Err (Refused.Stranger What.Receipt s.number (R.stands loaded.now.receipt).number)) }
         // who is answered knows that the page is the one that is kept
@@ -73,9 +74,9 @@ impl<K: Fixed, V: Fixed, R: Receipt> Pages<K, V, R> {
 
     /// Whether a page was read by the receipt that is kept of it. Refused: `Stranger` where it was read by another.
     pub fn is_own(&self, loaded: &Loaded<R>, page: u64) -> Result<(), Refused>
-        requires { page < length self.now.receipts }
+        requires { HasReceipt self.now.receipts page }
         ensures own { IsOk result ↔ IsHeldBy self.now.receipts page (R.stands loaded.now.receipt) }
-        ensures stranger { IfErr result (λ refused. IfSome (slice_get self.now.receipts page) (λ s.
+        ensures stranger { IfErr result (λ refused. IfSome (receipt_at self.now.receipts page) (λ s.
             (s ≢ R.stands loaded.now.receipt)
             × (refused ≡ Refused.Stranger What.Receipt s.number (R.stands loaded.now.receipt).number))) }
         // what is known of any page that was read

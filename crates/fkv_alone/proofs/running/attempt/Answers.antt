@@ -1,5 +1,4 @@
 use Rattle.std.proofs.Common.{◌≡◌, ◌+◌, ◌<◌, ◌^◌, inl, inr, Ok, Err, refl, ◌∙◌, ap, subst, arith}
-use Rattle.fkv_functions.specs.declared.refusals.Refused.TheVariants.{Damaged}
 use Rattle.fkv_operations.specs.After.{key_of}
 use Rattle.fkv_partition.specs.Beginning.{IssuesOnKey}
 use Rattle.fkv_partition.specs.Views.{PartitionView}
@@ -9,7 +8,6 @@ use Rattle.fkv_alone.proofs.BoundLemmas.{issue-near}
 use Rattle.fkv_alone.proofs.DriveLemmas.{pend-then, pend-free, given-over, given-others}
 use Rattle.fkv_alone.proofs.EndLemmas.{issue-told, issue-stalled, issue-begun, issue-rest, issue-none, driven-ends, driven-over}
 use Rattle.fkv_alone.proofs.KeyLemmas.{issued-on-key, rest-then, rest-same}
-use Rattle.fkv_alone.proofs.SpoiltLemmas.{issues-undamaged}
 use Rattle.fkv_alone.proofs.running.attempt.Goals as goal
 
 pub returns-in-Err-issue-clause-ends : goal.returns-in-Err-issue-clause-ends
@@ -188,22 +186,6 @@ returns-in-Err-issue-clause-within g c =
     let now = first.0 in
     let some = first.2 in
     omega arith
-
-pub returns-in-Err-issue-clause-spoilt : goal.returns-in-Err-issue-clause-spoilt
-returns-in-Err-issue-clause-spoilt g c = λ page told same.
-    let does = issued-on-key g.F.Functions.code c.args.partition.now c.issue.new.self c.args.slot c.in-Ok.now c.args.op c.op.result (Err c.in-Err-issue.refused) c.op.ensures c.in-Err-issue.ensures.effect in
-    let same_refusal : c.in-Err-issue.refused ≡ Damaged page = cc in
-    absurd (issues-undamaged (rw same_refusal at does))
-
-pub returns-in-Err-drive-clause-spoilt : goal.returns-in-Err-drive-clause-spoilt
-returns-in-Err-drive-clause-spoilt g c = λ page told same.
-    let first = c.in-Ok.ensures.ok in
-    let v = c.args.partition.now in
-    let w = c.issue.new.self in
-    let k = c.in-Ok-issue.context in
-    let issued = issue-told g.F.Functions.code v w c.args.slot k c.in-Ok.now c.args.op (issued-on-key g.F.Functions.code v w c.args.slot c.in-Ok.now c.args.op c.op.result (Ok k) c.op.ensures c.in-Ok-issue.ensures.effect) in
-    let begun = issue-begun g.F.Functions.code v w c.args.slot k c.in-Ok.now c.args.op issued c.known.ensures.core.places c.in-Ok-issue.ensures.within.0 in
-    c.in-Err-drive.ensures.spoilt c.args.op v.core c.in-Ok.now page begun.ready told same
 
 pub returns-in-Ok-drive-clause-unread : goal.returns-in-Ok-drive-clause-unread
 returns-in-Ok-drive-clause-unread g c = λ merge.

@@ -30,7 +30,7 @@ returns-in-Err-step-clause-drives g c = λ op old started h.
     Drives.refused c.in-Err-step.refused
     (stop-halted g.R.Receipt.keeps g.R.Receipt.stands g.F.Key.Ord.cmp g.F.Mergeable.parts.joined g.F.Functions.meaning g.F.Functions.code op old c.args.slot c.args.context started c.loop-turn.partition.core c.step.new.partition.core c.loop-turn.told come i.on e.1)
     (let k = i.taken in omega arith)
-    (subst (λ n. IsStop old.records.tail n (g.P.PageReader.failures c.step.new.reader) c.in-Err-step.refused) (i.comes op old started h).1 e.0)
+    (subst (λ n. IsStop g.R.Receipt.keeps old.records.tail n (g.P.PageReader.failures c.step.new.reader) c.in-Err-step.refused) (i.comes op old started h).1 e.0)
     refl
 
 pub returns-then-not-is_on-clause-drives : goal.returns-then-not-is_on-clause-drives
@@ -188,19 +188,6 @@ returns-clause-within g c =
     let d = c.loop-turn-test.false in
     let u = c.loop-turn.auto in
     omega arith
-
-pub returns-in-Err-clause-spoilt : goal.returns-in-Err-clause-spoilt
-returns-in-Err-clause-spoilt g c = λ op old started page h told same. (let only = c.in-Err.ensures.only in absurd (cc))
-
-pub returns-in-Err-step-clause-spoilt : goal.returns-in-Err-step-clause-spoilt
-returns-in-Err-step-clause-spoilt g c = λ op old started page h told same.
-    c.in-Err-step.ensures.spoilt page told (same ∙ sym (c.loop-turn.invariant.comes op old started h).1)
-
-pub returns-then-not-is_on-clause-spoilt : goal.returns-then-not-is_on-clause-spoilt
-returns-then-not-is_on-clause-spoilt g c = λ op old started page h told same. absurd (cc)
-
-pub returns-clause-spoilt : goal.returns-clause-spoilt
-returns-clause-spoilt g c = λ op old started page h told same. absurd (cc)
 
 pub returns-in-Err-clause-unread : goal.returns-in-Err-clause-unread
 returns-in-Err-clause-unread g c = λ op old started h merge. c.loop-turn.invariant.unread op old started h merge

@@ -3,7 +3,7 @@ use Rattle.fkv_pages.specs.Spelled.{IsEntryIn}
 use Rattle.fkv_alone.proofs.BoundLemmas.{goes-nearer, installs-nearer, reads-nearer}
 use Rattle.fkv_alone.proofs.DriveLemmas.{core-same}
 use Rattle.fkv_alone.proofs.KeyLemmas.{goes-on-key, installs-on-key, reads-on-key, none-here, finds-asks, event-finishes, load-tells}
-use Rattle.fkv_alone.proofs.SpoiltLemmas.{goes-undamaged, installs-undamaged, merges-fetch-not, reads-spoilt}
+use Rattle.fkv_alone.proofs.MergeLemmas.{merges-fetch-not}
 use Rattle.fkv_alone.proofs.StageLemmas.{goes-advances, installs-advances, reads-advances}
 use Rattle.fkv_alone.proofs.stepping.step.Goals as goal
 
@@ -48,7 +48,7 @@ returns-in-NeedsLoad-clause-advances g c = λ op old started h.
     let on = reads-on-key v w c.args.slot c.args.context c.args.now c.requires.none g.R.Receipt.stands entry g.F.Key.Ord.cmp g.F.Mergeable.parts.joined g.F.Functions.meaning g.F.Functions.code (g.P.PageReader.failures c.args.reader.now) (g.P.PageReader.failures c.load_by.new.reader) c.load_by.result c.load_by.ensures.effect in
     reads-advances g.R.Receipt.keeps g.R.Receipt.stands g.F.Key.Ord.cmp g.F.Mergeable.parts.joined g.F.Functions.meaning g.F.Functions.code op old v.core w.core c.args.slot c.args.context started c.args.now c.requires.later
     entry
-    c.in-NeedsLoad._address (g.R.Receipt.stands c.in-NeedsLoad._receipt) (rw c.in-NeedsLoad.is at h) (g.P.PageReader.failures c.args.reader.now) (g.P.PageReader.failures c.load_by.new.reader) c.load_by.result on.0
+    c.in-NeedsLoad._address (g.R.Receipt.stands c.in-NeedsLoad._receipt) (rw c.in-NeedsLoad.is at h) (g.P.PageReader.failures c.args.reader.now) (g.P.PageReader.failures c.load_by.new.reader) c.load_by.result c.load_by.ensures.undamaged on.0
     (λ kept. IfOk-weaker c.load_by.result _ _ (λ p load. load-tells v w c.args.slot c.args.context c.args.now g.F.Key.Ord.cmp g.F.Functions.meaning p load) (c.load_by.ensures.event kept))
 
 pub returns-in-NeedsLoad-clause-nearer : goal.returns-in-NeedsLoad-clause-nearer
@@ -69,14 +69,6 @@ returns-in-NeedsLoad-clause-rest g c =
     let on = reads-on-key v w c.args.slot c.args.context c.args.now c.requires.none g.R.Receipt.stands entry g.F.Key.Ord.cmp g.F.Mergeable.parts.joined g.F.Functions.meaning g.F.Functions.code (g.P.PageReader.failures c.args.reader.now) (g.P.PageReader.failures c.load_by.new.reader) c.load_by.result c.load_by.ensures.effect in
     on.1
 
-pub returns-in-NeedsLoad-clause-spoilt : goal.returns-in-NeedsLoad-clause-spoilt
-returns-in-NeedsLoad-clause-spoilt g c = λ page told same.
-    let v = c.args.partition.now in
-    let w = c.load_by.new.self in
-    let entry = IsEntryIn g.F.Key.Fixed.codec g.F.Value.Fixed.codec in
-    let on = reads-on-key v w c.args.slot c.args.context c.args.now c.requires.none g.R.Receipt.stands entry g.F.Key.Ord.cmp g.F.Mergeable.parts.joined g.F.Functions.meaning g.F.Functions.code (g.P.PageReader.failures c.args.reader.now) (g.P.PageReader.failures c.load_by.new.reader) c.load_by.result c.load_by.ensures.effect in
-    reads-spoilt entry same (rw told at on.0)
-
 pub returns-in-Next-clause-rest : goal.returns-in-Next-clause-rest
 returns-in-Next-clause-rest g c =
     (goes-on-key c.args.partition.now c.go.new.self c.args.slot c.args.context c.args.now c.requires.none g.R.Receipt.stands g.F.Key.Ord.cmp g.F.Mergeable.parts.joined g.F.Functions.meaning g.F.Functions.code c.go.result c.go.ensures.effect).1
@@ -84,16 +76,6 @@ returns-in-Next-clause-rest g c =
 pub returns-in-NeedsBuild-clause-rest : goal.returns-in-NeedsBuild-clause-rest
 returns-in-NeedsBuild-clause-rest g c =
     (installs-on-key c.args.partition.now c.install.new.self c.args.slot c.args.context c.args.now c.requires.none g.F.Key.Ord.cmp g.F.Functions.meaning g.F.Functions.code c.make-built.result c.install.result c.install.ensures.effect).1
-
-pub returns-in-Next-clause-spoilt : goal.returns-in-Next-clause-spoilt
-returns-in-Next-clause-spoilt g c = λ page told same.
-    let on = goes-on-key c.args.partition.now c.go.new.self c.args.slot c.args.context c.args.now c.requires.none g.R.Receipt.stands g.F.Key.Ord.cmp g.F.Mergeable.parts.joined g.F.Functions.meaning g.F.Functions.code c.go.result c.go.ensures.effect in
-    absurd (goes-undamaged (rw told at on.0))
-
-pub returns-in-NeedsBuild-clause-spoilt : goal.returns-in-NeedsBuild-clause-spoilt
-returns-in-NeedsBuild-clause-spoilt g c = λ page told same.
-    let on = installs-on-key c.args.partition.now c.install.new.self c.args.slot c.args.context c.args.now c.requires.none g.F.Key.Ord.cmp g.F.Functions.meaning g.F.Functions.code c.make-built.result c.install.result c.install.ensures.effect in
-    absurd (installs-undamaged (rw told at on.0))
 
 pub returns-in-NeedsLoad-clause-unread : goal.returns-in-NeedsLoad-clause-unread
 returns-in-NeedsLoad-clause-unread g c = λ op old started h merge. absurd (merges-fetch-not c.known.ensures.core (rw c.in-NeedsLoad.is at h) merge)

@@ -1,4 +1,4 @@
-use Rattle.fkv_lives.proofs.WrongLemmas.{refuses_invented, counts_once, refuses_shared_steps, refuses_other_times, refuses_early_updates, refuses_unowned, refuses_unissued, reads_issues}
+use Rattle.fkv_lives.proofs.WrongLemmas.{refuses_invented, counts_once, refuses_shared_steps, refuses_other_times, refuses_early_updates, refuses_unowned, refuses_unissued, reads_issues, refuses_unasked, refuses_crossed, reads_owners}
 use Rattle.fkv_lives.proofs.laws.wrong_lives.Goals as goal
 
 pub returns : goal.returns
@@ -11,4 +11,7 @@ returns c = record {
   owned = refuses_unowned;
   issued = refuses_unissued;
   read = reads_issues;
+  asked = refuses_unasked;
+  crossed = refuses_crossed;
+  owners = reads_owners;
 }

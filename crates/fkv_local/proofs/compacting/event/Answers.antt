@@ -2,6 +2,7 @@ use Rattle.std.proofs.Common.{refl}
 use Rattle.std.proofs.lemmas.Result.{IfErr-weaker}
 use Rattle.fkv_local.specs.Refusing.{IsWorkRefusal}
 use Rattle.fkv_local.proofs.ClearLemmas.{but-same, go-stays, load-stays}
+use Rattle.fkv_local.proofs.OnwardLemmas.{onward-same, go-onward, load-onward}
 use Rattle.fkv_local.proofs.RelocateLemmas.{wanted-here, wanted-held, go-wants, load-wants, load-receipts, load-told, kept-then, own-waits}
 use Rattle.fkv_local.proofs.WorkLemmas.{same-both, work-since}
 use Rattle.fkv_local.proofs.compacting.event.Goals as goal
@@ -40,10 +41,22 @@ pub returns-in-Ok-fetch-clause-told : goal.returns-in-Ok-fetch-clause-told
 returns-in-Ok-fetch-clause-told g c =
     let wanted = rw c.in-Some.is at c.requires.wanted in
     let own = (c.in-Ok-fetch.ensures.same _ c.requires.kept (wanted-held c.pages_known.ensures.receipts wanted)).0 in
-    IfErr-weaker c.load_own.result _ _ (λ e. work-since (same-both refl c.in-Ok-fetch.ensures.steady)) (load-told c.load_own.result own wanted c.load_own.ensures.effect _ _)
+    IfErr-weaker c.load_own.result _ _ (λ e. work-since (same-both refl c.in-Ok-fetch.ensures.steady)) (load-told c.load_own.result own wanted c.load_own.ensures.effect _ _ _ c.load_own.ensures.undamaged)
 
 pub load_own-requires-clause-own : goal.load_own-requires-clause-own
 load_own-requires-clause-own g c =
     let wanted = rw c.in-Some.is at c.requires.wanted in
     let own = (c.in-Ok-fetch.ensures.same _ c.requires.kept (wanted-held c.pages_known.ensures.receipts wanted)).0 in
     λ page waits. own-waits own wanted waits
+
+pub returns-in-Err-clause-onward : goal.returns-in-Err-clause-onward
+returns-in-Err-clause-onward g c = onward-same
+
+pub returns-in-Err-fetch-clause-onward : goal.returns-in-Err-fetch-clause-onward
+returns-in-Err-fetch-clause-onward g c = onward-same
+
+pub returns-in-None-clause-onward : goal.returns-in-None-clause-onward
+returns-in-None-clause-onward g c = go-onward g.D.Receipt.Receipt.keeps g.F.Key.Ord.cmp c.args.context c.in-Ok.now c.go.result (c.go.ensures.relocating (wanted-here c.requires.wanted)) c.go.ensures.unchanged
+
+pub returns-in-Ok-fetch-clause-onward : goal.returns-in-Ok-fetch-clause-onward
+returns-in-Ok-fetch-clause-onward g c = load-onward g.D.Receipt.Receipt.keeps g.F.Key.Ord.cmp c.args.context c.in-Ok.now c.load_own.result (c.load_own.ensures.relocating (wanted-here c.requires.wanted)) c.load_own.ensures.fails

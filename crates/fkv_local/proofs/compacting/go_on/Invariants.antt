@@ -1,5 +1,6 @@
 use Rattle.std.proofs.Common.{◌≡◌, ◌≤◌, ◌<◌, ◌+◌, ◌^◌, option_map}
 use Rattle.fkv_local.specs.Clearing.{IsKeptBy, IsWanted}
+use Rattle.fkv_local.specs.Moving.{IsOnward}
 use Rattle.fkv_local.specs.Resting.{StaysIdleBut}
 use Rattle.fkv_local.proofs.compacting.go_on.Given as goal
 
@@ -8,6 +9,7 @@ use Rattle.fkv_local.proofs.compacting.go_on.Given as goal
 abbrev pub invariant-loop-event : goal.invariant-loop-event
 invariant-loop-event g l = record {
   stays : StaysIdleBut g.D.Receipt.Receipt.keeps g.F.Key.Ord.cmp l.initial.shard.part.partition l.shard.part.partition l.context;
+  onward : IsOnward l.initial.shard.part.partition l.shard.part.partition;
   past : l.shard.part.partition.core.moment ≤ l.clock;
   later : l.initial.clock ≤ l.clock;
   spare : l.clock + 1 < 2 ^ 64;

@@ -9,4 +9,4 @@ returns-in-Err-clause-told g c = move-refused c.in-Err.ensures.told (ap g.D.Read
 pub returns-clause-told : goal.returns-clause-told
 returns-clause-told g c =
     let then = c.tidy_at_times-tidied.new.shard in
-    IfErr-weaker c.run_by_events.result _ _ (λ e. refused-by c.tidy_at_times-tidied.ensures.passed.later then.part.writer then.reader c.in-Ok.ensures.beside) c.run_by_events.ensures.told
+    IfErr-weaker c.run_by_events.result _ _ (λ e. refused-by then.part.writer then.reader c.in-Ok.ensures.beside) c.run_by_events.ensures.told

@@ -15,4 +15,4 @@ returns-in-Some-clause-runs g c =
 pub returns-in-None-clause-told : goal.returns-in-None-clause-told
 returns-in-None-clause-told g c =
     let then = c.tidy_at_times.new.shard in
-    IfErr-weaker c.run_by_events.result _ _ (λ e. refused-by c.tidy_at_times.ensures.passed.later then.part.writer then.reader c.in-Ok.ensures.beside) c.run_by_events.ensures.told
+    IfErr-weaker c.run_by_events.result _ _ (λ e. refused-by then.part.writer then.reader c.in-Ok.ensures.beside) c.run_by_events.ensures.told

@@ -13,7 +13,7 @@ returns-in-Ok-None-clause-told g c =
     let later : c.args.clock.now ≤ c.try_update_in_place.new.clock = omega arith in
     let reader = c.tidy_at_times.new.shard.reader in
     let beside = beside-then c.args.terms.now.keeps_log g.D.Writer.PageWriter.failures g.D.Reader.PageReader.failures c.args.shard.now.part.writer c.args.shard.now.reader reader c.try_update_in_place.ensures.same_writer c.in-Ok.ensures.beside in
-    IfErr-weaker c.run_by_events.result _ _ (λ e. refused-by later c.try_update_in_place.new.part.writer reader beside) c.run_by_events.ensures.told
+    IfErr-weaker c.run_by_events.result _ _ (λ e. refused-by c.try_update_in_place.new.part.writer reader beside) c.run_by_events.ensures.told
 
 pub returns-in-Err-try_update_in_place-clause-told : goal.returns-in-Err-try_update_in_place-clause-told
 returns-in-Err-try_update_in_place-clause-told g c = worn-refused c.tidy_at_times.new.shard.part.writer c.in-Ok.ensures.beside (ap g.D.Writer.PageWriter.failures c.try_update_in_place.ensures.same_writer) c.in-Err-try_update_in_place.ensures.told

@@ -1,5 +1,5 @@
-use Rattle.std.proofs.Common.{◌≡◌, ◌≤◌, ◌∙◌, ap, refl, arith}
-use Rattle.fkv_local.proofs.DriveLemmas.{stopped-from, stopped-since}
+use Rattle.std.proofs.Common.{◌≡◌, ◌∙◌, ap, refl}
+use Rattle.fkv_local.proofs.DriveLemmas.{stopped-from}
 use Rattle.fkv_local.proofs.MergeLemmas.{merge-stopped}
 use Rattle.fkv_local.proofs.merging.merge_for_page.Goals.{then-not-may_need_page+in-Ok-None, else-not-may_need_page}
 use Rattle.fkv_local.proofs.merging.merge_for_page.Goals as goal
@@ -11,9 +11,4 @@ returns-in-Err-run_in_memory-clause-told g c = λ reads.
       | then-not-may_need_page+in-Ok-None w ↦ ap (λ part. g.D.Writer.PageWriter.failures part.writer) w.part-is ∙ w.in-Ok-None.ensures.steady w.in-Ok-None.field-0-is
       | else-not-may_need_page w ↦ ap (λ part. g.D.Writer.PageWriter.failures part.writer) w.part-is
     ] in
-    let later : c.args.clock.now ≤ c.if-not-may_need_page.clock =
-    elim c.if-not-may_need_page.branch [
-      | then-not-may_need_page+in-Ok-None w ↦ (let passed = w.run_in_memory.ensures.passed.later in let is = w.clock-is in omega arith)
-      | else-not-may_need_page w ↦ (let is = w.clock-is in omega arith)
-    ] in
-    stopped-from same refl (stopped-since later (merge-stopped c.requires.merging (c.in-Err-run_in_memory.ensures.told reads)))
+    stopped-from same refl (merge-stopped c.requires.merging (c.in-Err-run_in_memory.ensures.told reads))

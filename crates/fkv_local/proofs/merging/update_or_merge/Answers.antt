@@ -16,7 +16,7 @@ returns-then-MERGES-clause-told g c =
     let later : c.args.clock.now ≤ c.try_update_in_place.new.clock = omega arith in
     let reader = c.tidy_at_times.new.shard.reader in
     let beside = beside-then c.args.terms.now.keeps_log g.D.Writer.PageWriter.failures g.D.Reader.PageReader.failures c.args.shard.now.part.writer c.args.shard.now.reader reader c.try_update_in_place.ensures.same_writer c.in-Ok.ensures.beside in
-    IfErr-weaker c.merge_for_page.result _ _ (λ e h. refused-by later c.try_update_in_place.new.part.writer reader beside (h (g.D.Reader.PageReader.failures reader))) c.merge_for_page.ensures.told
+    IfErr-weaker c.merge_for_page.result _ _ (λ e h. refused-by c.try_update_in_place.new.part.writer reader beside (h (g.D.Reader.PageReader.failures reader))) c.merge_for_page.ensures.told
 
 pub returns-else-MERGES-clause-told : goal.returns-else-MERGES-clause-told
 returns-else-MERGES-clause-told g c =
@@ -25,4 +25,4 @@ returns-else-MERGES-clause-told g c =
     let later : c.args.clock.now ≤ c.try_update_in_place.new.clock = omega arith in
     let reader = c.tidy_at_times.new.shard.reader in
     let beside = beside-then c.args.terms.now.keeps_log g.D.Writer.PageWriter.failures g.D.Reader.PageReader.failures c.args.shard.now.part.writer c.args.shard.now.reader reader c.try_update_in_place.ensures.same_writer c.in-Ok.ensures.beside in
-    IfErr-weaker c.run_by_events.result _ _ (λ e. refused-by later c.try_update_in_place.new.part.writer reader beside) c.run_by_events.ensures.told
+    IfErr-weaker c.run_by_events.result _ _ (λ e. refused-by c.try_update_in_place.new.part.writer reader beside) c.run_by_events.ensures.told

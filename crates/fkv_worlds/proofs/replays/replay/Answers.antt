@@ -26,7 +26,7 @@ returns-in-Ok-clause-ok g c =
       headline = c.run.ensures.headline;
       report = h.1;
       issued = ap (map issue_of) h.1.lives
-          ∙ issued-runs stands (IsEntryIn {K = g.row.F-Key.Denot} {V = g.row.F-Value.Denot} g.F.Key.Fixed.codec g.F.Value.Fixed.codec) g.F.Key.Ord.cmp g.F.Mergeable.parts.joined g.F.Functions.meaning g.F.Functions.code g.F.Mergeable.MERGES c.args.config.now size c.run.new.world c.args.steps.now ran
+          ∙ issued-runs stands (IsEntryIn {K = g.row.F-Key.Denot} {V = g.row.F-Value.Denot} g.F.Key.Fixed.codec g.F.Value.Fixed.codec) g.F.Key.Ord.cmp g.F.Mergeable.parts.joined g.F.Functions.meaning g.F.Functions.code g.F.Mergeable.MERGES c.args.config.now size c.run.new.world c.args.steps.now ran c.run.ensures.headline
           ∙ ap (λ ts. issues_in (backwards c.args.steps.now ts [])) (sym h.1.outcomes);
     }) c.run.ensures.ok
 

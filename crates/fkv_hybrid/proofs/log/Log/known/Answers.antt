@@ -30,4 +30,6 @@ returns-clause-log g c =
       headed = t.begin;
       read_only = t.begun;
       flushed = t.flushed;
+      gone = p.gone;
+      held = p.held;
     })

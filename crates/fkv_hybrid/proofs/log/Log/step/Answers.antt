@@ -1,5 +1,7 @@
 use Rattle.fkv_texts.proofs.PlaceLemmas.{entry_found}
-use Rattle.fkv_hybrid.proofs.ScanLemmas.{in_frame, not_closed, goes_on, own_page}
+use Rattle.std.proofs.Common.{◌<◌, length, arith}
+use Rattle.fkv_records.specs.Places.{page_at}
+use Rattle.fkv_hybrid.proofs.ScanLemmas.{in_frame, not_closed, has_receipt, goes_on, own_page}
 use Rattle.fkv_hybrid.proofs.log.Log.step.Goals as goal
 
 pub record_at-requires-clause-there : goal.record_at-requires-clause-there
@@ -15,6 +17,16 @@ record_at-requires-clause-in_frame g c =
     let more = rw (← c.scan.view_is) at c.requires.more in
     let high = rw (c.unflushed.ensures, c.page_of-page.ensures, c.shape.ensures.bits, c.pages-pages.ensures) at c.if-page-unflushed.true in
     rw c.pages-pages.ensures (not_closed _ _ c.args.self.now c.known.ensures.log _ s more high)
+
+pub turned-requires-clause-held : goal.turned-requires-clause-held
+turned-requires-clause-held g c =
+    let s = rw (← c.scan.view_is) at c.requires.scan in
+    let more = rw (← c.scan.view_is) at c.requires.more in
+    let page = c.page_of-page.ensures in
+    let is = rw (c.shape.ensures.bits, c.pages-pages.ensures) at page in
+    let count = rw c.pages-pages.ensures at c.unflushed.ensures in
+    let low : page_at c.args.self.now.bits c.scan.inside.address < length c.args.self.now.receipts = (let under = c.if-page-unflushed.false in omega (arith, is, count, under)) in
+    rw is (has_receipt _ _ c.args.self.now c.known.ensures.log _ s more low)
 
 pub returns-then-page-unflushed-clause-stands : goal.returns-then-page-unflushed-clause-stands
 returns-then-page-unflushed-clause-stands g c =

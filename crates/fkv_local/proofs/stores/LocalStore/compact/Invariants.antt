@@ -1,7 +1,7 @@
 use Rattle.std.proofs.Common.{◌≡◌, ◌<◌, ◌≤◌, ℕ, IsTrue, Some, length, slice_get}
 use Rattle.fkv_functions.specs.Plain.{Same}
 use Rattle.fkv_partition.specs.Views.{PartitionView}
-use Rattle.fkv_local.specs.Clearing.{IsAllCut, AnyIsCut}
+use Rattle.fkv_local.specs.Clearing.{IsAllCut, AnyIsCut, IsGivenBack}
 use Rattle.fkv_local.specs.Refusing.{FailedAsBefore, StaysAt}
 use Rattle.fkv_local.specs.Storing.{SameTerms, plain}
 use Rattle.fkv_local.proofs.stores.LocalStore.compact.Given as goal
@@ -13,6 +13,7 @@ invariant-loop-home g l = record {
   sized : length l.self.parts ≡ length l.initial.self.parts;
   terms : SameTerms l.initial.self l.self;
   cut : AnyIsCut l.initial.self l.self l.has_cut;
+  given_back : (p : ℕ) (v w : PartitionView g.row.F-Key.Denot g.row.F-Value.Denot g.row.F-Input.Denot) → p < l.home → slice_get l.initial.self.parts p ≡ Some v → slice_get l.self.parts p ≡ Some w → IsGivenBack v w;
   whole : (p : ℕ) (v : PartitionView g.row.F-Key.Denot g.row.F-Value.Denot g.row.F-Input.Denot) → p < l.home → slice_get l.self.parts p ≡ Some v → IsAllCut v;
   steady : (p : ℕ) → FailedAsBefore g.D.Writer.PageWriter.failures g.D.Reader.PageReader.failures l.initial.self l.self p;
   behind : (p : ℕ) → l.home ≤ p → StaysAt l.initial.self l.self p;

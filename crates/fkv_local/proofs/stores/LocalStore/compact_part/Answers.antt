@@ -2,7 +2,7 @@ use Rattle.std.proofs.Common.{length, refl}
 use Rattle.std.proofs.lemmas.Option.{slice_get_read}
 use Rattle.std.proofs.lemmas.Result.{IfErr-weaker}
 use Rattle.fkv_functions.proofs.KeyOrder.{key_order}
-use Rattle.fkv_local.proofs.StoreLemmas.{inside-home, home-idle, home-past, home-rests, home-sized, home-quiet, home-uncompacted, home-steady, home-all_cut, home-cut, home-uncut, others-stay, cut-told, uncut-told, OnOk-weaker, parts-is, terms-are}
+use Rattle.fkv_local.proofs.StoreLemmas.{inside-home, home-idle, home-past, home-rests, home-sized, home-quiet, home-uncompacted, home-steady, home-all_cut, home-given_back, home-cut, home-uncut, others-stay, cut-told, uncut-told, OnOk-weaker, parts-is, terms-are}
 use Rattle.fkv_local.proofs.stores.LocalStore.compact_part.Goals as goal
 
 pub compact-requires-clause-idle : goal.compact-requires-clause-idle
@@ -110,3 +110,12 @@ returns-clause-uncut g c =
     let within = inside-home (λ shard. shard.part.partition) g.F.Functions.code items c.self.inside.clock c.args.self.now.parts (parts-is c.self.view_is) home c.requires.within in
     let here = slice_get_read items (length items) home old refl within c.index_mut-shard.ensures.value in
     uncut-told old.part.partition c.compact.new.shard.part.partition c.compact.result (home-uncut (λ shard. shard.part.partition) (λ shard. shard.part.writer) (λ shard. shard.reader) items c.self.view_is home old c.compact.new.shard here c.compact.new.clock) c.compact.ensures.cut
+
+pub returns-clause-given_back : goal.returns-clause-given_back
+returns-clause-given_back g c =
+    let items = c.self.inside.shards.items in
+    let home = c.args.home in
+    let old = c.index_mut-shard.result.now in
+    let within = inside-home (λ shard. shard.part.partition) g.F.Functions.code items c.self.inside.clock c.args.self.now.parts (parts-is c.self.view_is) home c.requires.within in
+    let here = slice_get_read items (length items) home old refl within c.index_mut-shard.ensures.value in
+    OnOk-weaker c.compact.result (λ given. home-given_back (λ shard. shard.part.partition) (λ shard. shard.part.writer) (λ shard. shard.reader) items c.self.view_is home old c.compact.new.shard here c.compact.new.clock (given refl)) c.compact.ensures.given_back

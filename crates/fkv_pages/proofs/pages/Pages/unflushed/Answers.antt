@@ -1,9 +1,12 @@
-use Rattle.std.proofs.Common.{arith}
+use Rattle.std.proofs.Common.{map, arith}
 use Rattle.std.proofs.lemmas.Grind.{common_steps}
 use Rattle.std.proofs.lemmas.List.{length-map}
+use Rattle.fkv_records.specs.Places.{page_at}
+use Rattle.fkv_pages.proofs.ReceiptLemmas.{from-length}
 use Rattle.fkv_pages.proofs.pages.Pages.unflushed.Goals as goal
 
 pub returns : goal.returns
 returns g c =
     let i = c.self.inside in
-    rw (← c.self.view_is) (grind (arith, common_steps, i.receipts.ok.0, length-map i.receipts.items g.R.Receipt.stands))
+    let count = length-map i.receipts.items g.R.Receipt.stands in
+    rw (← c.self.view_is, from-length (page_at i.shape.page_bits i.begin) (map g.R.Receipt.stands i.receipts.items), count) (grind (arith, common_steps))

@@ -1,6 +1,6 @@
 use Rattle.std.proofs.Common.{◌≡◌, ◌<◌, Err, length, refl, sym, ap, subst, ◌∙◌}
 use Rattle.fkv_records.specs.Places.{page_at}
-use Rattle.fkv_pages.specs.Loads.{IsHeldBy}
+use Rattle.fkv_pages.specs.Loads.{HasReceipt, IsHeldBy}
 use Rattle.fkv_functions.proofs.KeyOrder.{key_order}
 use Rattle.fkv_index.specs.Words.{address_of}
 use Rattle.fkv_operations.specs.After.{key_of}
@@ -27,7 +27,7 @@ receipt-requires-whole g c κs =
     let met = load-met g.F.Functions.meaning x.op (met_at g.F.Key.Ord.cmp g.F.Mergeable.parts.joined g.F.Functions.code v c.args.slot (key_of x.op)) c.args.wanted c.args.parts d.decided in
     let w = c.meetings_tell.ensures.wanted g.R.Receipt.keeps g.F.Key.Ord.cmp g.F.Mergeable.parts.joined g.F.Functions.code v.records (key_of x.op) c.args.slot c.args.wanted c.args.parts order c.known.ensures.traced c.known.ensures.stood inside met in
     with_six (
-    rw c.page_of-page.ensures (subst (λ u. page_at u.records.page_bits c.args.wanted < length u.records.receipts) (sym c.self.view_is) (page_flushed v.records c.args.wanted c.known.ensures.traced w.begun w.low)))
+    rw c.page_of-page.ensures (subst (λ u. HasReceipt u.records.receipts (page_at u.records.page_bits c.args.wanted)) (sym c.self.view_is) (page_flushed v.records c.args.wanted c.known.ensures.traced w.begun w.low)))
 
 pub set_phase-requires-clause-unclaimed : goal.set_phase-requires-clause-unclaimed
 set_phase-requires-clause-unclaimed g c = ap claim_by c.requires.decided.fresh

@@ -4,6 +4,8 @@ use Rattle.fkv_partition.specs.CoreContexts.{claim_by}
 use Rattle.fkv_partition.specs.CoreLoading.{AwaitsPage, Loads}
 use Rattle.fkv_partition.proofs.EventLemmas.{loading-is, claims-none, if-all}
 use Rattle.fkv_partition.proofs.PendingLemmas.{load-moved}
+use Rattle.fkv_partition.proofs.ApartLemmas.{err-as}
+use Rattle.fkv_partition.proofs.DamageLemmas.{answer-not, unknown-not, not_ready-not}
 use Rattle.fkv_partition.proofs.cores.Core.load.Goals as goal
 
 pub returns-in_default-loading_of-clause-effect : goal.returns-in_default-loading_of-clause-effect
@@ -110,3 +112,21 @@ returns-in-Ok-clause-event g c = c.receive.ensures.event
 
 pub returns-in-Ok-clause-moment : goal.returns-in-Ok-clause-moment
 returns-in-Ok-clause-moment g c = c.receive.ensures.moment
+
+pub returns-in_default-clause-undamaged : goal.returns-in_default-clause-undamaged
+returns-in_default-clause-undamaged g c = λ yes_keeps page is. unknown-not is
+
+pub returns-in_default-loading_of-clause-undamaged : goal.returns-in_default-loading_of-clause-undamaged
+returns-in_default-loading_of-clause-undamaged g c = λ yes_keeps page is. not_ready-not is
+
+pub returns-then-loading-begin-clause-undamaged : goal.returns-then-loading-begin-clause-undamaged
+returns-then-loading-begin-clause-undamaged g c = λ yes_keeps page is. answer-not is
+
+pub returns-then-is_no_memory-clause-undamaged : goal.returns-then-is_no_memory-clause-undamaged
+returns-then-is_no_memory-clause-undamaged g c = λ yes_keeps page is. c.in-Err.is ∙ err-as is
+
+pub returns-else-is_no_memory-clause-undamaged : goal.returns-else-is_no_memory-clause-undamaged
+returns-else-is_no_memory-clause-undamaged g c = λ yes_keeps page is. c.in-Err.is ∙ err-as is
+
+pub returns-in-Ok-clause-undamaged : goal.returns-in-Ok-clause-undamaged
+returns-in-Ok-clause-undamaged g c = λ yes_keeps page is. absurd (c.receive.ensures.undamaged yes_keeps page is)

@@ -7,6 +7,7 @@ use Rattle.fkv_partition.specs.CoreLoading.{AwaitsPage, Loads, idle, came, faile
 use Rattle.fkv_partition.proofs.EventLemmas.{loading-is, if-all}
 use Rattle.fkv_partition.proofs.LoadLemmas.{wanted-flushed, waits-none, waits-not, waits-moved, counted-why}
 use Rattle.fkv_partition.proofs.PendingLemmas.{load-moved}
+use Rattle.fkv_partition.proofs.DamageLemmas.{answer-not, unknown-not, not_ready-not, counted-damage}
 use Rattle.fkv_partition.proofs.cores.Core.load_by.Goals as goal
 
 pub returns-in_default-clause-effect : goal.returns-in_default-clause-effect
@@ -159,3 +160,18 @@ returns-in-Ok-clause-event g c = c.resume_look_up.ensures.event
 
 pub returns-in-Ok-clause-moment : goal.returns-in-Ok-clause-moment
 returns-in-Ok-clause-moment g c = c.resume_look_up.ensures.moment
+
+pub returns-in_default-clause-undamaged : goal.returns-in_default-clause-undamaged
+returns-in_default-clause-undamaged g c = λ yes_keeps page is. unknown-not is
+
+pub returns-in_default-loading_of-clause-undamaged : goal.returns-in_default-loading_of-clause-undamaged
+returns-in_default-loading_of-clause-undamaged g c = λ yes_keeps page is. not_ready-not is
+
+pub returns-then-loading-begin-clause-undamaged : goal.returns-then-loading-begin-clause-undamaged
+returns-then-loading-begin-clause-undamaged g c = λ yes_keeps page is. answer-not is
+
+pub returns-in-Err-clause-undamaged : goal.returns-in-Err-clause-undamaged
+returns-in-Err-clause-undamaged g c = λ yes_keeps page is. counted-damage c.in-Err.ensures.counted is
+
+pub returns-in-Ok-clause-undamaged : goal.returns-in-Ok-clause-undamaged
+returns-in-Ok-clause-undamaged g c = λ yes_keeps page is. absurd (c.resume_look_up.ensures.undamaged yes_keeps page is)

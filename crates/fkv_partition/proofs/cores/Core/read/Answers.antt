@@ -1,11 +1,11 @@
 use Rattle.std.proofs.Common.{◌<◌, length, sym, subst}
 use Rattle.std.proofs.lemmas.Result.{IfOk-weaker, IfErr-weaker}
-use Rattle.fkv_pages.specs.Loads.{IsHeldBy}
+use Rattle.fkv_pages.specs.Loads.{HasReceipt, IsHeldBy}
 use Rattle.fkv_functions.proofs.CallLemmas.{with_six}
 use Rattle.fkv_partition.proofs.cores.Core.read.Goals as goal
 
 pub receipt-requires-whole : goal.receipt-requires-whole
-receipt-requires-whole g c κs = with_six (subst (λ v. c.args.page < length v.records.receipts) (sym c.self.view_is) c.requires.flushed)
+receipt-requires-whole g c κs = with_six (subst (λ v. HasReceipt v.records.receipts c.args.page) (sym c.self.view_is) c.requires.flushed)
 
 pub returns-clause-own : goal.returns-clause-own
 returns-clause-own g c =

@@ -3,10 +3,11 @@ use Rattle.std.proofs.Math.Nat.{le_of_lt}
 use Rattle.fkv_functions.proofs.KeyOrder.{key_order}
 use Rattle.fkv_functions.proofs.CallLemmas.{with_six}
 use Rattle.fkv_records.specs.Places.{page_at}
-use Rattle.fkv_pages.specs.Loads.{IsHeldBy}
+use Rattle.fkv_pages.specs.Loads.{HasReceipt, IsHeldBy}
 use Rattle.fkv_partition.specs.CoreInside.{view_of}
 use Rattle.fkv_partition.specs.CoreLoading.{Loads}
 use Rattle.fkv_partition.proofs.LoadLemmas.{stranger-kept, wanted-flushed}
+use Rattle.fkv_partition.proofs.DamageLemmas.{stranger-not}
 use Rattle.fkv_partition.proofs.cores.Core.receive.Goals as goal
 
 pub is_own-requires-whole : goal.is_own-requires-whole
@@ -21,7 +22,7 @@ is_own-requires-whole g c κs =
     let p = c.args.loaded in
     let there = wanted-flushed g.F.Key.Ord.cmp g.F.Mergeable.parts.joined g.F.Functions.code order v c.known.ensures c.args.slot c.args.context x l a in
     with_six (
-    rw c.page_of-page.ensures (subst (λ u. page_at u.records.page_bits l.wanted < length u.records.receipts) (sym c.self.view_is) there))
+    rw c.page_of-page.ensures (subst (λ u. HasReceipt u.records.receipts (page_at u.records.page_bits l.wanted)) (sym c.self.view_is) there))
 
 pub returns-in-Err-clause-effect : goal.returns-in-Err-clause-effect
 returns-in-Err-clause-effect g c =
@@ -65,3 +66,18 @@ returns-clause-event g c = c.resume_look_up.ensures.event
 
 pub returns-clause-moment : goal.returns-clause-moment
 returns-clause-moment g c = c.resume_look_up.ensures.moment
+
+pub returns-in-Err-clause-undamaged : goal.returns-in-Err-clause-undamaged
+returns-in-Err-clause-undamaged g c = λ yes_keeps page is.
+    let ord = g.met.F.Key.Ord in
+    let known = g.met.F.Key.FixedKey in
+    let order = key_order g.F.Key.PartialEq.eq g.F.Key.Ord.cmp ord.matches_eq known.exact ord.total in
+    let v = c.args.self.now in
+    let x = c.args.operation.now in
+    let l = c.args.loading in
+    let there = wanted-flushed g.F.Key.Ord.cmp g.F.Mergeable.parts.joined g.F.Functions.code order v c.known.ensures c.args.slot c.args.context x l c.requires.awaits in
+    let s = stranger-kept (view_of g.F.Mergeable.MERGES c.self.inside.number c.self.inside.count c.self.inside.records c.self.inside.contexts.items c.self.inside.moment) v c.page_of-page.result l.wanted (g.R.Receipt.stands c.args.loaded.receipt) c.in-Err.refused c.self.view_is c.page_of-page.ensures there c.in-Err.ensures.stranger in
+    stranger-not s.3 is
+
+pub returns-clause-undamaged : goal.returns-clause-undamaged
+returns-clause-undamaged g c = c.resume_look_up.ensures.undamaged

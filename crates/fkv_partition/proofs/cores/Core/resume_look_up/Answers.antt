@@ -5,15 +5,18 @@ use Rattle.fkv_records.specs.Places.{page_at, IsRecordStart}
 use Rattle.fkv_texts.specs.declared.entries.ChainPosition.TheVariants.{Found, Below}
 use Rattle.fkv_texts.specs.Deltas.{onto}
 use Rattle.fkv_pages.specs.Spelled.{IsEntryIn}
-use Rattle.fkv_pages.specs.Loads.{IsHeldBy}
+use Rattle.fkv_pages.specs.Loads.{HasReceipt, IsHeldBy}
 use Rattle.fkv_operations.specs.After.{key_of}
+use Rattle.fkv_pages.proofs.ReceiptLemmas.{receipt-within}
 use Rattle.fkv_partition.specs.CoreContexts.{claim_by}
 use Rattle.fkv_partition.specs.CoreInside.{view_of}
 use Rattle.fkv_partition.specs.CoreLoading.{Tells, Loads, found, ended}
 use Rattle.fkv_functions.proofs.CallLemmas.{with_six}
 use Rattle.fkv_partition.proofs.EventLemmas.{claims-none}
-use Rattle.fkv_partition.proofs.LoadLemmas.{came-of, told-done, further-done, may-load, wanted-flushed, reads-on, kept-told, further-flushed, further-stands, newest-told}
+use Rattle.fkv_partition.proofs.LoadLemmas.{came-of, told-done, further-done, may-load, wanted-flushed, reads-on, kept-told, further-flushed, further-stands, newest-told, page-undamaged, page-place}
 use Rattle.fkv_partition.proofs.PendingLemmas.{load-told, further-load}
+use Rattle.std.proofs.lemmas.Bool.{false≢true}
+use Rattle.fkv_partition.proofs.DamageLemmas.{answer-not, memory-not}
 use Rattle.fkv_partition.proofs.cores.Core.resume_look_up.Goals as goal
 
 pub first_of-low-requires-whole : goal.first_of-low-requires-whole
@@ -28,7 +31,7 @@ first_of-low-requires-whole g c κs =
     let p = c.args.loaded in
     let there = wanted-flushed g.F.Key.Ord.cmp g.F.Mergeable.parts.joined g.F.Functions.code order v c.known.ensures c.args.slot c.args.context x l a in
     with_six (
-    rw c.page_of-page.ensures (subst (λ u. page_at u.records.page_bits l.wanted < length u.records.receipts) (sym c.self.view_is) there))
+    rw c.page_of-page.ensures (subst (λ u. page_at u.records.page_bits l.wanted < length u.records.receipts) (sym c.self.view_is) (receipt-within _ _ there)))
 
 pub trace_in-requires-clause-own : goal.trace_in-requires-clause-own
 trace_in-requires-clause-own g c =
@@ -353,3 +356,44 @@ tell-requires-then-address-begin-clause-later g c = c.requires.later
 
 pub look_further-requires-clause-later : goal.look_further-requires-clause-later
 look_further-requires-clause-later g c = c.requires.later
+
+pub returns-in-Err-clause-undamaged : goal.returns-in-Err-clause-undamaged
+returns-in-Err-clause-undamaged g c = λ yes_keeps page is.
+    let ord = g.met.F.Key.Ord in
+    let known = g.met.F.Key.FixedKey in
+    let order = key_order g.F.Key.PartialEq.eq g.F.Key.Ord.cmp ord.matches_eq known.exact ord.total in
+    let v = c.args.self.now in
+    let x = c.args.operation.now in
+    let l = c.args.loading in
+    let a = c.requires.awaits in
+    let p = c.args.loaded in
+    let came = came-of g.R.Receipt.keeps (IsEntryIn g.F.Key.Fixed.codec g.F.Value.Fixed.codec) g.F.Key.Ord.cmp g.F.Mergeable.parts.joined g.F.Functions.code (view_of g.F.Mergeable.MERGES c.self.inside.number c.self.inside.count c.self.inside.records c.self.inside.contexts.items c.self.inside.moment) v c.key-key.result (key_of x.op) c.page_of-page.result c.first_of-low.result l.wanted l.parts (g.R.Receipt.stands p.receipt) p.bytes c.trace_in.result c.self.view_is c.key-key.ensures c.page_of-page.ensures c.first_of-low.ensures c.requires.own c.trace_in.ensures.read c.trace_in.ensures.kept in
+    page-undamaged g.F.Key.Ord.cmp g.F.Mergeable.parts.joined g.F.Functions.code order v c.known.ensures c.args.slot c.args.context x l a (IsEntryIn g.F.Key.Fixed.codec g.F.Value.Fixed.codec) (g.R.Receipt.stands p.receipt) p.bytes c.trace_in.result came yes_keeps c.in-Err.is
+
+pub returns-in-Found-clause-undamaged : goal.returns-in-Found-clause-undamaged
+returns-in-Found-clause-undamaged g c = λ yes_keeps page is. answer-not is
+
+pub returns-then-address-begin-clause-undamaged : goal.returns-then-address-begin-clause-undamaged
+returns-then-address-begin-clause-undamaged g c = λ yes_keeps page is. answer-not is
+
+pub returns-then-not-is_record_start-clause-undamaged : goal.returns-then-not-is_record_start-clause-undamaged
+returns-then-not-is_record_start-clause-undamaged g c = λ yes_keeps page told.
+    let ord = g.met.F.Key.Ord in
+    let known = g.met.F.Key.FixedKey in
+    let order = key_order g.F.Key.PartialEq.eq g.F.Key.Ord.cmp ord.matches_eq known.exact ord.total in
+    let v = c.args.self.now in
+    let x = c.args.operation.now in
+    let l = c.args.loading in
+    let a = c.requires.awaits in
+    let p = c.args.loaded in
+    let came = came-of g.R.Receipt.keeps (IsEntryIn g.F.Key.Fixed.codec g.F.Value.Fixed.codec) g.F.Key.Ord.cmp g.F.Mergeable.parts.joined g.F.Functions.code (view_of g.F.Mergeable.MERGES c.self.inside.number c.self.inside.count c.self.inside.records c.self.inside.contexts.items c.self.inside.moment) v c.key-key.result (key_of x.op) c.page_of-page.result c.first_of-low.result l.wanted l.parts (g.R.Receipt.stands p.receipt) p.bytes c.trace_in.result c.self.view_is c.key-key.ensures c.page_of-page.ensures c.first_of-low.ensures c.requires.own c.trace_in.ensures.read c.trace_in.ensures.kept in
+    let parts = c.in-Ok.came.parts in
+    let b = c.in-Below.address in
+    let is = c.in-Ok.is ∙ ap (λ q. Ok (record { parts = parts; position = q })) c.in-Below.is in
+    let begins : c.begin.result ≡ v.records.begin = c.begin.ensures ∙ ap (λ u. u.records.begin) c.self.view_is in
+    let high : v.records.begin ≤ b = omega (arith, c.if-address-begin.false, begins) in
+    let place = page-place g.F.Key.Ord.cmp g.F.Mergeable.parts.joined g.F.Functions.code order v c.known.ensures c.args.slot c.args.context x l a (IsEntryIn g.F.Key.Fixed.codec g.F.Value.Fixed.codec) (g.R.Receipt.stands p.receipt) p.bytes c.trace_in.result came yes_keeps b parts is high in
+    false≢true (sym c.if-not-is_record_start.true ∙ c.is_record_start.ensures.1 (subst (λ u. IsRecordStart u.records.page_bits u.records.record_size b) (sym c.self.view_is) place))
+
+pub returns-clause-undamaged : goal.returns-clause-undamaged
+returns-clause-undamaged g c = λ yes_keeps page is. memory-not c.look_further.result c.look_further.ensures.only is

@@ -69,3 +69,9 @@ returns-else-holds_relocation-clause-relocating g c = none-held _ c.if-holds_rel
 
 pub returns-then-holds_relocation-clause-relocating : goal.returns-then-holds_relocation-clause-relocating
 returns-then-holds_relocation-clause-relocating g c = λ some. c.resume_load_by.ensures.event
+
+pub returns-else-holds_relocation-clause-undamaged : goal.returns-else-holds_relocation-clause-undamaged
+returns-else-holds_relocation-clause-undamaged g c = c.load_by_on_key.ensures.undamaged
+
+pub returns-then-holds_relocation-clause-undamaged : goal.returns-then-holds_relocation-clause-undamaged
+returns-then-holds_relocation-clause-undamaged g c = c.resume_load_by.ensures.undamaged

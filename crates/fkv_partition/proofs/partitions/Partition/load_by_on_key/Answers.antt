@@ -34,3 +34,6 @@ returns-clause-unread g c = rw (← c.self.view_is) c.load_by-loaded.ensures.unr
 
 pub returns-clause-caused : goal.returns-clause-caused
 returns-clause-caused g c = rw (← c.self.view_is) c.load_by-loaded.ensures.caused
+
+pub returns-clause-undamaged : goal.returns-clause-undamaged
+returns-clause-undamaged g c = c.load_by-loaded.ensures.undamaged

@@ -21,3 +21,6 @@ returns-clause-event g c = rw (← c.self.view_is) c.load-loaded.ensures.event
 
 pub returns-clause-rest : goal.returns-clause-rest
 returns-clause-rest g c = rw (← c.self.view_is) (record { is = refl; relocations = (c.loads_preserve_sessions.ensures c.self.inside.core c.load-loaded.new.self c.args.slot c.args.context c.args.came c.args.now c.load-loaded.result c.load-loaded.ensures.effect).0 })
+
+pub returns-clause-undamaged : goal.returns-clause-undamaged
+returns-clause-undamaged g c = c.load-loaded.ensures.undamaged

@@ -4,6 +4,7 @@ use Rattle.fkv_partition.proofs.ApartLemmas.{none-held}
 use Rattle.fkv_partition.proofs.ProceedLemmas.{loads_on-proceeds, loads_on-ends, ended-event, ended-pends}
 use Rattle.fkv_partition.proofs.EffectLemmas.{if-err}
 use Rattle.fkv_partition.proofs.OperationLemmas.{loads-event, ends-key, relocation-load, relocation-others}
+use Rattle.fkv_partition.proofs.DamageLemmas.{answer-not}
 use Rattle.fkv_partition.proofs.partitions.Partition.load_own.Goals as goal
 
 pub returns-else-holds_relocation-clause-effect : goal.returns-else-holds_relocation-clause-effect
@@ -50,3 +51,9 @@ returns-else-holds_relocation-clause-relocating g c = none-held _ c.if-holds_rel
 
 pub returns-then-holds_relocation-clause-relocating : goal.returns-then-holds_relocation-clause-relocating
 returns-then-holds_relocation-clause-relocating g c = λ some. c.resume_load_own.ensures.event
+
+pub returns-else-holds_relocation-clause-undamaged : goal.returns-else-holds_relocation-clause-undamaged
+returns-else-holds_relocation-clause-undamaged g c = λ yes_keeps page is. answer-not (c.load_on_key.ensures.undamaged yes_keeps page is)
+
+pub returns-then-holds_relocation-clause-undamaged : goal.returns-then-holds_relocation-clause-undamaged
+returns-then-holds_relocation-clause-undamaged g c = c.resume_load_own.ensures.undamaged

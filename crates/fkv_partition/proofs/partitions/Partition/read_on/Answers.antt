@@ -54,3 +54,9 @@ returns-in-Tracing-clause-cleared g c = c.resume_trace.ensures.cleared
 
 pub returns-in-Tracing-clause-moment : goal.returns-in-Tracing-clause-moment
 returns-in-Tracing-clause-moment g c = c.resume_trace.ensures.moment
+
+pub returns-in-Reading-clause-undamaged : goal.returns-in-Reading-clause-undamaged
+returns-in-Reading-clause-undamaged g c = c.read_place.ensures.undamaged
+
+pub returns-in-Tracing-clause-undamaged : goal.returns-in-Tracing-clause-undamaged
+returns-in-Tracing-clause-undamaged g c = c.resume_trace.ensures.undamaged

@@ -8,7 +8,8 @@ use Rattle.fkv_pages.specs.Loads.{IsHeldBy}
 use Rattle.fkv_pages.specs.Spelled.{IsEntryIn}
 use Rattle.fkv_partition.specs.Reading.{LoadsOn, HasPage}
 use Rattle.fkv_partition.proofs.ApartLemmas.{err-ok, has-come}
-use Rattle.fkv_partition.proofs.ReadLemmas.{place-begun, place-read}
+use Rattle.fkv_partition.proofs.ReadLemmas.{place-begun, place-read, place-undamaged}
+use Rattle.fkv_partition.proofs.DamageLemmas.{checks-not}
 use Rattle.fkv_partition.proofs.partitions.Partition.read_place.Goals as goal
 
 pub check_liveness-requires-clause-begun : goal.check_liveness-requires-clause-begun
@@ -101,3 +102,14 @@ pub own_record_in-requires : goal.own_record_in-requires
 own_record_in-requires g c =
     let moved = ap (λ u. u.core.records) c.self.view_is in
     record { own = subst (λ r. IsHeldBy r.receipts (page_at r.page_bits c.args.relocation.now.target) (g.R.Receipt.stands c.args.loaded.now.receipt)) (sym (c.records-2.ensures ∙ moved)) c.requires.has.own }
+
+pub returns-in-Err-clause-undamaged : goal.returns-in-Err-clause-undamaged
+returns-in-Err-clause-undamaged g c = λ yes_keeps page told.
+    let v = c.args.self.now in
+    let x = c.args.relocation.now in
+    let moved = ap (λ u. u.core.records) c.self.view_is in
+    let kept = subst (λ r. IsTrue g.R.Receipt.keeps → IfSome (entry_at r.entries x.target) (λ y. c.own_record_in.result ≡ Ok y)) (c.records-2.ensures ∙ moved) c.own_record_in.ensures.kept in
+    place-undamaged g.F.Key.Ord.cmp g.F.Mergeable.parts.joined g.F.Functions.code v c.known.ensures.core c.known.ensures.compacting c.args.slot c.args.context x v.core.records.begin c.requires.reads refl c.requires.has.awaits.here c.own_record_in.result c.in-Err.is kept yes_keeps
+
+pub returns-in-Ok-clause-undamaged : goal.returns-in-Ok-clause-undamaged
+returns-in-Ok-clause-undamaged g c = λ yes_keeps page is. checks-not c.check_liveness.ensures.effect is

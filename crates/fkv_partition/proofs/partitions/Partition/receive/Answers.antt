@@ -7,6 +7,7 @@ use Rattle.fkv_partition.specs.Reading.{LoadsOn}
 use Rattle.fkv_partition.proofs.ApartLemmas.{err-ok, no-later}
 use Rattle.fkv_partition.proofs.ReadLemmas.{page-within, stranger-held}
 use Rattle.fkv_partition.proofs.TraceLemmas.{awaited-flushed}
+use Rattle.fkv_partition.proofs.DamageLemmas.{stranger-not}
 use Rattle.fkv_partition.proofs.partitions.Partition.receive.Goals as goal
 
 pub is_own-requires-whole : goal.is_own-requires-whole
@@ -68,3 +69,18 @@ returns-clause-cleared g c = c.read_on.ensures.cleared
 
 pub returns-clause-moment : goal.returns-clause-moment
 returns-clause-moment g c = c.read_on.ensures.moment
+
+pub returns-in-Err-clause-undamaged : goal.returns-in-Err-clause-undamaged
+returns-in-Err-clause-undamaged g c = λ yes_keeps page is.
+    let ord = g.met.F.Key.Ord in
+    let known = g.met.F.Key.FixedKey in
+    let order = key_order g.F.Key.PartialEq.eq g.F.Key.Ord.cmp ord.matches_eq known.exact ord.total in
+    let v = c.args.self.now in
+    let there = awaited-flushed g.F.Key.Ord.cmp g.F.Mergeable.parts.joined g.F.Functions.code order v c.known.ensures.core c.known.ensures.compacting c.args.slot c.args.context c.args.relocation.now c.args.wanted c.requires.awaits in
+    let moved = ap (λ u. u.core.records) c.self.view_is in
+    let at = c.page_of-page.ensures ∙ ap (λ r. page_at r.page_bits c.args.wanted) (c.records.ensures ∙ sym c.records-2.ensures) in
+    let z = stranger-held c.records-2.result.now v.core.records c.page_of-page.result c.args.wanted (g.R.Receipt.stands c.args.loaded.receipt) c.in-Err.refused (c.records-2.ensures ∙ moved) at there c.in-Err.ensures.stranger in
+    stranger-not z.3 is
+
+pub returns-clause-undamaged : goal.returns-clause-undamaged
+returns-clause-undamaged g c = c.read_on.ensures.undamaged

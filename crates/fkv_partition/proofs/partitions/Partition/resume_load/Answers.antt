@@ -5,9 +5,10 @@ use Rattle.fkv_pages.specs.Spelled.{IsEntryIn}
 use Rattle.fkv_partition.specs.Reading.{LoadsOn}
 use Rattle.fkv_partition.specs.Views.{at_stage}
 use Rattle.fkv_partition.specs.declared.relocations.Stage.TheVariants.{Fresh}
-use Rattle.fkv_partition.proofs.ApartLemmas.{err-ok, next-done, ok-all, no-later, has-come}
+use Rattle.fkv_partition.proofs.ApartLemmas.{err-ok, next-done, ok-all, no-later, has-come, err-as}
 use Rattle.fkv_partition.proofs.MoveLemmas.{is-set, keyless-here}
 use Rattle.fkv_partition.proofs.ReadLemmas.{awaits-none, awaits-some, awaits-page}
+use Rattle.fkv_partition.proofs.DamageLemmas.{answer-not, unknown-not, not_ready-not}
 use Rattle.fkv_partition.proofs.partitions.Partition.resume_load.Goals as goal
 
 pub returns-in_default-awaited-clause-effect : goal.returns-in_default-awaited-clause-effect
@@ -139,3 +140,21 @@ returns-in-Ok-clause-moment g c = c.receive.ensures.moment
 
 pub returns-then-begin-clause-within : goal.returns-then-begin-clause-within
 returns-then-begin-clause-within g c = (c.in-Some.ensures.session, c.in-Some.ensures.context)
+
+pub returns-in_default-clause-undamaged : goal.returns-in_default-clause-undamaged
+returns-in_default-clause-undamaged g c = λ yes_keeps page is. unknown-not is
+
+pub returns-in_default-awaited-clause-undamaged : goal.returns-in_default-awaited-clause-undamaged
+returns-in_default-awaited-clause-undamaged g c = λ yes_keeps page is. not_ready-not is
+
+pub returns-then-begin-clause-undamaged : goal.returns-then-begin-clause-undamaged
+returns-then-begin-clause-undamaged g c = λ yes_keeps page is. answer-not is
+
+pub returns-then-is_no_memory-clause-undamaged : goal.returns-then-is_no_memory-clause-undamaged
+returns-then-is_no_memory-clause-undamaged g c = λ yes_keeps page is. c.in-Err.is ∙ err-as is
+
+pub returns-else-is_no_memory-clause-undamaged : goal.returns-else-is_no_memory-clause-undamaged
+returns-else-is_no_memory-clause-undamaged g c = λ yes_keeps page is. c.in-Err.is ∙ err-as is
+
+pub returns-in-Ok-clause-undamaged : goal.returns-in-Ok-clause-undamaged
+returns-in-Ok-clause-undamaged g c = λ yes_keeps page is. absurd (c.receive.ensures.undamaged yes_keeps page is)

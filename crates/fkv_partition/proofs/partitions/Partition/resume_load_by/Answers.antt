@@ -2,7 +2,7 @@ use Rattle.std.proofs.Common.{◌≢◌, ◌<◌, length, Some, refl, sym, ap, s
 use Rattle.std.specs.Prelude.{IfSome}
 use Rattle.fkv_functions.proofs.KeyOrder.{key_order}
 use Rattle.fkv_records.specs.Places.{page_at}
-use Rattle.fkv_pages.specs.Loads.{IsHeldBy}
+use Rattle.fkv_pages.specs.Loads.{HasReceipt, IsHeldBy}
 use Rattle.fkv_hybrid.specs.Scans.{MayFail}
 use Rattle.fkv_partition.specs.CoreLoading.{idle, came, failed}
 use Rattle.fkv_partition.proofs.LoadLemmas.{counted-why}
@@ -13,6 +13,7 @@ use Rattle.fkv_partition.proofs.ApartLemmas.{err-ok, next-done, ok-all, no-later
 use Rattle.fkv_partition.proofs.MoveLemmas.{is-set, keyless-here}
 use Rattle.fkv_partition.proofs.ReadLemmas.{awaits-none, awaits-some, awaits-page, waits-none-on, waits-not-on, waits-moved-on}
 use Rattle.fkv_partition.proofs.TraceLemmas.{awaited-flushed}
+use Rattle.fkv_partition.proofs.DamageLemmas.{answer-not, unknown-not, not_ready-not, counted-damage}
 use Rattle.fkv_partition.proofs.partitions.Partition.resume_load_by.Goals as goal
 
 pub returns-in_default-clause-effect : goal.returns-in_default-clause-effect
@@ -61,7 +62,7 @@ read-requires g c =
     let a = awaits-page v c.args.slot c.args.context x c.in-Some-awaited.begin wanted here told (c.if-begin-begins.false ∙ begins) in
     let page = c.page_of-page.ensures ∙ ap (λ r. page_at r.page_bits wanted) (c.records-2.ensures ∙ moved) in
     let there = awaited-flushed g.F.Key.Ord.cmp g.F.Mergeable.parts.joined g.F.Functions.code order v c.known.ensures.core c.known.ensures.compacting c.args.slot c.args.context x wanted a in
-    record { flushed = subst (λ r. c.page_of-page.result < length r.receipts) (sym moved) (rw page there) }
+    record { flushed = subst (λ r. HasReceipt r.receipts c.page_of-page.result) (sym moved) (rw page there) }
 
 pub read_on-requires-clause-has : goal.read_on-requires-clause-has
 read_on-requires-clause-has g c =
@@ -207,3 +208,18 @@ returns-in-Err-clause-cleared g c = err-ok
 
 pub returns-in-Err-clause-moment : goal.returns-in-Err-clause-moment
 returns-in-Err-clause-moment g c = no-later c.requires.later
+
+pub returns-in_default-clause-undamaged : goal.returns-in_default-clause-undamaged
+returns-in_default-clause-undamaged g c = λ yes_keeps page is. unknown-not is
+
+pub returns-in_default-awaited-clause-undamaged : goal.returns-in_default-awaited-clause-undamaged
+returns-in_default-awaited-clause-undamaged g c = λ yes_keeps page is. not_ready-not is
+
+pub returns-then-begin-begins-clause-undamaged : goal.returns-then-begin-begins-clause-undamaged
+returns-then-begin-begins-clause-undamaged g c = λ yes_keeps page is. answer-not is
+
+pub returns-in-Err-clause-undamaged : goal.returns-in-Err-clause-undamaged
+returns-in-Err-clause-undamaged g c = λ yes_keeps page is. counted-damage c.in-Err.ensures.counted is
+
+pub returns-in-Ok-clause-undamaged : goal.returns-in-Ok-clause-undamaged
+returns-in-Ok-clause-undamaged g c = λ yes_keeps page is. absurd (c.read_on.ensures.undamaged yes_keeps page is)

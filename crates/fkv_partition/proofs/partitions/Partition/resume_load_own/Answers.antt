@@ -7,6 +7,7 @@ use Rattle.fkv_partition.specs.declared.relocations.Stage.TheVariants.{Fresh}
 use Rattle.fkv_partition.proofs.ApartLemmas.{err-ok, next-done, ok-all, no-later, has-come}
 use Rattle.fkv_partition.proofs.MoveLemmas.{is-set, keyless-here}
 use Rattle.fkv_partition.proofs.ReadLemmas.{awaits-none, awaits-some, awaits-page}
+use Rattle.fkv_partition.proofs.DamageLemmas.{answer-not, unknown-not, not_ready-not}
 use Rattle.fkv_partition.proofs.partitions.Partition.resume_load_own.Goals as goal
 
 pub returns-in_default-awaited-clause-effect : goal.returns-in_default-awaited-clause-effect
@@ -97,3 +98,15 @@ returns-clause-within g c = ok-all c.read_on.result (c.in-Some.ensures.session, 
 
 pub returns-clause-moment : goal.returns-clause-moment
 returns-clause-moment g c = c.read_on.ensures.moment
+
+pub returns-in_default-clause-undamaged : goal.returns-in_default-clause-undamaged
+returns-in_default-clause-undamaged g c = λ yes_keeps page is. unknown-not is
+
+pub returns-in_default-awaited-clause-undamaged : goal.returns-in_default-awaited-clause-undamaged
+returns-in_default-awaited-clause-undamaged g c = λ yes_keeps page is. not_ready-not is
+
+pub returns-then-begin-begins-clause-undamaged : goal.returns-then-begin-begins-clause-undamaged
+returns-then-begin-begins-clause-undamaged g c = λ yes_keeps page is. answer-not is
+
+pub returns-clause-undamaged : goal.returns-clause-undamaged
+returns-clause-undamaged g c = c.read_on.ensures.undamaged

@@ -5,6 +5,7 @@ use Rattle.fkv_functions.specs.declared.refusals.Refused.TheVariants.{Damaged}
 use Rattle.fkv_records.specs.Places.{page_at, IsRecordStart}
 use Rattle.fkv_pages.specs.Spelled.{IsEntryIn}
 use Rattle.fkv_pages.specs.Loads.{IsHeldBy, first_place}
+use Rattle.fkv_pages.proofs.ReceiptLemmas.{receipt-within}
 use Rattle.fkv_partition.specs.Checking.{higher_of, Ends}
 use Rattle.fkv_partition.specs.Reading.{LoadsOn}
 use Rattle.fkv_partition.specs.declared.relocations.Stage.TheVariants.{Ready}
@@ -13,7 +14,8 @@ use Rattle.fkv_functions.proofs.CallLemmas.{with_six}
 use Rattle.fkv_partition.proofs.ApartLemmas.{err-ok, has-come}
 use Rattle.fkv_partition.proofs.MoveLemmas.{is-done, past-place, stands-here, frozen-low, keyless-here}
 use Rattle.fkv_partition.proofs.ReadLemmas.{page-within}
-use Rattle.fkv_partition.proofs.TraceLemmas.{page-came, way-flushed, has-page, traces-to, way-dead, way-last, above-place, way-below, lower-flushed, way-further}
+use Rattle.fkv_partition.proofs.TraceLemmas.{page-came, way-flushed, has-page, traces-to, way-dead, way-last, above-place, way-below, lower-flushed, way-further, way-undamaged, way-place}
+use Rattle.fkv_partition.proofs.DamageLemmas.{answer-not, ends-not, asks-not}
 use Rattle.fkv_partition.proofs.partitions.Partition.resume_trace.Goals as goal
 
 pub first_of-requires-whole : goal.first_of-requires-whole
@@ -33,7 +35,7 @@ first_of-requires-whole g c κs =
     let there = way-flushed g.F.Key.Ord.cmp g.F.Mergeable.parts.joined g.F.Functions.code order v sound s c.args.slot c.args.context x e l a at in
     let moved = ap (λ u. u.core.records) c.self.view_is in
     with_six (
-    page-within l.wanted c.page_of-page.ensures (c.records.ensures ∙ moved) (c.records-2.ensures ∙ moved) there)
+    receipt-within _ _ (page-within l.wanted c.page_of-page.ensures (c.records.ensures ∙ moved) (c.records-2.ensures ∙ moved) there))
 
 pub trace_in-requires-clause-own : goal.trace_in-requires-clause-own
 trace_in-requires-clause-own g c =
@@ -381,3 +383,50 @@ ask-requires-clause-context g c = c.requires.context
 
 pub ask-requires-clause-here : goal.ask-requires-clause-here
 ask-requires-clause-here g c = c.requires.has.awaits.here
+
+pub returns-in-Err-clause-undamaged : goal.returns-in-Err-clause-undamaged
+returns-in-Err-clause-undamaged g c = λ yes_keeps page told.
+    let ord = g.met.F.Key.Ord in
+    let known = g.met.F.Key.FixedKey in
+    let order = key_order g.F.Key.PartialEq.eq g.F.Key.Ord.cmp ord.matches_eq known.exact ord.total in
+    let v = c.args.self.now in
+    let x = c.args.relocation.now in
+    let a = c.requires.has.awaits in
+    let p = c.args.loaded.now in
+    let sound = c.known.ensures.core in
+    let s = c.known.ensures.compacting in
+    let e = c.args.entry in
+    let l = c.args.loading in
+    let at = c.requires.traces in
+    let moved = ap (λ u. u.core.records) c.self.view_is in
+    let came = page-came g.R.Receipt.keeps (IsEntryIn g.F.Key.Fixed.codec g.F.Value.Fixed.codec) g.F.Key.Ord.cmp g.F.Mergeable.parts.joined g.F.Functions.code c.records.result.now c.records-2.result.now c.records-3.result.now v.core.records x.target e.key c.page_of-page.result c.higher_of-low.result l (g.R.Receipt.stands p.receipt) p.bytes c.trace_in.result (c.records.ensures ∙ moved) (c.records-2.ensures ∙ moved) (c.records-3.ensures ∙ moved) c.page_of-page.ensures (c.higher_of-low.ensures.value ∙ ap (higher_of (x.target + 1)) c.first_of.ensures) c.requires.has.own c.trace_in.ensures.read c.trace_in.ensures.kept in
+    way-undamaged g.F.Key.Ord.cmp g.F.Mergeable.parts.joined g.F.Functions.code order v sound s c.args.slot c.args.context x e l a at (IsEntryIn g.F.Key.Fixed.codec g.F.Value.Fixed.codec) (g.R.Receipt.stands p.receipt) p.bytes c.trace_in.result came yes_keeps c.in-Err.is
+
+pub returns-then-not-is_record_start-clause-undamaged : goal.returns-then-not-is_record_start-clause-undamaged
+returns-then-not-is_record_start-clause-undamaged g c = λ yes_keeps page told.
+    let ord = g.met.F.Key.Ord in
+    let known = g.met.F.Key.FixedKey in
+    let order = key_order g.F.Key.PartialEq.eq g.F.Key.Ord.cmp ord.matches_eq known.exact ord.total in
+    let v = c.args.self.now in
+    let x = c.args.relocation.now in
+    let a = c.requires.has.awaits in
+    let p = c.args.loaded.now in
+    let sound = c.known.ensures.core in
+    let s = c.known.ensures.compacting in
+    let e = c.args.entry in
+    let l = c.args.loading in
+    let at = c.requires.traces in
+    let moved = ap (λ u. u.core.records) c.self.view_is in
+    let came = page-came g.R.Receipt.keeps (IsEntryIn g.F.Key.Fixed.codec g.F.Value.Fixed.codec) g.F.Key.Ord.cmp g.F.Mergeable.parts.joined g.F.Functions.code c.records.result.now c.records-2.result.now c.records-3.result.now v.core.records x.target e.key c.page_of-page.result c.higher_of-low.result l (g.R.Receipt.stands p.receipt) p.bytes c.trace_in.result (c.records.ensures ∙ moved) (c.records-2.ensures ∙ moved) (c.records-3.ensures ∙ moved) c.page_of-page.ensures (c.higher_of-low.ensures.value ∙ ap (higher_of (x.target + 1)) c.first_of.ensures) c.requires.has.own c.trace_in.ensures.read c.trace_in.ensures.kept in
+    let b = c.in-Further.address in
+    let place = way-place g.F.Key.Ord.cmp g.F.Mergeable.parts.joined g.F.Functions.code order v sound s c.args.slot c.args.context x e l a at (IsEntryIn g.F.Key.Fixed.codec g.F.Value.Fixed.codec) (g.R.Receipt.stands p.receipt) p.bytes c.trace_in.result came c.in-Ok.came b c.in-Further.parts c.in-Ok.is (sym c.liveness_of.ensures ∙ c.in-Further.is) yes_keeps in
+    false≢true (sym c.if-not-is_record_start.true ∙ c.is_record_start.ensures.1 (subst (λ r. IsRecordStart r.page_bits r.record_size b) (sym (c.records-in-Further.ensures ∙ moved)) place))
+
+pub returns-in-Superseded-clause-undamaged : goal.returns-in-Superseded-clause-undamaged
+returns-in-Superseded-clause-undamaged g c = λ yes_keeps page is. answer-not is
+
+pub returns-in-Last-clause-undamaged : goal.returns-in-Last-clause-undamaged
+returns-in-Last-clause-undamaged g c = λ yes_keeps page is. ends-not c.append_again.ensures.effect is
+
+pub returns-else-not-is_record_start-clause-undamaged : goal.returns-else-not-is_record_start-clause-undamaged
+returns-else-not-is_record_start-clause-undamaged g c = λ yes_keeps page is. asks-not c.ask.ensures.effect is

@@ -1,9 +1,9 @@
 use Rattle.fkv_worlds.proofs.ResultLemmas.{ok_not_err, err_as}
-use Rattle.fkv_worlds.proofs.AccountLemmas.{account-begun}
+use Rattle.fkv_worlds.proofs.HistoryLemmas.{recorded-begun}
 use Rattle.fkv_worlds.proofs.worlds.World.new.Goals as goal
 
 pub invariant_of-result : goal.invariant_of-result
-invariant_of-result g c = account-begun _ c.args.config.now _ _ _ c.in-Ok.ensures.ok c.new-in-Ok.ensures.items
+invariant_of-result g c = recorded-begun _ c.args.config.now _ _ _ _ c.in-Ok.ensures.ok c.new-in-Ok.ensures.items c.new-in-Ok-2.ensures.items
 
 pub returns-in-Ok-clause-good : goal.returns-in-Ok-clause-good
 returns-in-Ok-clause-good g c = λ _. c.in-Ok.ensures.good ok_not_err
@@ -18,7 +18,7 @@ pub returns-in-Err-clause-only : goal.returns-in-Err-clause-only
 returns-in-Err-clause-only g c = c.in-Err.ensures.only
 
 pub returns-in-Ok-clause-ok : goal.returns-in-Ok-clause-ok
-returns-in-Ok-clause-ok g c = λ i. record { state = c.in-Ok.ensures.ok i; outcomes = c.new-in-Ok.ensures.items i }
+returns-in-Ok-clause-ok g c = λ i. record { state = c.in-Ok.ensures.ok i; steps = c.new-in-Ok.ensures.items i; outcomes = c.new-in-Ok-2.ensures.items i }
 
 pub returns-in-Ok-clause-bad : goal.returns-in-Ok-clause-bad
 returns-in-Ok-clause-bad g c = λ e. absurd (ok_not_err e)

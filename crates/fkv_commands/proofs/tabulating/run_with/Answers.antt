@@ -1,7 +1,7 @@
 use Rattle.std.proofs.Common.{rules, ◌≡◌, [], inl, inr, string_bytes}
 use Rattle.fkv_commands.proofs.MakingLemmas.{later}
 use Rattle.fkv_commands.proofs.OpeningLemmas.{feeds-named, unmapped}
-use Rattle.fkv_commands.proofs.tabulating.run_on.Goals as goal
+use Rattle.fkv_commands.proofs.tabulating.run_with.Goals as goal
 
 pub returns-else-is_empty-clause-ok : goal.returns-else-is_empty-clause-ok
 returns-else-is_empty-clause-ok g c =
