@@ -39,12 +39,12 @@ extern "C" {
 enum {
     FKV_DONE = 0,
     FKV_NO_MEMORY = 1,    /* memory was asked for and refused: free some, and call again */
-    FKV_BAD_CONFIG = 2,   /* a number of the settings is outside its limits */
+    FKV_BAD_CONFIG = 2,   /* of fkv_open alone: a number of the settings is outside its limits */
     FKV_WORN = 10,        /* no address or no two moments are left */
-    FKV_DEVICE = 11,      /* not in memory */
-    FKV_DAMAGED = 12,     /* not in memory */
+    FKV_DEVICE = 11,      /* never: no page in memory fails to be written or read */
+    FKV_DAMAGED = 12,     /* never */
     FKV_STALLED = 13,     /* never: an operation that finds no room makes some */
-    FKV_NO_MERGE = 20,    /* a merge, of functions that do not merge */
+    FKV_NO_MERGE = 20,    /* of fkv_merge alone, of functions that do not merge */
     FKV_IS_CLOSED = 32,   /* the handle is closed */
     FKV_IN_USE = 33,      /* the handle that was to be opened is open */
     FKV_NOT_A_STORE = 34, /* the handle is a cursor's */
@@ -53,7 +53,7 @@ enum {
     FKV_BAD_KIND = 37,    /* there is no such kind of store */
     FKV_NULL = 38,        /* a pointer is null */
     FKV_SAME = 39,        /* the store and the cursor are one handle */
-    FKV_OUT_OF_RANGE = 40, /* the value that was to be set has more bits than the store's values, or is below 0 and a count */
+    FKV_OUT_OF_RANGE = 40, /* of fkv_upsert alone: the value that was to be set has more bits than the store's values, or is below 0 and a count */
     FKV_NOT_NUMBERS = 41, /* the store or the cursor is of cells: fkv_put, fkv_get, fkv_remove and fkv_next_cell are for it */
     FKV_NOT_CELLS = 42    /* it is of numbers */
 };
@@ -155,12 +155,14 @@ uint32_t fkv_c_next_cell(fkv_handle *cursor, fkv_cell_pair *pair);
 uint32_t fkv_c_close(fkv_handle *handle);
 void fkv_c_name(uint32_t status, char *text, size_t room);
 
-/* Opens a closed handle, as an empty store of this kind. */
+/* Opens a closed handle, as an empty store of this kind: FKV_IN_USE where it is open, else FKV_BAD_KIND, else FKV_BAD_CONFIG, and where
+ * all that is well FKV_DONE or FKV_NO_MEMORY. */
 static inline uint32_t fkv_open(fkv_handle *store, uint32_t kind, const fkv_settings *settings) {
     return store && settings ? fkv_c_open(store, kind, settings) : (uint32_t)FKV_NULL;
 }
 
-/* The five calls that follow are for stores of numbers.
+/* The five calls that follow are for stores of numbers. Of one, and a name of 1 to 31 bytes, their status is FKV_DONE,
+ * FKV_OUT_OF_RANGE, FKV_NO_MERGE, FKV_NO_MEMORY or FKV_WORN.
  *
  * Changes the value of a name by an input, or gives it its first, and answers the new value, or FKV_DECLINED where it is as it was. */
 static inline uint32_t fkv_rmw(fkv_handle *store, const void *name, size_t length, int64_t input, fkv_answer *answer) {
@@ -188,14 +190,14 @@ static inline uint32_t fkv_merge(fkv_handle *store, const void *name, size_t len
 }
 
 /* Gives back what superseded records take in the pages that left the frames before the call: of those pages none is kept, and the
- * records in them that live are written again. Tells whether any page was given back. It is done by itself too, as far as it pays: a
+ * records in them that live are written again. Tells 1 where any was given back, else 0. It is done by itself too, as far as it pays: a
  * store that is updated for ever takes its frames and buckets and, beside them, some four records for each name that has a value, and 64
  * pages. No value changes, whatever the status; where it is not FKV_DONE, a part may be given back. */
 static inline uint32_t fkv_compact(fkv_handle *store, uint32_t *has_cut) {
     return store && has_cut ? fkv_c_compact(store, has_cut) : (uint32_t)FKV_NULL;
 }
 
-/* Tells how much the store holds. */
+/* Tells how much the store holds. No store refuses it. */
 static inline uint32_t fkv_counts(fkv_handle *store, fkv_sizes *sizes) {
     return store && sizes ? fkv_c_counts(store, sizes) : (uint32_t)FKV_NULL;
 }

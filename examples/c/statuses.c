@@ -17,6 +17,16 @@ static void show_answer(const char *what, uint32_t status, const fkv_answer *ans
     printf("  %" PRIu64 " %" PRIu64 " %" PRId64 "\n", answer->kind, answer->value.low, answer->value.high);
 }
 
+/* The name of each status, in room that was full, and what stands at the end of that. */
+static void show_names(void) {
+    for (uint32_t status = 0; status <= 43; status++) {
+        char name[16];
+        memset(name, 'x', sizeof name);
+        fkv_name(status, name, sizeof name);
+        printf("%" PRIu32 " %.16s %d\n", status, name, name[15]);
+    }
+}
+
 static void try_counts(const fkv_settings *settings) {
     fkv_handle store = FKV_CLOSED, cursor = FKV_CLOSED;
     fkv_answer answer = {77, {77, 77}};
@@ -160,5 +170,6 @@ int main(void) {
     show("close", fkv_close(&store));
     try_counts(&settings);
     try_cells(&settings);
+    show_names();
     return 0;
 }

@@ -158,6 +158,12 @@ module _ {K V I : Type 0} (keeps : Bool) (cmp : K → K → Ordering) (join : V 
       count-less (λ e. nat_le e.address l.wanted && is_evicted code v.records (key_of x.op) e) q within (λ e. e.address == l.wanted) v.records.entries o.entry o.here
       (and_from _ _ reaches (and_from _ _ below classed)) (fails o.entry at)
 
+  -- there is one at the wanted address
+  pub wanted-some : IsTrue keeps → (x : Context K V I) (l : Loading V) → AwaitsPage v slot c x l → 1 ≤ evicted_to code v.records (key_of x.op) l.wanted
+  wanted-some kept x l a =
+      let some = fewer-below kept x l a (λ e. false) (λ e h. absurd (cc)) (λ e h. refl) in
+      omega arith
+
   -- the way goes on lower
   wanted-low : (x : Context K V I) (l : Loading V) → AwaitsPage v slot c x l → 64 ≤ l.wanted
   wanted-low x l a =

@@ -7,3 +7,4 @@ pub mod IndexLemmas
 pub mod CountLemmas
 pub mod BoundLemmas
 pub mod MergeLemmas
+pub mod LoadsLemmas

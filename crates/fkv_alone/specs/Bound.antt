@@ -1,13 +1,14 @@
--- How many events an operation may still take that is driven alone.
-use Rattle.std.specs.Prelude.{◌≡◌, ◌+◌, ◌^◌, ◌<◌, ◌≤◌, ◌&&◌, ℕ, Bool, cond, IsTrue, Some, None, length, filter, nat_le, nat_lt}
+-- How many events an operation may still take that is driven alone, and how many pages it may read.
+use Rattle.std.specs.Prelude.{◌≡◌, ◌+◌, ◌^◌, ◌<◌, ◌≤◌, ◌&&◌, ℕ, Bool, true, false, cond, IsTrue, Some, None, length, filter, nat_le, nat_lt}
 use Rattle.fkv_index.specs.declared.places.Place.{Place}
 use Rattle.fkv_index.specs.Words.{is_final, tag_of}
 use Rattle.fkv_index.specs.Places.{word_at}
 use Rattle.fkv_index.specs.Entries.{IsAlone}
 use Rattle.fkv_functions.specs.declared.asks.Ask.{Ask}
 use Rattle.fkv_texts.specs.declared.entries.Entry.{Entry}
-use Rattle.fkv_operations.specs.After.{key_of, is_merge}
+use Rattle.fkv_operations.specs.After.{key_of}
 use Rattle.fkv_operations.specs.declared.operations.KeyedOp.{KeyedOp}
+use Rattle.fkv_operations.specs.declared.operations.KeyedOp.TheVariants.{Read, Rmw}
 use Rattle.fkv_operations.specs.Classes.{same_class}
 use Rattle.fkv_operations.specs.declared.classes.Class.{Class}
 use Rattle.fkv_operations.specs.declared.entries.IndexEntry.{IndexEntry}
@@ -32,9 +33,30 @@ evicted code r k = length (filter (is_evicted code r k) r.entries)
 abbrev pub evicted_to : {K V : Type 0} → (K → ℕ) → RecordsView K V → K → ℕ → ℕ
 evicted_to code r k a = length (filter (λ e. nat_le e.address a && is_evicted code r k e) r.entries)
 
--- how many events may follow the look-up of an operation: loads, and what is built. A merge asks for neither
+-- whether an operation may read pages: a read or an update may; an upsert, a delete and a merge read none
+abbrev pub may_load : {K V I : Type 0} → KeyedOp K V I → Bool
+may_load (Read k i) = true
+may_load (Rmw k i) = true
+may_load other = false
+
+-- how many events may follow the look-up of an operation: loads, and what is built, of one that may read pages
 abbrev pub rest_of : {K V I : Type 0} → (K → ℕ) → RecordsView K V → KeyedOp K V I → ℕ
-rest_of code r op = cond (is_merge op) 0 (1 + evicted code r (key_of op))
+rest_of code r op = cond (may_load op) (1 + evicted code r (key_of op)) 0
+
+-- how many pages an operation reads at most: one for each record of its key's class below Head
+abbrev pub loads_of : {K V I : Type 0} → (K → ℕ) → RecordsView K V → KeyedOp K V I → ℕ
+loads_of code r op = cond (may_load op) (evicted code r (key_of op)) 0
+
+-- and how many more after it told this
+abbrev pub loads_left : {K V I O R : Type 0} → (K → ℕ) → RecordsView K V → KeyedOp K V I → Progress K V I O R → ℕ
+loads_left code r op Next = loads_of code r op
+loads_left code r op (NeedsLoad receipt a) = cond (may_load op) (evicted_to code r (key_of op) a) 0
+loads_left code r op other = 0
+
+-- how many pages the event reads that follows this
+abbrev pub loads_now : {K V I O R : Type 0} → Progress K V I O R → ℕ
+loads_now (NeedsLoad receipt a) = 1
+loads_now other = 0
 
 -- no open operation holds a tentative entry
 abbrev pub NoneClaims : {K V I : Type 0} → CoreView K V I → Type 0

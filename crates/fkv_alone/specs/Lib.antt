@@ -1,3 +1,4 @@
 pub mod Stages
 pub mod Ending
 pub mod Bound
+pub mod Causes

@@ -1,14 +1,14 @@
 //! An operation that is driven to its end.
-ghost use Rattle.std.specs.Prelude.{◌≡◌, ◌≢◌, ◌+◌, ◌-◌, ◌*◌, ◌^◌, ◌<◌, ◌≤◌, ◌⊎◌, ◌↔◌, ℕ, true, None, Some, Err, IsTrue, IfOk, IfErr, slice_get};
+ghost use Rattle.std.specs.Prelude.{◌≡◌, ◌≢◌, ◌+◌, ◌-◌, ◌*◌, ◌^◌, ◌<◌, ◌≤◌, ◌⊎◌, ◌↔◌, ℕ, false, None, Some, Err, IsTrue, IfOk, IfErr, slice_get};
 ghost use Rattle.fkv_partition.specs.Beginning.{IsFirstFree};
 ghost use Rattle.fkv_partition.specs.CoreViews.{CoreView};
 ghost use Rattle.fkv_partition.specs.Pending.{OthersPend, pending};
 ghost use Rattle.fkv_partition.specs.CoreContexts.{joined, relocating};
 ghost use Rattle.fkv_partition.specs.Events.{IsPassedOn};
-ghost use Rattle.fkv_operations.specs.After.{is_merge};
 ghost use Rattle.fkv_operations.specs.declared.operations.KeyedOp.{KeyedOp};
 ghost use Rattle.fkv_alone.specs.Stages.{IsReady};
-ghost use Rattle.fkv_alone.specs.Bound.{IsNear, NoneClaims, rest_of};
+ghost use Rattle.fkv_alone.specs.Bound.{IsNear, NoneClaims, rest_of, loads_of, may_load};
+ghost use Rattle.fkv_alone.specs.Causes.{CanFailToRead};
 ghost use Rattle.fkv_alone.specs.Ending.{Ends, IsOn, Drives};
 
 use crate::outcomes::{Alone, AloneOf};
@@ -72,7 +72,13 @@ fn drive<F: Mergeable, R: Receipt, P: PageReader<Receipt = R>>(
     ensures within { clock.new ≤ clock.old + left }
     ensures unread { (op : KeyedOp F.Key F.Value F.Input) (old : CoreView F.Key F.Value F.Input) (started : ℕ)
         → IsReady op old partition.old.core slot context started
-        → is_merge op ≡ true → reader.new ≡ reader.old }
+        → may_load op ≡ false → reader.new ≡ reader.old }
+    ensures loads { IsTrue R.keeps
+        → (op : KeyedOp F.Key F.Value F.Input) (old : CoreView F.Key F.Value F.Input) (started n : ℕ)
+        → IsReady op old partition.old.core slot context started
+        → IsNear {O = F.Output} {R = R} F.code partition.old.core slot context Progress.Next n
+        → P.reads reader.new ≤ P.reads reader.old + loads_of F.code old.records op }
+    ensures caused { P.failures reader.new ≢ P.failures reader.old → CanFailToRead R.stands P.can_fail }
     ensures rest { IsPassedOn partition.old partition.new }
     ensures past { partition.new.core.moment ≤ clock.new }
     ensures onward { clock.old ≤ clock.new }
@@ -117,7 +123,10 @@ fn attempt<F: Mergeable, R: Receipt, P: PageReader<Receipt = R>>(
         → 4 + rest_of F.code partition.old.core.records op ≤ limit
         → result ≢ Err Refused.Stalled }
     ensures within { clock.new ≤ clock.old + limit }
-    ensures unread { is_merge op ≡ true → reader.new ≡ reader.old }
+    ensures unread { may_load op ≡ false → reader.new ≡ reader.old }
+    ensures loads { IsTrue R.keeps → NoneClaims partition.old.core
+        → P.reads reader.new ≤ P.reads reader.old + loads_of F.code partition.old.core.records op }
+    ensures caused { P.failures reader.new ≢ P.failures reader.old → CanFailToRead R.stands P.can_fail }
     ensures rest { IsPassedOn partition.old partition.new }
     ensures past { partition.new.core.moment ≤ clock.new }
     ensures onward { clock.old ≤ clock.new }
@@ -181,15 +190,19 @@ pub fn run_alone<F: Mergeable, R: Receipt, P: PageReader<Receipt = R>>(
     ensures others { IsTrue R.keeps → (s c : ℕ)
         → (s ≢ slot) ⊎ ¬ IsFirstFree partition.old slot (Some c)
         → pending F.Key.cmp partition.new.core s c ≡ pending F.Key.cmp partition.old.core s c }
-    // the issue, a claim, its confirmation and a look-up; and, of all but a merge, a load for each record of the class below
+    // the issue, a claim, its confirmation and a look-up; and, of a read or an update, a load for each record of the class below
     // Head, and the install
     ensures bound { IsTrue R.keeps → NoneClaims partition.old.core
         → result.events ≤ 4 + rest_of F.code partition.old.core.records op }
     ensures enough { IsTrue R.keeps → NoneClaims partition.old.core
         → 4 + rest_of F.code partition.old.core.records op ≤ limit
         → result.progress ≢ Err Refused.Stalled }
-    // a merge reads no page
-    ensures unread { is_merge op ≡ true → reader.new ≡ reader.old }
+    // an upsert, a delete and a merge read no page; a read or an update reads one at most for each record of the class below Head
+    ensures unread { may_load op ≡ false → reader.new ≡ reader.old }
+    ensures loads { IsTrue R.keeps → NoneClaims partition.old.core
+        → P.reads reader.new ≤ P.reads reader.old + loads_of F.code partition.old.core.records op }
+    // the reader fails only where a read can
+    ensures caused { P.failures reader.new ≢ P.failures reader.old → CanFailToRead R.stands P.can_fail }
     // relocations stay, and what is cleared
     ensures rest { IsPassedOn partition.old partition.new }
     ensures past { partition.new.core.moment ≤ clock.new }

@@ -1,6 +1,6 @@
 //! One event of an operation that is driven alone: what it asked for is built and handed in, or read.
-ghost use Rattle.std.specs.Prelude.{◌≡◌, ◌+◌, ◌*◌, ◌<◌, ◌≤◌, ℕ, true, None, IsTrue, IfOk, slice_get};
-ghost use Rattle.fkv_operations.specs.After.{is_merge};
+ghost use Rattle.std.specs.Prelude.{◌≡◌, ◌≢◌, ◌+◌, ◌*◌, ◌<◌, ◌≤◌, ℕ, false, None, IsTrue, IfOk, slice_get};
+ghost use Rattle.fkv_operations.specs.After.{key_of};
 ghost use Rattle.fkv_operations.specs.declared.operations.KeyedOp.{KeyedOp};
 ghost use Rattle.fkv_partition.specs.CoreViews.{CoreView};
 ghost use Rattle.fkv_partition.specs.Pending.{OthersPend};
@@ -8,7 +8,8 @@ ghost use Rattle.fkv_partition.specs.CoreContexts.{joined, relocating};
 ghost use Rattle.fkv_partition.specs.Events.{IsPassedOn};
 ghost use Rattle.fkv_alone.specs.Stages.{HasCome};
 ghost use Rattle.fkv_alone.specs.Ending.{Advances, IsOn};
-ghost use Rattle.fkv_alone.specs.Bound.{IsNear, IsNearer};
+ghost use Rattle.fkv_alone.specs.Bound.{IsNear, IsNearer, loads_left, loads_now, may_load};
+ghost use Rattle.fkv_alone.specs.Causes.{CanFailToRead};
 
 use fkv_device::{PageReader, Receipt};
 use fkv_functions::{Built, Mergeable, Refused};
@@ -39,11 +40,18 @@ pub(crate) fn step<F: Mergeable, R: Receipt, P: PageReader<Receipt = R>>(
     ensures nearer { (n : ℕ) → IsTrue R.keeps
         → IsNear F.code partition.old.core slot context told n
         → IfOk result (λ progress. IsOn progress → IsNearer F.code partition.new.core slot context progress n) }
-    // a merge reads no page
+    // an upsert, a delete and a merge read no page
     ensures unread { (op : KeyedOp F.Key F.Value F.Input) (old : CoreView F.Key F.Value F.Input) (started : ℕ)
         → HasCome R.keeps R.stands F.Key.cmp F.parts.joined F.meaning F.code op old
         partition.old.core slot context started told
-        → is_merge op ≡ true → reader.new ≡ reader.old }
+        → may_load op ≡ false → reader.new ≡ reader.old }
+    // a page is read where one was asked for, and there is a record for it
+    ensures once { P.reads reader.new ≤ P.reads reader.old + loads_now told }
+    ensures wanted { IsTrue R.keeps → (op : KeyedOp F.Key F.Value F.Input) (old : CoreView F.Key F.Value F.Input) (started : ℕ)
+        → HasCome R.keeps R.stands F.Key.cmp F.parts.joined F.meaning F.code op old
+        partition.old.core slot context started told
+        → loads_now told ≤ loads_left F.code old.records op told }
+    ensures caused { P.failures reader.new ≢ P.failures reader.old → CanFailToRead R.stands P.can_fail }
     ensures rest { IsPassedOn partition.old partition.new }
     ensures past { partition.new.core.moment ≤ now }
 {

@@ -13,6 +13,6 @@ led P old new x a b e f g h =
     subst (λ o. P o new) (ap Some f ∙ sym e) (subst (λ n. P (Some a) n) (sym g) h)
 
 -- what holds of the operation on a key holds of that on each key of the same bytes
-pub keyed : (P : KeyedOp Name ℤ ℤ → Type 0) (op : Name → KeyedOp Name ℤ ℤ) (bytes : List ℕ) (key : Name) → text_of key ≡ bytes
+pub keyed : {V : Type 0} (P : KeyedOp Name V ℤ → Type 0) (op : Name → KeyedOp Name V ℤ) (bytes : List ℕ) (key : Name) → text_of key ≡ bytes
     → P (op key) → (k : Name) → text_of k ≡ bytes → P (op k)
 keyed P op bytes key e h k f = subst (λ n. P (op n)) (name_at_once key k (e ∙ sym f)) h

@@ -4,19 +4,21 @@ use Rattle.std.specs.BTreeMap.{get}
 use Rattle.std.specs.BTreeMap.Range.{IsLtBy}
 use Rattle.fkv_functions.specs.declared.names.Name.{Name}
 use Rattle.fkv_functions.specs.declared.refusals.Refused.{Refused}
+use Rattle.fkv_functions.specs.declared.refusals.Refused.TheVariants.{NoMemory}
 use Rattle.fkv_functions.specs.Names.{text_of, name_cmp}
-use Rattle.fkv_functions.specs.Hashes.{fnv_1a}
 use Rattle.fkv_functions.specs.Meanings.{Meanings}
 use Rattle.fkv_functions.specs.Sets.{sums, maxima, capped_sums}
 use Rattle.fkv_functions.specs.Plain.{PlainMap, Same}
 use Rattle.fkv_operations.specs.After.{after, answer}
 use Rattle.fkv_operations.specs.declared.operations.KeyedOp.{KeyedOp}
 use Rattle.fkv_operations.specs.declared.operations.Answer.{Answer}
+use Rattle.fkv_partition.specs.declared.limits.Config.{Config}
 use Rattle.fkv_local.specs.Storing.{StoreView, plain, log_bytes, evicted_bytes}
 use Rattle.fkv_c.specs.Statuses.{refusal_number}
 use Rattle.fkv_c.specs.Counting.{counted, whole, whole_pairs}
 use Rattle.fkv_c.specs.Crossing.{answer_of, pair_of}
 use Rattle.fkv_c.specs.Cells.{blind, cell_answer_of, cell_pair_of}
+use Rattle.fkv_c.specs.Stores.{name_code, IsKindNumber, IsGood, IsUnmade, FitsIn, Refuses, CellsRefuse}
 use Rattle.fkv_c.specs.declared.cells.Cell.{Cell}
 use Rattle.fkv_c.specs.declared.cells.CellTold.{CellTold}
 use Rattle.fkv_c.specs.declared.cells.CellPair.{CellPair}
@@ -86,10 +88,6 @@ meaning_of (Some (MaxPairs p)) = sums
 meaning_of (Some (CountPairs p)) = sums
 meaning_of (Some (CellPairs p)) = sums
 
--- the number by which a name is sent to its partition
-abbrev pub name_code : Name → ℕ
-name_code k = fnv_1a (text_of k)
-
 -- THE PLAIN MAP THAT A HANDLE LEADS TO, of numbers: the store's, the pairs that a cursor still has, or the empty one
 abbrev pub map_of : Option Held → PlainMap Name ℤ
 map_of None = λ k. None
@@ -128,27 +126,49 @@ abbrev pub IsMade : {V O : Type 0} → Meanings Name V ℤ O → PlainMap Name V
 IsMade f old new op (Ok a) = Same new (after name_cmp f old op) × (a ≡ answer f old op)
 IsMade f old new op (Err why) = Same new old
 
--- a store refuses
-abbrev pub IsRefusal : Fault → Type 0
-IsRefusal why = (r : Refused) × (why ≡ fault.Refused r)
+-- a store refuses, by a refusal that may come
+pub record IsRefusedBy (refuses : Refused → Type 0) (why : Fault) : Type 0 where
+  pub refused : Refused
+  pub is : why ≡ fault.Refused refused
+  pub by : refuses refused
 
 -- why a call that wants a store does nothing: the handle is no store's, or the store refuses
-abbrev pub IsStoreFault : Kind → Fault → Type 0
-IsStoreFault Shut why = why ≡ fault.Closed
-IsStoreFault Store why = IsRefusal why
-IsStoreFault CellStore why = IsRefusal why
-IsStoreFault Cursor why = why ≡ fault.NotAStore
-IsStoreFault CellCursor why = why ≡ fault.NotAStore
+abbrev pub IsStoreFault : Kind → (Refused → Type 0) → Fault → Type 0
+IsStoreFault Shut refuses why = why ≡ fault.Closed
+IsStoreFault Store refuses why = IsRefusedBy refuses why
+IsStoreFault CellStore refuses why = IsRefusedBy refuses why
+IsStoreFault Cursor refuses why = why ≡ fault.NotAStore
+IsStoreFault CellCursor refuses why = why ≡ fault.NotAStore
 
--- the same of one that wants a store of numbers, where the number may be too large for its functions, and of one that wants cells
-abbrev pub IsNumberFault : Kind → Fault → Type 0
-IsNumberFault Store why = (why ≡ fault.OutOfRange) ⊎ IsRefusal why
-IsNumberFault CellStore why = why ≡ fault.NotNumbers
-IsNumberFault other why = IsStoreFault other why
+-- why a store of numbers does no operation: exactly where the value that is to be set does not fit it is that
+pub data IsWorkFault (fits : Type 0) (refuses : Refused → Type 0) (why : Fault) : Type 0 where
+  unfit : why ≡ fault.OutOfRange → (fits → ⊥) → IsWorkFault fits refuses why
+  store_refuses : fits → IsRefusedBy refuses why → IsWorkFault fits refuses why
 
-abbrev pub IsCellFault : Kind → Fault → Type 0
-IsCellFault Store why = why ≡ fault.NotCells
-IsCellFault other why = IsStoreFault other why
+-- the same of a call that wants a store of numbers, and of one that wants cells
+abbrev pub IsNumberFault : Kind → Type 0 → (Refused → Type 0) → Fault → Type 0
+IsNumberFault Shut fits refuses why = why ≡ fault.Closed
+IsNumberFault Store fits refuses why = IsWorkFault fits refuses why
+IsNumberFault CellStore fits refuses why = why ≡ fault.NotNumbers
+IsNumberFault Cursor fits refuses why = why ≡ fault.NotAStore
+IsNumberFault CellCursor fits refuses why = why ≡ fault.NotAStore
+
+abbrev pub IsCellFault : Kind → (Refused → Type 0) → Fault → Type 0
+IsCellFault Shut refuses why = why ≡ fault.Closed
+IsCellFault Store refuses why = why ≡ fault.NotCells
+IsCellFault CellStore refuses why = IsRefusedBy refuses why
+IsCellFault Cursor refuses why = why ≡ fault.NotAStore
+IsCellFault CellCursor refuses why = why ≡ fault.NotAStore
+
+-- why a handle is not opened
+abbrev pub IsOpenFault : Option Held → ℕ → Config → Fault → Type 0
+IsOpenFault (Some h) kind config why = why ≡ fault.InUse
+IsOpenFault None kind config why = IsUnmade kind config why
+
+-- why no cursor is opened
+abbrev pub IsListFault : Option Held → Kind → (Refused → Type 0) → Fault → Type 0
+IsListFault (Some h) kind refuses why = why ≡ fault.InUse
+IsListFault None kind refuses why = IsStoreFault kind refuses why
 
 -- the pairs that a cursor still has, keys rising: of numbers
 abbrev pub pairs_of : Option Held → List (Name × ℤ)
@@ -195,27 +215,89 @@ AreCounts (Some (MaxPairs p)) bytes evicted moments = ⊥
 AreCounts (Some (CountPairs p)) bytes evicted moments = ⊥
 AreCounts (Some (CellPairs p)) bytes evicted moments = ⊥
 
--- the statuses of an operation on numbers, and of one on cells
-abbrev pub IsStatus : Kind → ℕ → Type 0
-IsStatus Shut status = status ≡ 32
-IsStatus Store status = (status ≡ 0) ⊎ (status ≡ 40) ⊎ ((why : Refused) × (status ≡ refusal_number why))
-IsStatus CellStore status = status ≡ 41
-IsStatus Cursor status = status ≡ 34
-IsStatus CellCursor status = status ≡ 34
+-- the status of a refusal that may come
+pub record IsRefusalStatus (refuses : Refused → Type 0) (status : ℕ) : Type 0 where
+  pub refused : Refused
+  pub is : status ≡ refusal_number refused
+  pub by : refuses refused
 
-abbrev pub IsCellStatus : Kind → ℕ → Type 0
-IsCellStatus Shut status = status ≡ 32
-IsCellStatus Store status = status ≡ 42
-IsCellStatus CellStore status = (status ≡ 0) ⊎ ((why : Refused) × (status ≡ refusal_number why))
-IsCellStatus Cursor status = status ≡ 34
-IsCellStatus CellCursor status = status ≡ 34
+-- THE STATUSES OF A CALL that wants a store
+abbrev pub IsStoreStatus : Kind → (Refused → Type 0) → ℕ → Type 0
+IsStoreStatus Shut refuses status = status ≡ 32
+IsStoreStatus Store refuses status = (status ≡ 0) ⊎ IsRefusalStatus refuses status
+IsStoreStatus CellStore refuses status = (status ≡ 0) ⊎ IsRefusalStatus refuses status
+IsStoreStatus Cursor refuses status = status ≡ 34
+IsStoreStatus CellCursor refuses status = status ≡ 34
+
+-- of an operation of a store of numbers: 40 exactly where the value that is to be set does not fit it
+pub data IsWorkStatus (fits : Type 0) (refuses : Refused → Type 0) (status : ℕ) : Type 0 where
+  is_done : status ≡ 0 → fits → IsWorkStatus fits refuses status
+  is_unfit : status ≡ 40 → (fits → ⊥) → IsWorkStatus fits refuses status
+  is_refused : fits → IsRefusalStatus refuses status → IsWorkStatus fits refuses status
+
+-- of an operation on numbers, and of one on cells
+abbrev pub IsStatus : Kind → Type 0 → (Refused → Type 0) → ℕ → Type 0
+IsStatus Shut fits refuses status = status ≡ 32
+IsStatus Store fits refuses status = IsWorkStatus fits refuses status
+IsStatus CellStore fits refuses status = status ≡ 41
+IsStatus Cursor fits refuses status = status ≡ 34
+IsStatus CellCursor fits refuses status = status ≡ 34
+
+abbrev pub IsCellStatus : Kind → (Refused → Type 0) → ℕ → Type 0
+IsCellStatus Shut refuses status = status ≡ 32
+IsCellStatus Store refuses status = status ≡ 42
+IsCellStatus CellStore refuses status = (status ≡ 0) ⊎ IsRefusalStatus refuses status
+IsCellStatus Cursor refuses status = status ≡ 34
+IsCellStatus CellCursor refuses status = status ≡ 34
+
+-- of an opening: of a closed handle, by the number of the functions and the configuration
+pub data IsMadeStatus (kind : ℕ) (config : Config) (status : ℕ) : Type 0 where
+  is_made : status ≡ 0 → IsKindNumber kind → IsGood kind config → IsMadeStatus kind config status
+  is_no_memory : status ≡ 1 → IsKindNumber kind → IsGood kind config → IsMadeStatus kind config status
+  is_bad_config : status ≡ 2 → IsKindNumber kind → (IsGood kind config → ⊥) → IsMadeStatus kind config status
+  is_no_kind : status ≡ 37 → (IsKindNumber kind → ⊥) → IsMadeStatus kind config status
+
+abbrev pub IsOpenStatus : Option Held → ℕ → Config → ℕ → Type 0
+IsOpenStatus None kind config status = IsMadeStatus kind config status
+IsOpenStatus (Some h) kind config status = status ≡ 33
+
+-- of a list, by what the handle of the cursor led to
+abbrev pub IsListStatus : Option Held → Kind → (Refused → Type 0) → ℕ → Type 0
+IsListStatus (Some h) kind refuses status = status ≡ 33
+IsListStatus None kind refuses status = IsStoreStatus kind refuses status
+
+-- of counts, of the next of a cursor's pairs of numbers and of cells, and of a close
+abbrev pub counts_status : Kind → ℕ
+counts_status Shut = 32
+counts_status Store = 0
+counts_status CellStore = 0
+counts_status Cursor = 34
+counts_status CellCursor = 34
+
+abbrev pub next_status : Kind → ℕ
+next_status Shut = 32
+next_status Store = 35
+next_status CellStore = 35
+next_status Cursor = 0
+next_status CellCursor = 41
+
+abbrev pub next_cell_status : Kind → ℕ
+next_cell_status Shut = 32
+next_cell_status Store = 35
+next_cell_status CellStore = 35
+next_cell_status Cursor = 42
+next_cell_status CellCursor = 0
+
+abbrev pub close_status : Option Held → ℕ
+close_status None = 32
+close_status (Some h) = 0
 
 -- AN OPERATION ON A HANDLE, BY ITS STATUS: where that is 0, the map is what the plain one's operation makes of it, and its answer
 -- is written; else the map and what stood for the answer are left
 pub record IsPerformed (old new : Option Held) (op : KeyedOp Name ℤ ℤ) (before after_it : Told) (status : ℕ) : Type 0 where
   pub kind : kind_of new ≡ kind_of old
   pub set : set_of new ≡ set_of old
-  pub told : IsStatus (kind_of old) status
+  pub told : IsStatus (kind_of old) (FitsIn old op) (Refuses old new op) status
   pub done : status ≡ 0 → Same (map_of new) (after name_cmp (meaning_of old) (map_of old) op) × (after_it ≡ answer_of (answer (meaning_of old) (map_of old) op))
   pub left : status ≢ 0 → Same (map_of new) (map_of old) × (after_it ≡ before)
   pub cells : Same (cells_of new) (cells_of old)
@@ -238,7 +320,7 @@ IsNextTold (p ∷ ps) new told = (new ≡ ps) × (told ≡ pair_of (Some p))
 pub record IsCellPerformed (old new : Option Held) (op : KeyedOp Name Cell ℤ) (status : ℕ) : Type 0 where
   pub kind : kind_of new ≡ kind_of old
   pub set : set_of new ≡ set_of old
-  pub told : IsCellStatus (kind_of old) status
+  pub told : IsCellStatus (kind_of old) (CellsRefuse old new op) status
   pub done : status ≡ 0 → Same (cells_of new) (after name_cmp blind (cells_of old) op)
   pub left : status ≢ 0 → Same (cells_of new) (cells_of old)
   pub numbers : Same (map_of new) (map_of old)

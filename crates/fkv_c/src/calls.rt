@@ -3,7 +3,10 @@ ghost use Rattle.std.specs.Prelude.{◌≡◌, None, Some, IfOk, IfErr, OnOk};
 ghost use Rattle.fkv_functions.specs.Plain.{Same};
 ghost use Rattle.fkv_functions.specs.declared.refusals.Refused.TheVariants.{NoMemory};
 ghost use Rattle.fkv_c.specs.Leading.{Store, IsStore, Cursor, cursor_of, kind_of, set_of, store_kind, meaning_of, map_of, cells_of, LeadsAsMuch};
-ghost use Rattle.fkv_c.specs.Leading.{pairs_of, FirstIsLeast, IsMade, TakesFirst, AreCounts, IsStoreFault, IsNumberFault};
+ghost use Rattle.fkv_c.specs.Leading.{pairs_of, FirstIsLeast, IsMade, TakesFirst, AreCounts, IsStoreFault, IsNumberFault, IsOpenFault, IsListFault};
+ghost use Rattle.fkv_c.specs.Leading.{counts_status, next_status, close_status};
+ghost use Rattle.fkv_c.specs.Statuses.{fault_number};
+ghost use Rattle.fkv_c.specs.Stores.{HasSettings, IsKindNumber, IsGood, FitsIn, Refuses, RefusesCompaction, RefusesList, Compacts};
 ghost use Rattle.fkv_c.specs.declared.faults.Fault.TheVariants as fault;
 
 use crate::faults::Fault;
@@ -27,6 +30,10 @@ pub(crate) fn open(
     ensures empty { OnOk result ((k : Name) → map_of handle.new.held k ≡ None) }
     ensures no_cells { OnOk result ((k : Name) → cells_of handle.new.held k ≡ None) }
     ensures was { OnOk result (handle.old.held ≡ None) }
+    ensures settings { OnOk result (HasSettings handle.new.held config.now) }
+    ensures known { OnOk result (IsKindNumber kind) }
+    ensures good { OnOk result (IsGood kind config.now) }
+    ensures told { IfErr result (IsOpenFault handle.old.held kind config.now) }
     ensures same { IfErr result (λ why. handle.new.held ≡ handle.old.held) }
 {
     if !handle.is_closed(alloc) {
@@ -61,7 +68,9 @@ pub(crate) fn operate(alloc: Global, handle: &mut Handle, op: AnyOp) -> Result<A
     ensures kind { kind_of handle.new.held ≡ kind_of handle.old.held }
     ensures store { OnOk result (kind_of handle.old.held ≡ Store) }
     ensures cells { Same (cells_of handle.new.held) (cells_of handle.old.held) }
-    ensures told { IfErr result (IsNumberFault (kind_of handle.old.held)) }
+    ensures fits { OnOk result (FitsIn handle.old.held op) }
+    ensures told { IfErr result (IsNumberFault (kind_of handle.old.held) (FitsIn handle.old.held op)
+        (Refuses handle.old.held handle.new.held op)) }
 {
     match handle.take(alloc) {
         None => Err(Fault::Closed),
@@ -79,7 +88,8 @@ pub(crate) fn compact(alloc: Global, handle: &mut Handle) -> Result<bool, Fault>
     ensures kind { kind_of handle.new.held ≡ kind_of handle.old.held }
     ensures set { set_of handle.new.held ≡ set_of handle.old.held }
     ensures store { OnOk result (IsStore (kind_of handle.old.held)) }
-    ensures told { IfErr result (IsStoreFault (kind_of handle.old.held)) }
+    ensures compacts { IfOk result (Compacts handle.old.held handle.new.held) }
+    ensures told { IfErr result (IsStoreFault (kind_of handle.old.held) (RefusesCompaction handle.old.held handle.new.held)) }
 {
     match handle.take(alloc) {
         None => Err(Fault::Closed),
@@ -95,7 +105,8 @@ pub(crate) fn compact(alloc: Global, handle: &mut Handle) -> Result<bool, Fault>
 pub(crate) fn counts(alloc: Global, handle: &mut Handle) -> Result<Counts, Fault>
     ensures counted { IfOk result (λ c. AreCounts handle.old.held c.bytes c.evicted c.moments) }
     ensures same { handle.new.held ≡ handle.old.held }
-    ensures told { IfErr result (IsStoreFault (kind_of handle.old.held)) }
+    ensures store { OnOk result (counts_status (kind_of handle.old.held) ≡ 0) }
+    ensures told { IfErr result (λ why. fault_number why ≡ counts_status (kind_of handle.old.held)) }
 {
     match handle.take(alloc) {
         None => Err(Fault::Closed),
@@ -115,7 +126,9 @@ pub(crate) fn list(alloc: Global, from: &mut Handle, into: &mut Handle) -> Resul
     ensures opened { OnOk result (kind_of into.new.held ≡ cursor_of (kind_of from.old.held)) }
     ensures pairs { OnOk result (LeadsAsMuch from.old.held into.new.held) }
     ensures store { OnOk result (IsStore (kind_of from.old.held)) }
+    ensures was { OnOk result (into.old.held ≡ None) }
     ensures left { IfErr result (λ why. into.new.held ≡ into.old.held) }
+    ensures told { IfErr result (IsListFault into.old.held (kind_of from.old.held) (RefusesList from.old.held from.new.held)) }
 {
     if !into.is_closed(alloc) {
         return Err(Fault::InUse);
@@ -134,7 +147,9 @@ fn live(alloc: Global, handle: &mut Handle) -> Result<Held, Fault>
     ensures kind { kind_of handle.new.held ≡ kind_of handle.old.held }
     ensures set { set_of handle.new.held ≡ set_of handle.old.held }
     ensures store { OnOk result (IsStore (kind_of handle.old.held)) }
-    ensures told { IfErr result (IsStoreFault (kind_of handle.old.held)) }
+    ensures unfailed { OnOk result (RefusesList handle.old.held handle.new.held NoMemory) }
+    ensures told { IfErr result (IsStoreFault (kind_of handle.old.held)
+        (RefusesList handle.old.held handle.new.held)) }
 {
     match handle.take(alloc) {
         None => Err(Fault::Closed),
@@ -152,6 +167,7 @@ pub(crate) fn next(alloc: Global, handle: &mut Handle) -> Result<Option<(Name, i
     ensures least { OnOk result (FirstIsLeast (pairs_of handle.old.held)) }
     ensures kind { kind_of handle.new.held ≡ kind_of handle.old.held }
     ensures cursor { OnOk result (kind_of handle.old.held ≡ Cursor) }
+    ensures why { IfErr result (λ why. fault_number why ≡ next_status (kind_of handle.old.held)) }
     ensures same { IfErr result (λ why. handle.new.held ≡ handle.old.held) }
 {
     match handle.take(alloc) {
@@ -167,6 +183,7 @@ pub(crate) fn next(alloc: Global, handle: &mut Handle) -> Result<Option<(Name, i
 /// Closes an open handle, and frees what it led to.
 pub(crate) fn close(alloc: Global, handle: &mut Handle) -> Result<(), Fault>
     ensures closed { handle.new.held ≡ None }
+    ensures was_open { OnOk result (close_status handle.old.held ≡ 0) }
     ensures told { IfErr result (λ why. (handle.old.held ≡ None) × (why ≡ fault.Closed)) }
 {
     match handle.take(alloc) {

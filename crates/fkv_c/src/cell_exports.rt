@@ -5,7 +5,7 @@ ghost use Rattle.fkv_functions.specs.Names.{text_of};
 ghost use Rattle.fkv_operations.specs.After.{answer};
 ghost use Rattle.fkv_operations.specs.declared.operations.KeyedOp.TheVariants.{Read, Upsert, Delete};
 ghost use Rattle.fkv_c.specs.Cells.{blind, cell_answer_of};
-ghost use Rattle.fkv_c.specs.Leading.{CellCursor, kind_of, cells_of, cell_pairs_of, FirstIsLeast, IsCellNextTold, IsCellPerformed, IsCellPerformedAt, IsNoKey};
+ghost use Rattle.fkv_c.specs.Leading.{CellCursor, kind_of, cells_of, cell_pairs_of, FirstIsLeast, IsCellNextTold, IsCellPerformed, IsCellPerformedAt, IsNoKey, next_cell_status};
 
 use crate::cell_calls::{CellOp, next_cell, operate_cells};
 use crate::cells::{Cell, CellPair, CellTold};
@@ -82,6 +82,7 @@ pub extern "C" fn fkv_c_next_cell(alloc: Global, cursor: &mut Handle, pair: &mut
     ensures least { result ≡ 0 → FirstIsLeast (cell_pairs_of cursor.old.held) }
     ensures kind { kind_of cursor.new.held ≡ kind_of cursor.old.held }
     ensures cursor { result ≡ 0 → kind_of cursor.old.held ≡ CellCursor }
+    ensures status { result ≡ next_cell_status (kind_of cursor.old.held) }
     ensures left { result ≢ 0 → (cursor.new.held ≡ cursor.old.held) × (pair.new ≡ pair.old) }
 {
     match next_cell(alloc, cursor) {

@@ -1,12 +1,15 @@
 //! A store of counts, as one of whole numbers.
-ghost use Rattle.std.specs.Prelude.{◌≡◌, IfOk, IfErr, IfSome};
+ghost use Rattle.std.specs.Prelude.{◌≡◌, true, IfOk, IfErr, IfSome, MatchOption, OnOk};
+ghost use Rattle.std.specs.Int.{w64, FitsUnsigned};
 ghost use Rattle.fkv_functions.specs.Names.{name_cmp};
 ghost use Rattle.fkv_local.specs.Storing.{plain};
 ghost use Rattle.fkv_c.specs.Counting.{counted, whole, whole_op, whole_answer};
-ghost use Rattle.fkv_c.specs.Leading.{Store, name_code, IsMade, IsNumberFault};
+ghost use Rattle.fkv_c.specs.Stores.{name_code, IsUncounted, SetsOnly};
+ghost use Rattle.fkv_c.specs.Leading.{IsMade, IsWorkFault};
 
 use crate::faults::Fault;
 use crate::sets::AnyOp;
+use crate::stores::run_store;
 use fkv_device::MemoryDevice;
 use fkv_functions::{CountFns, Name};
 use fkv_local::LocalStore;
@@ -18,24 +21,22 @@ pub(crate) fn run_counts(
     op: AnyOp,
 ) -> Result<Answer<i128>, Fault>
     ensures made { IsMade counted (whole (plain name_cmp name_code store.old)) (whole (plain name_cmp name_code store.new)) op result }
-    ensures told { IfErr result (IsNumberFault Store) }
+    ensures fits { OnOk result (SetsOnly (FitsUnsigned w64) op) }
+    ensures told { IfErr result (IsWorkFault (SetsOnly (FitsUnsigned w64) op) (IsUncounted store.old store.new op)) }
 {
     let Some(op) = counting(op) else {
         return Err(Fault::OutOfRange);
     };
-    let result = match op {
-        KeyedOp::Rmw(key, input) => store.rmw(&key, &input),
-        other => store.run(other),
-    };
-    match result {
+    match run_store(store, op) {
         Ok(answer) => Ok(widened(answer)),
-        Err(refused) => Err(Fault::Refused(refused)),
+        Err(fault) => Err(fault),
     }
 }
 
 /// The same operation, where its value is a count.
 fn counting(op: AnyOp) -> Option<KeyedOp<Name, u64, i64>>
-    ensures { IfSome result (λ count. whole_op count ≡ op) }
+    ensures same { IfSome result (λ count. whole_op count ≡ op) }
+    ensures fits { MatchOption result (SetsOnly (FitsUnsigned w64) op → ⊥) (λ _. SetsOnly (FitsUnsigned w64) op) }
 {
     match op {
         KeyedOp::Read(key, input) => Some(KeyedOp::Read(key, input)),

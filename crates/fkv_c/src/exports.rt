@@ -1,9 +1,11 @@
 //! What C calls. `include/fkv.h` says what C owes.
 ghost use Rattle.std.specs.Prelude.{◌≡◌, ◌≢◌, pos, length, None};
 ghost use Rattle.fkv_operations.specs.declared.operations.KeyedOp.TheVariants.{Read, Upsert, Rmw, Delete, Merge};
-ghost use Rattle.fkv_c.specs.Crossing.{value_of};
+ghost use Rattle.fkv_c.specs.Crossing.{value_of, config_of};
+ghost use Rattle.fkv_c.specs.Stores.{HasSettings, RefusesCompaction, RefusesList, IsCompactionTold};
 ghost use Rattle.fkv_c.specs.Leading.{Store, IsStore, Cursor, cursor_of, kind_of, set_of, store_kind, map_of, cells_of, LeadsAsMuch};
 ghost use Rattle.fkv_c.specs.Leading.{pairs_of, FirstIsLeast, IsNextTold, AreCounts, IsPerformed, IsPerformedAt, IsNoKey};
+ghost use Rattle.fkv_c.specs.Leading.{IsOpenStatus, IsStoreStatus, IsListStatus, counts_status, next_status, close_status};
 
 use crate::calls::{close, compact, counts, list, next, open, operate};
 use crate::faults::{Fault, status_name};
@@ -27,6 +29,8 @@ pub extern "C" fn fkv_c_open(
     ensures empty { result ≡ 0 → (k : Name) → map_of store.new.held k ≡ None }
     ensures no_cells { result ≡ 0 → (k : Name) → cells_of store.new.held k ≡ None }
     ensures was { result ≡ 0 → store.old.held ≡ None }
+    ensures settings { result ≡ 0 → HasSettings store.new.held (config_of settings.now) }
+    ensures status { IsOpenStatus store.old.held kind (config_of settings.now) result }
     ensures left { result ≢ 0 → store.new.held ≡ store.old.held }
 {
     match open(alloc, kind, &settings.config(), store) {
@@ -143,6 +147,8 @@ pub extern "C" fn fkv_c_compact(alloc: Global, store: &mut Handle, has_cut: &mut
     ensures kind { kind_of store.new.held ≡ kind_of store.old.held }
     ensures set { set_of store.new.held ≡ set_of store.old.held }
     ensures store { result ≡ 0 → IsStore (kind_of store.old.held) }
+    ensures cut { result ≡ 0 → IsCompactionTold store.old.held store.new.held has_cut.new }
+    ensures status { IsStoreStatus (kind_of store.old.held) (RefusesCompaction store.old.held store.new.held) result }
     ensures left { result ≢ 0 → has_cut.new ≡ has_cut.old }
 {
     match compact(alloc, store) {
@@ -159,6 +165,7 @@ pub extern "C" fn fkv_c_compact(alloc: Global, store: &mut Handle, has_cut: &mut
 pub extern "C" fn fkv_c_counts(alloc: Global, store: &mut Handle, sizes: &mut Sizes) -> u32
     ensures counted { result ≡ 0 → AreCounts store.old.held sizes.new.bytes sizes.new.evicted sizes.new.moments }
     ensures same { store.new.held ≡ store.old.held }
+    ensures status { result ≡ counts_status (kind_of store.old.held) }
     ensures left { result ≢ 0 → sizes.new ≡ sizes.old }
 {
     match counts(alloc, store) {
@@ -183,6 +190,8 @@ pub extern "C" fn fkv_c_list(alloc: Global, store: &mut Handle, cursor: &mut Han
     ensures opened { result ≡ 0 → kind_of cursor.new.held ≡ cursor_of (kind_of store.old.held) }
     ensures pairs { result ≡ 0 → LeadsAsMuch store.old.held cursor.new.held }
     ensures store { result ≡ 0 → IsStore (kind_of store.old.held) }
+    ensures was { result ≡ 0 → cursor.old.held ≡ None }
+    ensures status { IsListStatus cursor.old.held (kind_of store.old.held) (RefusesList store.old.held store.new.held) result }
     ensures left { result ≢ 0 → cursor.new.held ≡ cursor.old.held }
 {
     match list(alloc, store, cursor) {
@@ -198,6 +207,7 @@ pub extern "C" fn fkv_c_next(alloc: Global, cursor: &mut Handle, pair: &mut Pair
     ensures least { result ≡ 0 → FirstIsLeast (pairs_of cursor.old.held) }
     ensures kind { kind_of cursor.new.held ≡ kind_of cursor.old.held }
     ensures cursor { result ≡ 0 → kind_of cursor.old.held ≡ Cursor }
+    ensures status { result ≡ next_status (kind_of cursor.old.held) }
     ensures left { result ≢ 0 → (cursor.new.held ≡ cursor.old.held) × (pair.new ≡ pair.old) }
 {
     match next(alloc, cursor) {
@@ -213,6 +223,7 @@ pub extern "C" fn fkv_c_next(alloc: Global, cursor: &mut Handle, pair: &mut Pair
 #[unsafe(no_mangle)]
 pub extern "C" fn fkv_c_close(alloc: Global, handle: &mut Handle) -> u32
     ensures closed { handle.new.held ≡ None }
+    ensures status { result ≡ close_status handle.old.held }
     ensures told { result ≢ 0 → (handle.old.held ≡ None) × (result ≡ 32) }
 {
     match close(alloc, handle) {

@@ -12,3 +12,4 @@ pub mod handles;
 mod loose;
 pub mod numbers;
 mod sets;
+mod stores;

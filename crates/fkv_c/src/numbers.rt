@@ -1,5 +1,6 @@
 //! What crosses: numbers, answers, pairs, configurations and counts.
-ghost use Rattle.std.specs.Prelude.{◌≡◌, ◌≤◌, ◌-◌, ◌++◌, length, replicate};
+ghost use Rattle.std.specs.Prelude.{◌≡◌, ◌≤◌, ◌-◌, ◌++◌, length, replicate, FitsSigned};
+ghost use Rattle.std.specs.Int.{w128};
 ghost use Rattle.fkv_c.specs.Crossing.{number_of, value_of, answer_of, nothing_of, config_of, pair_of};
 
 use fkv_functions::Name;
@@ -28,7 +29,8 @@ impl Number {
 
     /// The number of these halves.
     pub(crate) fn value(&self) -> i128
-        ensures { result ≡ value_of self.now }
+        ensures value { result ≡ value_of self.now }
+        ensures fits { FitsSigned w128 result }
     {
         let bits = u128::from(self.low) + (u128::from(self.high.cast_unsigned()) << 64);
         bits.cast_signed()

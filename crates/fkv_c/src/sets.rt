@@ -1,16 +1,23 @@
 //! The sets of functions that C has, and the calls on what a handle leads to.
-ghost use Rattle.std.specs.Prelude.{◌≡◌, None, Some, IfOk, IfErr, IfSome, OnOk};
+ghost use Rattle.std.specs.Prelude.{◌≡◌, true, false, None, Some, IfOk, IfErr, IfSome, MatchOption, OnOk, FitsSigned};
+ghost use Rattle.std.specs.Int.{w64};
+ghost use Rattle.fkv_functions.specs.declared.refusals.Refused.TheVariants.{NoMemory};
 ghost use Rattle.fkv_functions.specs.Names.{name_cmp};
 ghost use Rattle.fkv_functions.specs.Plain.{Same};
-ghost use Rattle.fkv_functions.specs.Sets.{sums, maxima, capped_sums};
+ghost use Rattle.fkv_functions.specs.Sets.{maxima};
 ghost use Rattle.fkv_local.specs.Storing.{plain, IsRun};
-ghost use Rattle.fkv_c.specs.Leading.{Store, IsStore, Cursor, cursor_of, kind_of, set_of, store_kind, meaning_of, map_of, cells_of, LeadsAsMuch, name_code};
-ghost use Rattle.fkv_c.specs.Leading.{pairs_of, FirstIsLeast, IsMade, TakesFirst, AreCounts, IsStoreFault, IsNumberFault};
+ghost use Rattle.fkv_c.specs.Statuses.{fault_number};
+ghost use Rattle.fkv_c.specs.Stores.{name_code, HasSettings, IsKindNumber, IsGood, IsUnmade, SetsOnly, FitsIn};
+ghost use Rattle.fkv_c.specs.Stores.{IsUnmadeBy, Refuses, RefusesCompaction, RefusesList, Compacts};
+ghost use Rattle.fkv_c.specs.Leading.{Store, IsStore, Cursor, cursor_of, kind_of, set_of, store_kind, meaning_of, map_of, cells_of, LeadsAsMuch};
+ghost use Rattle.fkv_c.specs.Leading.{pairs_of, FirstIsLeast, IsMade, TakesFirst, AreCounts, IsWorkFault, IsStoreFault, IsNumberFault};
+ghost use Rattle.fkv_c.specs.Leading.{counts_status, next_status};
 
 use crate::cells::CellFns;
 use crate::counting::run_counts;
 use crate::faults::Fault;
 use crate::handles::Held;
+use crate::stores::{compact_store, list_store, run_store};
 use fkv_device::MemoryDevice;
 use fkv_functions::{CappedSumFns, CountFns, MaxFns, Name, SumFns};
 use fkv_local::{Counts, LocalStore};
@@ -27,6 +34,10 @@ pub(crate) fn made(alloc: Global, kind: u32, config: &Config) -> Result<Held, Fa
     ensures store { IfOk result (λ h. kind_of (Some h) ≡ store_kind kind) }
     ensures empty { IfOk result (λ h. (k : Name) → map_of (Some h) k ≡ None) }
     ensures no_cells { IfOk result (λ h. (k : Name) → cells_of (Some h) k ≡ None) }
+    ensures settings { IfOk result (λ h. HasSettings (Some h) config.now) }
+    ensures known { OnOk result (IsKindNumber kind) }
+    ensures good { OnOk result (IsGood kind config.now) }
+    ensures told { IfErr result (IsUnmade kind config.now) }
 {
     let device = &mut MemoryDevice::new(alloc);
     match kind {
@@ -61,50 +72,19 @@ pub(crate) fn operate_held(held: &mut Held, op: AnyOp) -> Result<Answer<i128>, F
     ensures set { set_of (Some held.new) ≡ set_of (Some held.old) }
     ensures store { OnOk result (kind_of (Some held.old) ≡ Store) }
     ensures cells { Same (cells_of (Some held.new)) (cells_of (Some held.old)) }
-    ensures told { IfErr result (IsNumberFault (kind_of (Some held.old))) }
+    ensures fits { OnOk result (FitsIn (Some held.old) op) }
+    ensures told { IfErr result (IsNumberFault (kind_of (Some held.old)) (FitsIn (Some held.old) op)
+        (Refuses (Some held.old) (Some held.new) op)) }
 {
     match held {
-        Held::Sums(store) => run_sums(store, op),
+        Held::Sums(store) => run_store(store, op),
         Held::Maxima(store) => run_maxima(store, op),
-        Held::CappedSums(store) => run_capped(store, op),
+        Held::CappedSums(store) => run_store(store, op),
         Held::Counts(store) => run_counts(store, op),
         Held::Cells(_) => Err(Fault::NotNumbers),
         Held::SumPairs(_) | Held::MaxPairs(_) | Held::CountPairs(_) | Held::CellPairs(_) => {
             Err(Fault::NotAStore)
         }
-    }
-}
-
-/// The same of sums: an update by the call that is for it, which is the fastest.
-fn run_sums(store: &mut LocalStore<SumFns, MemoryDevice>, op: AnyOp) -> Result<Answer<i128>, Fault>
-    ensures made { IsMade sums (plain name_cmp name_code store.old) (plain name_cmp name_code store.new) op result }
-    ensures told { IfErr result (IsNumberFault Store) }
-{
-    let result = match op {
-        KeyedOp::Rmw(key, input) => store.rmw(&key, &input),
-        other => store.run(other),
-    };
-    match result {
-        Ok(answer) => Ok(answer),
-        Err(refused) => Err(Fault::Refused(refused)),
-    }
-}
-
-/// The same of capped sums.
-fn run_capped(
-    store: &mut LocalStore<CappedSumFns, MemoryDevice>,
-    op: AnyOp,
-) -> Result<Answer<i128>, Fault>
-    ensures made { IsMade capped_sums (plain name_cmp name_code store.old) (plain name_cmp name_code store.new) op result }
-    ensures told { IfErr result (IsNumberFault Store) }
-{
-    let result = match op {
-        KeyedOp::Rmw(key, input) => store.rmw(&key, &input),
-        other => store.run(other),
-    };
-    match result {
-        Ok(answer) => Ok(answer),
-        Err(refused) => Err(Fault::Refused(refused)),
     }
 }
 
@@ -114,24 +94,23 @@ fn run_maxima(
     op: AnyOp,
 ) -> Result<Answer<i128>, Fault>
     ensures made { IsMade maxima (plain name_cmp name_code store.old) (plain name_cmp name_code store.new) op result }
-    ensures told { IfErr result (IsNumberFault Store) }
+    ensures fits { OnOk result (SetsOnly (FitsSigned w64) op) }
+    ensures told { IfErr result (IsWorkFault (SetsOnly (FitsSigned w64) op)
+        (IsUnmadeBy true name_code store.old store.new op)) }
 {
     let Some(op) = narrowed(op) else {
         return Err(Fault::OutOfRange);
     };
-    let result = match op {
-        KeyedOp::Rmw(key, input) => store.rmw(&key, &input),
-        other => store.run(other),
-    };
-    match result {
+    match run_store(store, op) {
         Ok(answer) => Ok(widened(answer)),
-        Err(refused) => Err(Fault::Refused(refused)),
+        Err(fault) => Err(fault),
     }
 }
 
 /// The same operation, where its value has 64 bits.
 fn narrowed(op: AnyOp) -> Option<KeyedOp<Name, i64, i64>>
-    ensures { IfSome result (λ narrow. narrow ≡ op) }
+    ensures same { IfSome result (λ narrow. narrow ≡ op) }
+    ensures fits { MatchOption result (SetsOnly (FitsSigned w64) op → ⊥) (λ _. SetsOnly (FitsSigned w64) op) }
 {
     match op {
         KeyedOp::Read(key, input) => Some(KeyedOp::Read(key, input)),
@@ -165,28 +144,26 @@ pub(crate) fn compact_held(held: &mut Held) -> Result<bool, Fault>
     ensures kind { kind_of (Some held.new) ≡ kind_of (Some held.old) }
     ensures set { set_of (Some held.new) ≡ set_of (Some held.old) }
     ensures store { OnOk result (IsStore (kind_of (Some held.old))) }
-    ensures told { IfErr result (IsStoreFault (kind_of (Some held.old))) }
+    ensures compacts { IfOk result (Compacts (Some held.old) (Some held.new)) }
+    ensures told { IfErr result (IsStoreFault (kind_of (Some held.old)) (RefusesCompaction (Some held.old) (Some held.new))) }
 {
-    let result = match held {
-        Held::Sums(store) => store.compact(),
-        Held::Maxima(store) => store.compact(),
-        Held::CappedSums(store) => store.compact(),
-        Held::Counts(store) => store.compact(),
-        Held::Cells(store) => store.compact(),
+    match held {
+        Held::Sums(store) => compact_store(store),
+        Held::Maxima(store) => compact_store(store),
+        Held::CappedSums(store) => compact_store(store),
+        Held::Counts(store) => compact_store(store),
+        Held::Cells(store) => compact_store(store),
         Held::SumPairs(_) | Held::MaxPairs(_) | Held::CountPairs(_) | Held::CellPairs(_) => {
-            return Err(Fault::NotAStore);
+            Err(Fault::NotAStore)
         }
-    };
-    match result {
-        Ok(has_cut) => Ok(has_cut),
-        Err(refused) => Err(Fault::Refused(refused)),
     }
 }
 
 /// How much a store holds.
 pub(crate) fn counts_held(held: &Held) -> Result<Counts, Fault>
     ensures counted { IfOk result (λ c. AreCounts (Some held.now) c.bytes c.evicted c.moments) }
-    ensures told { IfErr result (IsStoreFault (kind_of (Some held.now))) }
+    ensures store { OnOk result (counts_status (kind_of (Some held.now)) ≡ 0) }
+    ensures told { IfErr result (λ why. fault_number why ≡ counts_status (kind_of (Some held.now))) }
 {
     match held {
         Held::Sums(store) => Ok(store.counts()),
@@ -208,28 +185,29 @@ pub(crate) fn live_held(held: &mut Held) -> Result<Held, Fault>
     ensures kind { kind_of (Some held.new) ≡ kind_of (Some held.old) }
     ensures set { set_of (Some held.new) ≡ set_of (Some held.old) }
     ensures store { OnOk result (IsStore (kind_of (Some held.old))) }
-    ensures told { IfErr result (IsStoreFault (kind_of (Some held.old))) }
+    ensures unfailed { OnOk result (RefusesList (Some held.old) (Some held.new) NoMemory) }
+    ensures told { IfErr result (IsStoreFault (kind_of (Some held.old)) (RefusesList (Some held.old) (Some held.new))) }
 {
     match held {
-        Held::Sums(store) => match store.live() {
+        Held::Sums(store) => match list_store(store) {
             Ok(pairs) => Ok(Held::SumPairs(pairs)),
-            Err(refused) => Err(Fault::Refused(refused)),
+            Err(fault) => Err(fault),
         },
-        Held::Maxima(store) => match store.live() {
+        Held::Maxima(store) => match list_store(store) {
             Ok(pairs) => Ok(Held::MaxPairs(pairs)),
-            Err(refused) => Err(Fault::Refused(refused)),
+            Err(fault) => Err(fault),
         },
-        Held::CappedSums(store) => match store.live() {
+        Held::CappedSums(store) => match list_store(store) {
             Ok(pairs) => Ok(Held::SumPairs(pairs)),
-            Err(refused) => Err(Fault::Refused(refused)),
+            Err(fault) => Err(fault),
         },
-        Held::Counts(store) => match store.live() {
+        Held::Counts(store) => match list_store(store) {
             Ok(pairs) => Ok(Held::CountPairs(pairs)),
-            Err(refused) => Err(Fault::Refused(refused)),
+            Err(fault) => Err(fault),
         },
-        Held::Cells(store) => match store.live() {
+        Held::Cells(store) => match list_store(store) {
             Ok(pairs) => Ok(Held::CellPairs(pairs)),
-            Err(refused) => Err(Fault::Refused(refused)),
+            Err(fault) => Err(fault),
         },
         Held::SumPairs(_) | Held::MaxPairs(_) | Held::CountPairs(_) | Held::CellPairs(_) => {
             Err(Fault::NotAStore)
@@ -243,6 +221,7 @@ pub(crate) fn next_held(held: &mut Held) -> Result<Option<(Name, i128)>, Fault>
     ensures least { OnOk result (FirstIsLeast (pairs_of (Some held.old))) }
     ensures kind { kind_of (Some held.new) ≡ kind_of (Some held.old) }
     ensures cursor { OnOk result (kind_of (Some held.old) ≡ Cursor) }
+    ensures why { IfErr result (λ why. fault_number why ≡ next_status (kind_of (Some held.old))) }
     ensures same { IfErr result (λ why. held.new ≡ held.old) }
 {
     match held {

@@ -2,8 +2,8 @@
 //! script comes in and what it tells goes out.
 #![tactic(auto)]
 
-use std::process::ExitCode;
+use fkv_commands::{End, start};
 
-fn main(rt: HostRuntime) -> ExitCode {
-    fkv_commands::start(&rt, &rt.stdin(), &rt.stdout(), &rt.stderr())
+fn main(rt: HostRuntime) -> End {
+    start(&rt, &rt.stdin(), &rt.stdout(), &rt.stderr())
 }

@@ -25,4 +25,4 @@ pub use ending::end;
 pub use opening::{FeedFiles, Opener};
 pub use reporting::Report;
 pub use running::{Ended, run};
-pub use starting::start;
+pub use starting::{End, start};

@@ -1,14 +1,14 @@
 //! Opening feeds, and reading one that no thread can take.
 ghost use Rattle.std.specs.Prelude.{◌≡◌, ◌⊎◌, ◌<◌, ◌+◌, ℕ, List, Option, None, length, map, slice_index_or, [], string_bytes, IfOk, IfErr, IfSome, OnOk};
 ghost use Rattle.std.specs.List.{AllZip};
-ghost use Rattle.fkv_commands.specs.Sources.{said_of, Agrees};
+ghost use Rattle.fkv_commands.specs.Sources.{said_of, opened_of, Agrees};
 
 use fkv_functions::Refused;
 use fkv_meters::{Progress, ProgressSource};
 use fkv_streams::{CountedReader, Source};
 use std::alloc::Global;
 use std::fs::{self, Files};
-use std::io::{self, ErrorKind, Read};
+use std::io::ErrorKind;
 use std::marker::PhantomData;
 use std::rt::Stdin;
 
@@ -19,27 +19,32 @@ pub enum Feed<F, B> {
     Bytes(B),
 }
 
-/// A file, or standard input, which a thread can take as it takes a file.
+/// A feed in a file, or standard input, which a thread can take as it takes a file. Each counts its own failures, so that none is
+/// hidden.
 #[derive(Drop)]
-pub enum Opened<T> {
-    File(T),
-    Input(Stdin),
+pub enum Opened<F, I> {
+    File(F),
+    Input(I),
 }
 
-impl<T: Read> Read for Opened<T> {
-    fn read(&mut self, buf: &mut [u8]) -> io::Result<usize> {
+/// What is opened at a path.
+pub type OpenedFile<T> = Opened<CountedReader<T>, CountedReader<Stdin>>;
+
+/// A feed that tells how far it is where it was opened; the reader of the bytes has told it of the other.
+pub type FeedOf<'a, 'b, T, P> = Feed<ProgressSource<'a, OpenedFile<T>, P>, CountedReader<&'b [u8]>>;
+
+impl<F: Source, I: Source> Source for Opened<F, I> {
+    ghost remaining = { opened_of F.remaining I.remaining };
+
+    ghost failures = { opened_of F.failures I.failures };
+
+    fn read(&mut self, buf: &mut [u8]) -> Result<usize, Refused> {
         match self {
-            Opened::File(file) => file.read(buf),
-            Opened::Input(input) => input.read(buf),
+            Opened::File(source) => source.read(buf),
+            Opened::Input(source) => source.read(buf),
         }
     }
 }
-
-/// A feed that tells how far it is where it was opened; the reader of the bytes has told it of the other.
-pub type FeedOf<'a, 'b, T, P> = Feed<
-    ProgressSource<'a, CountedReader<Opened<T>>, P>,
-    CountedReader<&'b [u8]>,
->;
 
 impl<F: Source, B: Source> Source for Feed<F, B> {
     ghost remaining = { said_of F.remaining B.remaining };
@@ -110,17 +115,17 @@ fn open_at<H: Files>(
     input: Option<Stdin>,
     path: &str,
     number: u64,
-) -> Result<Opened<H::File>, Refused>
+) -> Result<OpenedFile<H::File>, Refused>
     ensures { IfErr result (λ e. (e ≡ Refused.NoMemory) ⊎ (e ≡ Refused.Unreadable number)) }
 {
     if path == "-" {
         return match input {
-            Some(input) => Ok(Opened::Input(input)),
+            Some(input) => Ok(Opened::Input(CountedReader::new(input))),
             None => Err(Refused::Unreadable { number }),
         };
     }
     match fs::open(files, path) {
-        Ok(file) => Ok(Opened::File(file)),
+        Ok(file) => Ok(Opened::File(CountedReader::new(file))),
         Err(error) => match error.kind() {
             ErrorKind::OutOfMemory => Err(Refused::NoMemory),
             _ => Err(Refused::Unreadable { number }),
@@ -138,7 +143,7 @@ impl<'a, 'b, H: Files, P: Progress> Opener for FeedFiles<'a, 'b, H, P> {
     fn open(&self, path: &str, number: u64) -> Result<FeedOf<'a, 'b, H::File, P>, Refused> {
         match open_at(self.files, self.input, path, number) {
             Ok(opened) => {
-                let feed = ProgressSource::new(CountedReader::new(opened), self.hook);
+                let feed = ProgressSource::new(opened, self.hook);
                 Ok(Feed::File(feed))
             }
             Err(refused) => Err(refused),

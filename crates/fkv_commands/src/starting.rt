@@ -10,11 +10,26 @@ use fkv_requests::words_of;
 use fkv_streams::{CountedReader, CountedWriter};
 use std::env::{self, Env};
 use std::fs::Files;
-use std::io::{self, IsTerminal};
-use std::process::ExitCode;
+use std::io::{self, Eprint, IsTerminal};
+use std::process::{ExitCode, Termination};
 use std::rt::{Clock, Stderr, Stdin, Stdout};
 use std::sync::Wait;
 use std::thread::Threads;
+
+/// The end of a program, with its status. [`start`] alone makes one, and nobody can let one go: so a `main` that calls it ends with
+/// that status.
+pub struct End {
+    status: ExitCode,
+}
+
+impl Termination for End {
+    fn report<R: Eprint>(self, _rt: &R) -> ExitCode
+        ensures { result ≡ self.status }
+    {
+        let End { status } = self;
+        status
+    }
+}
 
 /// Does what the process's own words ask for, with its own streams, and ends with [`end`]'s status: 0, 1
 /// or 2. A handle of the process can not read or print, so what goes where is told by the types of its streams.
@@ -23,14 +38,14 @@ pub fn start<R: Env + Files + AllocGlobal + Threads + Wait + Clock + Sync>(
     input: &Stdin,
     output: &Stdout,
     faults: &Stderr,
-) -> ExitCode
+) -> End
 where
     R::File: PageFile + Send,
     R::Dir: Send,
-    ensures { (exit_status result ≡ 0) ⊎ (exit_status result ≡ 1) ⊎ (exit_status result ≡ 2) }
+    ensures { (exit_status result.status ≡ 0) ⊎ (exit_status result.status ≡ 1) ⊎ (exit_status result.status ≡ 2) }
 {
     let hook: Telling<'_, R, Stderr> = Telling::new(rt, faults, faults.is_terminal());
-    end(
+    let status = end(
         rt,
         rt.alloc(),
         words_of(rt.alloc(), env::args(rt)),
@@ -39,5 +54,6 @@ where
         &mut CountedWriter::new(io::writer(faults)),
         &hook,
         &FeedFiles::new(rt, &hook).with_input(*input),
-    )
+    );
+    End { status }
 }

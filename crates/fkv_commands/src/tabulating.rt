@@ -1,5 +1,5 @@
 //! Making tables of feeds, and writing them.
-ghost use Rattle.std.specs.Prelude.{◌≡◌, ◌≢◌, ◌⊎◌, ◌||◌, ◌∷◌, [], List, Err, None, true, length, option_map, string_bytes, if◌then◌else◌, IfOk, IfErr, IsTrue, OnOk};
+ghost use Rattle.std.specs.Prelude.{◌≡◌, ◌≢◌, ◌⊎◌, ◌||◌, ◌^◌, ◌<◌, ◌∷◌, [], List, Err, None, true, length, option_map, string_bytes, if◌then◌else◌, IfOk, IfErr, IfSome, IsTrue, OnOk};
 ghost use Rattle.std.specs.Io.KnownBytes.{Appends};
 ghost use Rattle.fkv_functions.specs.declared.names.Name.{Name};
 ghost use Rattle.fkv_either.specs.Either.{is_absent};
@@ -107,7 +107,7 @@ where
     run_with::<R, F, _, H, P, O>(rt, alloc, table, functions, reader, device, opener)
 }
 
-/// The folder that is named, as a device; `None` where none is. Refused: `NoMemory`.
+/// The folder that is named, as a device whose pages have the size that is asked for; `None` where none is. Refused: `NoMemory`.
 fn folder_of<'a, H: Files>(
     rt: &'a H,
     alloc: Global,
@@ -115,6 +115,8 @@ fn folder_of<'a, H: Files>(
 ) -> Result<Option<FileDevice<&'a H>>, Refused>
     ensures ok { IfOk result (λ folder. option_map string_bytes table.now.folder ≡ None → IsTrue (is_absent folder)) }
     ensures named { IfOk result (λ folder. IsTrue (is_absent folder) → option_map string_bytes table.now.folder ≡ None) }
+    ensures bits { IfOk result (λ folder. table.now.config.page_bits < 2 ^ 32
+        → IfSome folder (λ device. device.page_bits ≡ table.now.config.page_bits)) }
     ensures only { IfErr result (λ e. e ≡ Refused.NoMemory) }
 {
     let Some(folder) = &table.folder else {

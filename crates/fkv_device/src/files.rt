@@ -86,8 +86,9 @@ fn digest_of(bytes: &[u8]) -> [u8; 32]
     hasher.finalize()
 }
 
-/// Writes pages of `2^page_bits` bytes to a file: page n at place n, or at that of a page that was dropped. It has the
-/// numbers below 2^64 - 1 for its receipts.
+/// Writes pages of `2^page_bits` bytes to a file: page n at place n, until one is dropped; from then on at the place of a page that was
+/// dropped, or, where none is free, at the file's end. So the file is as long as the log has been, and no longer. It has the numbers
+/// below 2^64 - 1 for its receipts.
 #[derive(Drop)]
 pub struct FileWriter<F: PageFile> {
     partition: u64,
@@ -101,6 +102,8 @@ pub struct FileWriter<F: PageFile> {
     free: VecDeque<u64>,
     /// Where a page stands that was given such a place; each other page stands at its own.
     moved: BTreeMap<u64, u64>,
+    /// The file's end: the places below this one have been taken.
+    end: u64,
 }
 
 impl<F: PageFile> FileWriter<F> {
@@ -119,11 +122,12 @@ impl<F: PageFile> FileWriter<F> {
             dropped: 0,
             free: VecDeque::new(alloc),
             moved: BTreeMap::new(alloc),
+            end: 0,
         }
     }
 
-    /// Where a page stands or is to stand, `None` where it was dropped: at the place that it was given, else at one that is
-    /// free, else at its own. Refused: `NoMemory`.
+    /// Where a page stands or is to stand, `None` where it was dropped: at the place that it was given; or at its own, where no page
+    /// was dropped; or at one that is free, else at the file's end. Refused: `NoMemory`.
     fn place_of(&mut self, page: u64) -> Result<Option<u64>, Refused>
         ensures same_part { self.new.partition ≡ self.old.partition }
         ensures next { self.new.next ≡ self.old.next }
@@ -137,13 +141,17 @@ impl<F: PageFile> FileWriter<F> {
         if let Some(place) = self.moved.get(&page) {
             return Ok(Some(*place));
         }
-        let Some(place) = self.free.front().copied() else {
+        if self.dropped == 0 {
+            self.end = self.end.max(page.saturating_add(1));
             return Ok(Some(page));
-        };
+        }
+        let place = self.free.front().copied().unwrap_or(self.end);
         let Ok(_) = self.moved.insert(page, place) else {
             return Err(Refused::NoMemory);
         };
-        self.free.pop_front();
+        if self.free.pop_front().is_none() {
+            self.end = self.end.saturating_add(1);
+        }
         Ok(Some(place))
     }
 

@@ -1,5 +1,5 @@
 //! Pages on their way to a device and back.
-ghost use Rattle.std.specs.Prelude.{◌≡◌, ◌≢◌, ◌+◌, length, IsTrue, IfOk, IfErr, OnOk};
+ghost use Rattle.std.specs.Prelude.{◌≡◌, ◌≢◌, ◌+◌, ◌≤◌, length, IsTrue, IfOk, IfErr, OnOk};
 ghost use Rattle.fkv_functions.specs.declared.refusals.Refused.TheVariants as refused;
 ghost use Rattle.fkv_device.specs.Failing.{FailsOnlyBy, ReadFailsBy};
 
@@ -127,6 +127,7 @@ impl<R: Receipt> Loaded<R> {
         ensures counted { IfErr result
             (ReadFailsBy (R.stands receipt.now).page (P.failures reader.old)
             (P.failures reader.new)) }
+        ensures once { P.reads reader.new ≤ P.reads reader.old + 1 }
         ensures caused { IfErr result (λ e. e ≢ refused.NoMemory → P.can_fail receipt.now size) }
     {
         let kept = receipt.again()?;

@@ -1,5 +1,5 @@
 //! What writes pages and what reads them.
-ghost use Rattle.std.specs.Prelude.{◌≡◌, ◌≢◌, ◌+◌, ℕ, length, IsTrue, IfOk, IfErr, OnOk};
+ghost use Rattle.std.specs.Prelude.{◌≡◌, ◌≢◌, ◌+◌, ◌≤◌, ℕ, length, IsTrue, IfOk, IfErr, OnOk};
 ghost use Rattle.fkv_functions.specs.declared.refusals.Refused.TheVariants as refused;
 ghost use Rattle.fkv_device.specs.Failing.{FailsOnlyBy, ReadFailsBy};
 
@@ -58,6 +58,10 @@ pub trait PageReader: Drop {
     /// The number of the partition whose pages it reads.
     ghost part: { Self → ℕ };
 
+    /// How many pages it was asked for, by any count that a call raises by one at most: what is bounded by it takes so many calls at
+    /// most.
+    ghost reads: { Self → ℕ } = { λ _. 0 };
+
     /// What holds of a receipt and a number of bytes wherever a read of so many bytes by it comes to a fault.
     ghost can_fail: { Self.Receipt → ℕ → Type 0 };
 
@@ -76,5 +80,6 @@ pub trait PageReader: Drop {
         ensures steady { OnOk result (failures self.new ≡ failures self.old) }
         ensures counted { IfErr result (ReadFailsBy (Self.Receipt.stands receipt.now).page
             (failures self.old) (failures self.new)) }
+        ensures once { reads self.new ≤ reads self.old + 1 }
         ensures caused { IfErr result (λ e. e ≢ refused.NoMemory → can_fail receipt.now size) };
 }

@@ -27,6 +27,9 @@ impl<R: PageReader, K: Keeping> PageReader for EitherReader<R, K> {
 
     ghost part = { λ r. part_at ⟦<MemoryReader as PageReader>⟧.part R.part r.memory r.other };
 
+    // those that the other device was asked for
+    ghost reads = { λ r. failures_of R.reads r.other };
+
     ghost can_fail = { λ r size. CanFailToRead ⟦<MemoryReader as PageReader>⟧.can_fail r.either size };
 
     fn read(

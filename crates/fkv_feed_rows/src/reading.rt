@@ -38,6 +38,7 @@ fn add_rows<R: Read, K: RowSink>(
         → (rows : List (Name × ℤ)) × AreRowsIn limit (source_of R.remaining reader.old) rows
         × K.stands sink.new (before ++ rows) × (count ≡ length rows)) }
     ensures within { IfOk result (λ count. count ≤ limit) }
+    ensures kept { K.kept sink.new ≡ K.kept sink.old }
     ensures told { IfErr result (λ e. K.fault e ⊎ TellsOf feed limit (source_of R.remaining reader.old) e) }
 {
     let mut fields = ByteRecord::new(alloc);
@@ -82,6 +83,7 @@ fn read_lent<'a, S: Source, B: Since, K: RowSink>(
         → (rows : List (Name × ℤ)) × IsFeed limit (S.remaining source.old) rows
         × K.stands sink.new (before ++ rows) × (count ≡ length rows)) }
     ensures within { IfOk result.told (λ count. count ≤ limit) }
+    ensures kept { K.kept sink.new ≡ K.kept sink.old }
     ensures told { IfErr result.told
         (λ e. K.fault e ⊎ TellsOf feed limit (option_map without_mark (S.remaining source.old)) e) }
 {
@@ -119,6 +121,7 @@ pub fn read_feed<S: Source, K: RowSink>(
         × K.stands sink.new (before ++ rows) × (count ≡ length rows)) }
     ensures within { IfOk result (λ count. count ≤ limit) }
     ensures steady { OnOk result (S.failures source.new ≡ S.failures source.old) }
+    ensures kept { K.kept sink.new ≡ K.kept sink.old }
     ensures told { IfErr result (λ e. (K.fault e × (S.failures source.new ≡ S.failures source.old))
         ⊎ TellsUnread feed limit (S.remaining source.old) (S.failures source.old) (S.failures source.new) e) }
 {

@@ -1,5 +1,5 @@
 -- Feeds that are read one after the other.
-use Rattle.std.proofs.Common.{◌≡◌, Bool, ◌⊎◌, ℕ, zero, suc, ◌+◌, ◌-◌, inl, inr, ℤ, List, [], ◌∷◌, ◌++◌, length, map, take, drop, Option, Some, slice_get, slice_set, get_or, refl, sym, ◌∙◌, ap, subst, arith, append_assoc}
+use Rattle.std.proofs.Common.{◌≡◌, Bool, IsTrue, ◌⊎◌, ℕ, zero, suc, ◌+◌, ◌-◌, inl, inr, ℤ, List, [], ◌∷◌, ◌++◌, length, map, take, drop, Option, Some, slice_get, slice_set, get_or, refl, sym, ◌∙◌, ap, subst, arith, append_assoc}
 use Rattle.std.proofs.lemmas.List.{append-nil}
 use Rattle.std.specs.Prelude.{slice_index}
 use Rattle.fkv_functions.specs.declared.names.Name.{Name}
@@ -13,6 +13,7 @@ use Rattle.fkv_partition.specs.declared.limits.Config.{Config}
 use Rattle.std.specs.declared.cmp.Ordering.{Ordering}
 use Rattle.fkv_device.specs.Failing.{FailsOnlyBy, ReadFailsBy}
 use Rattle.fkv_hybrid.specs.Scans.{IsScanRefusal}
+use Rattle.fkv_local.specs.Causing.{IsCausedBy}
 use Rattle.fkv_local.specs.Listing.{ListsView, IsUnlisted}
 use Rattle.fkv_partition.specs.Views.{PartitionView}
 use Rattle.fkv_feeds.specs.Faults.{IsFault, IsDeviceFault}
@@ -195,16 +196,16 @@ faults-by keeps w w' r r' e (IsFault.unwritten page f s) = elim f [ inl a ↦ in
 faults-by keeps w w' r r' e (IsFault.unread page f s) = reads-by page r r' e f
 faults-by keeps w w' r r' e (IsFault.misspelled page s d a b) = inr (inr (page, d))
 
-pub devices-by : {D W R : Type 0} (keeps : Bool) (opens : D → ℕ) (writes : W → ℕ) (reads : R → ℕ) (e : Refused) → IsDeviceFault keeps opens writes reads e → IsOfDevice e
+pub devices-by : {D W R A B : Type 0} (keeps : Bool) (opens : D → ℕ) (writes : W → ℕ) (reads : R → ℕ) (e : Refused) → IsDeviceFault keeps opens writes reads A B e → IsOfDevice e
 devices-by keeps opens writes reads e (IsDeviceFault.unopened old new f) = opens-by (opens old) (opens new) e f
-devices-by keeps opens writes reads e (IsDeviceFault.unworked old new before now f) = faults-by keeps (writes old) (writes new) (reads before) (reads now) e f
-devices-by keeps opens writes reads e (IsDeviceFault.unlisted low flushed before now f) = scans-by keeps low flushed (reads before) (reads now) e f
+devices-by keeps opens writes reads e (IsDeviceFault.unworked old new before now f caused) = faults-by keeps (writes old) (writes new) (reads before) (reads now) e f
+devices-by keeps opens writes reads e (IsDeviceFault.unlisted low flushed before now f caused) = scans-by keeps low flushed (reads before) (reads now) e f
 
 -- for want of memory at the end a run is refused as where its device is not opened for it
-pub ended-by : {D W R L M I : Type 0} (keeps : Bool) (opens : D → ℕ) (writes : W → ℕ) (reads : R → ℕ) (device : D) (e : Refused)
-    → (e ≡ NoMemory) ⊎ ((was : ListsView L M I R) × (readers : List R) × IsUnlisted keeps reads was.parts was.readers readers e) → IsDeviceFault keeps opens writes reads e
+pub ended-by : {D W R L M I A B : Type 0} (keeps : Bool) (opens : D → ℕ) (writes : W → ℕ) (reads : R → ℕ) (device : D) (e : Refused)
+    → (e ≡ NoMemory) ⊎ ((was : ListsView L M I R) × (readers : List R) × IsUnlisted keeps reads was.parts was.readers readers e × (IsTrue keeps → IsCausedBy A B e)) → IsDeviceFault keeps opens writes reads A B e
 ended-by keeps opens writes reads device e (inl none) = IsDeviceFault.unopened device device (inl (none, refl))
-ended-by keeps opens writes reads device e (inr h) = IsDeviceFault.unlisted _ _ h.2.1.reader h.2.1.reader_now h.2.1.refused
+ended-by keeps opens writes reads device e (inr h) = IsDeviceFault.unlisted _ _ h.2.1.reader h.2.1.reader_now h.2.1.refused h.3
 
 -- ---- what several clauses say of one result
 pub two_ok : {A E P Q R : Type 0} (r : Result A E) → OnOk r P → OnOk r Q → (P → Q → R) → OnOk r R

@@ -1,5 +1,6 @@
 -- What a store stands for, before the first row and after one more.
-use Rattle.std.proofs.Common.{◌≡◌, Bool, true, false, cond, List, [], ◌∷◌, ◌++◌, map, Option, Some, None, Ok, IsTrue, inl, inr, refl, sym, ◌∙◌, ap, ℤ, ℕ}
+use Rattle.std.proofs.Common.{◌≡◌, Bool, true, false, cond, List, [], ◌∷◌, ◌++◌, ◌&&◌, map, Option, Some, None, Ok, IsTrue, inl, inr, refl, sym, ◌∙◌, ap, ℤ, ℕ}
+use Rattle.std.proofs.lemmas.Bool.{and_parts}
 use Rattle.std.proofs.lemmas.List.{map-append, append-nil}
 use Rattle.std.proofs.lemmas.List.Elements.{filter-append}
 use Rattle.std.proofs.lemmas.List.Sums.{fold-append}
@@ -18,7 +19,12 @@ use Rattle.fkv_operations.specs.AfterLaws.{same_map}
 use Rattle.fkv_operations.specs.declared.operations.Answer.{Answer}
 use Rattle.fkv_operations.specs.declared.operations.KeyedOp.TheVariants.{Rmw}
 use Rattle.fkv_partition.proofs.UnionLemmas.{is_at-turned}
-use Rattle.fkv_local.specs.Storing.{StoreView, plain, IsRun, IsUpdateRun}
+use Rattle.fkv_local.specs.Storing.{StoreView, plain, IsRun, IsUpdateRun, SameTerms}
+use Rattle.fkv_partition.specs.declared.limits.Config.{Config}
+use Rattle.fkv_feeds.specs.declared.modes.RowMode.{RowMode}
+use Rattle.fkv_feeds.specs.declared.modes.RowMode.TheVariants as modes
+use Rattle.fkv_feeds.specs.Keeping.{kept_of, unread_in}
+use Rattle.fkv_local.specs.Causing.{IsCausedBy}
 use Rattle.fkv_local.specs.Failures.{Failures, failures_of}
 use Rattle.fkv_local.specs.Refusing.{IsWorkRefusal, IsRefusal, IsStopped}
 use Rattle.fkv_feeds.specs.Faults.{IsFault, IsDeviceFault}
@@ -84,19 +90,35 @@ module _ {V O W P : Type 0} (keeps : Bool) (f : Meanings Name V ℤ O) (code : N
   stands-update s t rows k i a ran stand = stands-more s t rows k i stand (λ kept. elim (ran kept) [ inl r ↦ r.0 | inr r ↦ r.0 ])
 
 -- ---- why a row is refused
-module _ {D W P : Type 0} {keeps : Bool} {e : Refused} (opens : D → ℕ) (writes : W → ℕ) (reads : P → ℕ) where
-  work-row : (w w_now : W) (p p_now : P) {tail clock : ℕ} → IsWorkRefusal keeps tail clock (failures_of writes reads w p) (failures_of writes reads w_now p_now) e → IsRowRefusal (IsDeviceFault keeps opens writes reads) e
+module _ {D W P A B : Type 0} {keeps : Bool} {e : Refused} (opens : D → ℕ) (writes : W → ℕ) (reads : P → ℕ) (caused : IsTrue keeps → IsCausedBy A B e) where
+  work-row : (w w_now : W) (p p_now : P) {tail clock : ℕ} → IsWorkRefusal keeps tail clock (failures_of writes reads w p) (failures_of writes reads w_now p_now) e → IsRowRefusal (IsDeviceFault keeps opens writes reads A B) e
   work-row w w_now p p_now (IsWorkRefusal.no_memory a s) = inl a
-  work-row w w_now p p_now (IsWorkRefusal.unwritten page a s) = inr (inr (IsDeviceFault.unworked w w_now p p_now (IsFault.unwritten page a s)))
-  work-row w w_now p p_now (IsWorkRefusal.unread page a s) = inr (inr (IsDeviceFault.unworked w w_now p p_now (IsFault.unread page a s)))
-  work-row w w_now p p_now (IsWorkRefusal.misspelled page a b s) = inr (inr (IsDeviceFault.unworked w w_now p p_now (IsFault.misspelled page a b (ap (λ (f : Failures). f.writes) s) (ap (λ (f : Failures). f.reads) s))))
+  work-row w w_now p p_now (IsWorkRefusal.unwritten page a s) = inr (inr (IsDeviceFault.unworked w w_now p p_now (IsFault.unwritten page a s) caused))
+  work-row w w_now p p_now (IsWorkRefusal.unread page a s) = inr (inr (IsDeviceFault.unworked w w_now p p_now (IsFault.unread page a s) caused))
+  work-row w w_now p p_now (IsWorkRefusal.misspelled page a b s) = inr (inr (IsDeviceFault.unworked w w_now p p_now (IsFault.misspelled page a b (ap (λ (f : Failures). f.writes) s) (ap (λ (f : Failures). f.reads) s)) caused))
   work-row w w_now p p_now (IsWorkRefusal.no_address a t s) = inr (inl a)
   work-row w w_now p p_now (IsWorkRefusal.no_moment a t s) = inr (inl a)
 
-module _ {K V I D W P : Type 0} {keeps merges : Bool} {k : K} {i : I} {e : Refused} (opens : D → ℕ) (writes : W → ℕ) (reads : P → ℕ) where
-  stopped-row : (w w_now : W) (p p_now : P) {tail clock : ℕ} → IsStopped {V = V} keeps merges (Rmw k i) tail clock (failures_of writes reads w p) (failures_of writes reads w_now p_now) e → IsRowRefusal (IsDeviceFault keeps opens writes reads) e
-  stopped-row w w_now p p_now (IsStopped.unworked h) = work-row opens writes reads w w_now p p_now h
+module _ {K V I D W P : Type 0} {keeps merges : Bool} {k : K} {i : I} {e : Refused} {A B : Type 0} (opens : D → ℕ) (writes : W → ℕ) (reads : P → ℕ) (caused : IsTrue keeps → IsCausedBy A B e) where
+  stopped-row : (w w_now : W) (p p_now : P) {tail clock : ℕ} → IsStopped {V = V} keeps merges (Rmw k i) tail clock (failures_of writes reads w p) (failures_of writes reads w_now p_now) e → IsRowRefusal (IsDeviceFault keeps opens writes reads A B) e
+  stopped-row w w_now p p_now (IsStopped.unworked h) = work-row opens writes reads caused w w_now p p_now h
   stopped-row w w_now p p_now (IsStopped.unmerged a m n s) = absurd (cc)
 
-  pub refused-row : {code : K → ℕ} {old new : StoreView K V I W P} → IsRefusal keeps merges code writes reads old new (Rmw k i) e → IsRowRefusal (IsDeviceFault keeps opens writes reads) e
+  pub refused-row : {code : K → ℕ} {old new : StoreView K V I W P} → IsRefusal keeps merges code writes reads old new (Rmw k i) e → IsRowRefusal (IsDeviceFault keeps opens writes reads A B) e
   refused-row h = stopped-row h.refused.writer_then h.writer_now h.refused.reader_then h.reader_now h.refused.stopped
+
+-- ---- what a row leaves of the store of a run
+module _ {K V I W P : Type 0} (merges : Bool) (old new : StoreView K V I W P) where
+  none-read : (b : Bool) (mode : RowMode) → (mode ≡ modes.Merge → b ≡ true → new.readers ≡ old.readers) → unread_in b mode new.readers ≡ unread_in b mode old.readers
+  none-read b modes.Update same = refl
+  none-read true modes.Merge same = ap Some (same refl refl)
+  none-read false modes.Merge same = refl
+
+  pub row-keeps : (mode mode_now : RowMode) → mode_now ≡ mode → SameTerms old new → (IsTrue merges → mode ≡ modes.Merge → IsTrue old.keeps_log → new.readers ≡ old.readers)
+      → kept_of merges mode_now new ≡ kept_of merges mode old
+  row-keeps mode mode_now same terms unread =
+      ap (λ (m : RowMode). kept_of merges m new) same
+      ∙ ap (λ (c : Config). record { config = c; mode = mode; keeps_log = new.keeps_log; unread = unread_in (merges && new.keeps_log) mode new.readers }) terms.1
+      ∙ ap (λ (b : Bool). record { config = old.config; mode = mode; keeps_log = b; unread = unread_in (merges && b) mode new.readers }) terms.0
+      ∙ ap (λ (u : Option (List P)). record { config = old.config; mode = mode; keeps_log = old.keeps_log; unread = u })
+      (none-read (merges && old.keeps_log) mode (λ merge both. let parts = and_parts merges old.keeps_log both in unread parts.0 merge parts.1))

@@ -2,3 +2,4 @@ pub mod Tables
 pub mod Writing
 pub mod Refusing
 pub mod Faults
+pub mod Keeping

@@ -3,10 +3,14 @@ ghost use Rattle.std.specs.Prelude.{◌≡◌, ◌≤◌, ◌++◌, ◌∷◌, [
 ghost use Rattle.fkv_functions.specs.declared.names.Name.{Name};
 ghost use Rattle.fkv_functions.specs.Names.{name_cmp};
 ghost use Rattle.fkv_feed_rows.specs.Feeds.{IsFeed, TellsWhy};
+ghost use Rattle.fkv_local.specs.Storing.{SameTerms};
+ghost use Rattle.fkv_alone.specs.Causes.{CanFailToRead, CanFailToWrite};
 ghost use Rattle.fkv_feeds.specs.Faults.{IsDeviceFault};
+ghost use Rattle.fkv_feeds.specs.Keeping.{KeptOf, kept_of};
 ghost use Rattle.fkv_feeds.specs.Refusing.{IsRowRefusal};
 ghost use Rattle.fkv_feeds.specs.Tables.{StandsFor};
 
+use crate::counting::Plan;
 use crate::modes::RowMode;
 use fkv_device::Disk;
 use fkv_feed_rows::RowSink;
@@ -15,11 +19,24 @@ use fkv_local::LocalStore;
 use fkv_streams::Source;
 use std::alloc::Global;
 
-/// The store of a run, and how each row is made an update of it.
+/// The store of a run, and how each row is made an update of it: the plan of a run is read off it.
 #[derive(Drop)]
 pub struct RowStore<F: Mergeable, D: Disk> {
     pub store: LocalStore<F, D>,
     pub mode: RowMode,
+}
+
+impl<F: Mergeable<Key = Name, Input = i64>, D: Disk> RowStore<F, D> {
+    /// How a table is made with it, by one worker.
+    pub fn plan(&self) -> Plan
+        ensures { result ≡ record { config = self.now.store.config; mode = self.now.mode; workers = 1 } }
+    {
+        Plan {
+            config: *self.store.config(),
+            mode: self.mode,
+            workers: 1,
+        }
+    }
 }
 
 /// Makes a row an update of the store. Where rows are made merges, the functions merge and the logs are kept whole, no page is read.
@@ -31,10 +48,11 @@ fn add_row<F: Mergeable<Key = Name, Input = i64>, D: Disk>(
 ) -> Result<(), Refused>
     ensures ok { OnOk result ((before : List (Name × ℤ)) → StandsFor D.Receipt.keeps F.meaning F.code rows.old.store before
         → StandsFor D.Receipt.keeps F.meaning F.code rows.new.store (before ++ (key.now, amount) ∷ [])) }
-    ensures told { IfErr result (IsRowRefusal (IsDeviceFault D.Receipt.keeps D.failures D.Writer.failures D.Reader.failures)) }
+    ensures told { IfErr result (IsRowRefusal (IsDeviceFault D.Receipt.keeps D.failures D.Writer.failures D.Reader.failures
+        (CanFailToWrite D.Writer.next D.Writer.can_fail) (CanFailToRead D.Receipt.stands D.Reader.can_fail))) }
     ensures unread { IsTrue F.MERGES → rows.old.mode ≡ RowMode.Merge → IsTrue rows.old.store.keeps_log
         → rows.new.store.readers ≡ rows.old.store.readers }
-    ensures same_log { rows.old.mode ≡ RowMode.Merge → rows.new.store.keeps_log ≡ rows.old.store.keeps_log }
+    ensures same_terms { SameTerms rows.old.store rows.new.store }
     ensures same_mode { rows.new.mode ≡ rows.old.mode }
 {
     match rows.mode {
@@ -52,7 +70,12 @@ fn add_row<F: Mergeable<Key = Name, Input = i64>, D: Disk>(
 impl<F: Mergeable<Key = Name, Input = i64>, D: Disk> RowSink for RowStore<F, D> {
     ghost stands = { λ s rows. StandsFor D.Receipt.keeps F.meaning F.code s.store rows };
 
-    ghost fault = { IsRowRefusal (IsDeviceFault D.Receipt.keeps D.failures D.Writer.failures D.Reader.failures) };
+    ghost Kept = { KeptOf D.Reader };
+
+    ghost kept = { λ s. kept_of F.MERGES s.mode s.store };
+
+    ghost fault = { IsRowRefusal (IsDeviceFault D.Receipt.keeps D.failures D.Writer.failures D.Reader.failures
+        (CanFailToWrite D.Writer.next D.Writer.can_fail) (CanFailToRead D.Receipt.stands D.Reader.can_fail)) };
 
     fn add(&mut self, key: &Name, amount: i64) -> Result<(), Refused> {
         add_row(self, key, amount)
@@ -79,10 +102,11 @@ pub fn read_feed<S: Source, F: Mergeable<Key = Name, Input = i64>, D: Disk>(
         → (read : List (Name × ℤ)) × IsFeed limit (S.remaining source.old) read
         × StandsFor D.Receipt.keeps F.meaning F.code rows.new.store (before ++ read) × (count ≡ length read)) }
     ensures within { IfOk result (λ count. count ≤ limit) }
+    ensures kept { kept_of F.MERGES rows.new.mode rows.new.store ≡ kept_of F.MERGES rows.old.mode rows.old.store }
     ensures steady { OnOk result (S.failures source.new ≡ S.failures source.old) }
     ensures told { IfErr result
-        (TellsWhy (IsDeviceFault D.Receipt.keeps D.failures D.Writer.failures
-        D.Reader.failures)
+        (TellsWhy (IsDeviceFault D.Receipt.keeps D.failures D.Writer.failures D.Reader.failures
+        (CanFailToWrite D.Writer.next D.Writer.can_fail) (CanFailToRead D.Receipt.stands D.Reader.can_fail))
         feed limit (S.remaining source.old) (S.failures source.old) (S.failures source.new)) }
 {
     fkv_feed_rows::read_feed(alloc, source, feed, limit, rows)

@@ -8,12 +8,15 @@ ghost use Rattle.fkv_functions.specs.declared.names.Name.{Name};
 ghost use Rattle.fkv_records.specs.Records.{size_of};
 ghost use Rattle.fkv_device.specs.Failing.{FailsOnlyBy};
 ghost use Rattle.fkv_partition.specs.Limits.{IsWithinLimits};
+ghost use Rattle.fkv_alone.specs.Causes.{CanFailToRead, CanFailToWrite};
 ghost use Rattle.fkv_feeds.specs.Faults.{IsDeviceFault};
+ghost use Rattle.fkv_feeds.specs.Keeping.{kept_of};
 ghost use Rattle.fkv_feeds.specs.Tables.{IsTableOf, AreFeeds, HaveRows, StandsFor, amounts_of, folded, most_rows};
 ghost use Rattle.fkv_feeds.specs.Refusing.{IsRunnable, TellsStopped, TellsWhyNone};
+ghost use Rattle.fkv_local.specs.Causing.{IsCausedBy};
 ghost use Rattle.fkv_local.specs.Listing.{ListsView, IsUnlisted};
 
-use crate::counting::{Counts, Plan, Run};
+use crate::counting::{Counts, Run};
 use crate::modes::RowMode;
 use crate::reading::{RowStore, read_feed};
 use crate::tabling::table_of;
@@ -42,6 +45,7 @@ fn opened<F: Mergeable<Key = Name, Input = i64>, D: Disk>(
     ensures stands { IfOk result (λ rows. StandsFor D.Receipt.keeps F.meaning F.code rows.store []) }
     ensures kept { IfOk result (λ rows. mode ≡ RowMode.Merge → IsTrue rows.store.keeps_log) }
     ensures mode { IfOk result (λ rows. rows.mode ≡ mode) }
+    ensures configured { IfOk result (λ rows. rows.store.config ≡ config.now) }
     ensures told { IfErr result (FailsOnlyBy 1 0 (D.failures device.old) (D.failures device.new)) }
 {
     let mut store = match LocalStore::open(alloc, config, functions, device) {
@@ -55,24 +59,28 @@ fn opened<F: Mergeable<Key = Name, Input = i64>, D: Disk>(
     Ok(RowStore { store, mode })
 }
 
-/// The run that a store stands for at its end, over so many rows. Refused: `NoMemory`, and as a device refuses pages.
+/// The run that a store stands for at its end, over so many rows, by the plan that is read off the store. Refused: `NoMemory`, and as
+/// a device refuses pages.
 fn finish<F: Mergeable<Key = Name, Input = i64>, D: Disk>(
     alloc: Global,
-    store: LocalStore<F, D>,
+    store: RowStore<F, D>,
     rows: u64,
-    plan: Plan,
 ) -> Result<Run<F::Value>, Refused>
     ensures value { IsTrue D.Receipt.keeps → IfOk result (λ run. (rows : List (Name × ℤ))
-        → StandsFor D.Receipt.keeps F.meaning F.code store rows
+        → StandsFor D.Receipt.keeps F.meaning F.code store.store rows
         → (k : Name) → lookup (is_at (name_cmp k)) run.table ≡ folded F.meaning k (amounts_of name_cmp k rows)) }
     ensures rising { IfOk result (λ run. IsStrictlySortedBy name_cmp (keys_of run.table)) }
     ensures counted { IfOk result (λ run. run.counts.rows ≡ rows) }
-    ensures planned { IfOk result (λ run. run.plan ≡ plan) }
+    ensures planned { IfOk result
+        (λ run. run.plan ≡ record { config = store.store.config; mode = store.mode; workers = 1 }) }
     ensures told { IfErr result (λ e. (e ≡ Refused.NoMemory) ⊎ ((was : ListsView Name F.Value ℤ D.Reader) × (readers : List D.Reader)
-        × IsUnlisted D.Receipt.keeps D.Reader.failures was.parts was.readers readers e)) }
+        × IsUnlisted D.Receipt.keeps D.Reader.failures was.parts was.readers readers e
+        × (IsTrue D.Receipt.keeps → IsCausedBy (CanFailToWrite D.Writer.next D.Writer.can_fail)
+        (CanFailToRead D.Receipt.stands D.Reader.can_fail) e))) }
 {
-    let appended = store.counts().records;
-    let table = match table_of(alloc, store.into_lists()) {
+    let plan = store.plan();
+    let appended = store.store.counts().records;
+    let table = match table_of(alloc, store.store.into_lists()) {
         Ok(table) => table,
         Err(refused) => return Err(refused),
     };
@@ -96,9 +104,10 @@ fn read_feeds<S: Source, F: Mergeable<Key = Name, Input = i64>, D: Disk>(
     requires stands { StandsFor D.Receipt.keeps F.meaning F.code store.old.store [] }
     ensures ok { IfOk result (λ count. (rows : List (Name × ℤ)) × AreFeeds most_rows (map S.remaining feeds.old) rows
         × StandsFor D.Receipt.keeps F.meaning F.code store.new.store rows × (count ≡ length rows)) }
+    ensures kept { kept_of F.MERGES store.new.mode store.new.store ≡ kept_of F.MERGES store.old.mode store.old.store }
     ensures steady { OnOk result (map S.failures feeds.new ≡ map S.failures feeds.old) }
-    ensures told { IfErr result (TellsStopped (IsDeviceFault D.Receipt.keeps D.failures D.Writer.failures
-        D.Reader.failures)
+    ensures told { IfErr result (TellsStopped (IsDeviceFault D.Receipt.keeps D.failures D.Writer.failures D.Reader.failures
+        (CanFailToWrite D.Writer.next D.Writer.can_fail) (CanFailToRead D.Receipt.stands D.Reader.can_fail))
         (map S.remaining feeds.old) (map S.failures feeds.old)
         (map S.failures feeds.new)) }
 {
@@ -141,8 +150,8 @@ pub fn run_one<S: Source, F: Mergeable<Key = Name, Input = i64>, D: Disk>(
     ensures steady { OnOk result (map S.failures feeds.new ≡ map S.failures feeds.old) }
     ensures good { result ≢ Err Refused.BadConfig
         → IsRunnable config.now (size_of 32 F.Value.SIZE) (length feeds.old) }
-    ensures told { IfErr result (TellsWhyNone (IsDeviceFault D.Receipt.keeps D.failures D.Writer.failures
-        D.Reader.failures)
+    ensures told { IfErr result (TellsWhyNone (IsDeviceFault D.Receipt.keeps D.failures D.Writer.failures D.Reader.failures
+        (CanFailToWrite D.Writer.next D.Writer.can_fail) (CanFailToRead D.Receipt.stands D.Reader.can_fail))
         config.now (size_of 32 F.Value.SIZE) (map S.remaining feeds.old)
         (map S.failures feeds.old) (map S.failures feeds.new)) }
 {
@@ -170,8 +179,8 @@ pub fn run_one_by<S: Source, F: Mergeable<Key = Name, Input = i64>, D: Disk>(
     ensures steady { OnOk result (map S.failures feeds.new ≡ map S.failures feeds.old) }
     ensures good { result ≢ Err Refused.BadConfig
         → IsRunnable config.now (size_of 32 F.Value.SIZE) (length feeds.old) }
-    ensures told { IfErr result (TellsWhyNone (IsDeviceFault D.Receipt.keeps D.failures D.Writer.failures
-        D.Reader.failures)
+    ensures told { IfErr result (TellsWhyNone (IsDeviceFault D.Receipt.keeps D.failures D.Writer.failures D.Reader.failures
+        (CanFailToWrite D.Writer.next D.Writer.can_fail) (CanFailToRead D.Receipt.stands D.Reader.can_fail))
         config.now (size_of 32 F.Value.SIZE) (map S.remaining feeds.old)
         (map S.failures feeds.old) (map S.failures feeds.new)) }
 {
@@ -179,17 +188,12 @@ pub fn run_one_by<S: Source, F: Mergeable<Key = Name, Input = i64>, D: Disk>(
     if !is_within || feeds.is_empty() || feeds.len() > MOST {
         return Err(Refused::BadConfig);
     }
-    let plan = Plan {
-        config: *config,
-        mode,
-        workers: 1,
-    };
     let mut store = match opened(alloc, functions, config, &mut device, mode) {
         Ok(store) => store,
         Err(refused) => return Err(refused),
     };
     match read_feeds(alloc, feeds, &mut store) {
-        Ok(rows) => finish(alloc, store.store, rows, plan),
+        Ok(rows) => finish(alloc, store, rows),
         Err(refused) => Err(refused),
     }
 }
@@ -212,8 +216,8 @@ pub fn run_alone<S: Source, F: Mergeable<Key = Name, Input = i64>, D: Disk>(
     ensures ran { IfOk result (λ run. run.plan ≡ record { config = config.now; mode = RowMode.Update; workers = 1 }) }
     ensures steady { OnOk result (S.failures feed.new ≡ S.failures feed.old) }
     ensures good { result ≢ Err Refused.BadConfig → IsRunnable config.now (size_of 32 F.Value.SIZE) 1 }
-    ensures told { IfErr result (TellsWhyNone (IsDeviceFault D.Receipt.keeps D.failures D.Writer.failures
-        D.Reader.failures)
+    ensures told { IfErr result (TellsWhyNone (IsDeviceFault D.Receipt.keeps D.failures D.Writer.failures D.Reader.failures
+        (CanFailToWrite D.Writer.next D.Writer.can_fail) (CanFailToRead D.Receipt.stands D.Reader.can_fail))
         config.now (size_of 32 F.Value.SIZE) (S.remaining feed.old ∷ [])
         (S.failures feed.old ∷ []) (S.failures feed.new ∷ [])) }
 {
@@ -239,8 +243,8 @@ pub fn run_alone_by<S: Source, F: Mergeable<Key = Name, Input = i64>, D: Disk>(
     ensures ran { IfOk result (λ run. run.plan ≡ record { config = config.now; mode = mode; workers = 1 }) }
     ensures steady { OnOk result (S.failures feed.new ≡ S.failures feed.old) }
     ensures good { result ≢ Err Refused.BadConfig → IsRunnable config.now (size_of 32 F.Value.SIZE) 1 }
-    ensures told { IfErr result (TellsWhyNone (IsDeviceFault D.Receipt.keeps D.failures D.Writer.failures
-        D.Reader.failures)
+    ensures told { IfErr result (TellsWhyNone (IsDeviceFault D.Receipt.keeps D.failures D.Writer.failures D.Reader.failures
+        (CanFailToWrite D.Writer.next D.Writer.can_fail) (CanFailToRead D.Receipt.stands D.Reader.can_fail))
         config.now (size_of 32 F.Value.SIZE) (S.remaining feed.old ∷ [])
         (S.failures feed.old ∷ []) (S.failures feed.new ∷ [])) }
 {
@@ -248,17 +252,12 @@ pub fn run_alone_by<S: Source, F: Mergeable<Key = Name, Input = i64>, D: Disk>(
     if !is_within {
         return Err(Refused::BadConfig);
     }
-    let plan = Plan {
-        config: *config,
-        mode,
-        workers: 1,
-    };
     let mut store = match opened(alloc, functions, config, &mut device, mode) {
         Ok(store) => store,
         Err(refused) => return Err(refused),
     };
     match read_feed(alloc, feed, 1, LIMIT, &mut store) {
-        Ok(rows) => finish(alloc, store.store, rows, plan),
+        Ok(rows) => finish(alloc, store, rows),
         Err(refused) => Err(refused),
     }
 }

@@ -5,6 +5,8 @@ ghost use Rattle.std.specs.Map.{lookup, keys_of};
 ghost use Rattle.std.specs.List.Sorted.{IsStrictlySortedBy};
 ghost use Rattle.fkv_functions.specs.Names.{name_cmp};
 ghost use Rattle.fkv_functions.specs.declared.names.Name.{Name};
+ghost use Rattle.fkv_alone.specs.Causes.{CanFailToRead, CanFailToWrite};
+ghost use Rattle.fkv_local.specs.Causing.{IsCausedBy};
 ghost use Rattle.fkv_local.specs.Listing.{ListsView, IsNextList, IsUnlisted, behind_next, left};
 
 use fkv_device::Disk;
@@ -27,7 +29,9 @@ fn next_run<F: Mergeable<Key = Name>, D: Disk>(
         → IsNextList name_cmp F.code lists.old lists.new (λ k. lookup (is_at (name_cmp k)) pairs))) }
     ensures after { OnOk result (lists.new ≡ behind_next lists.old) }
     ensures told { IfErr result (λ e. (e ≡ Refused.NoMemory) ⊎ ((was : ListsView Name F.Value F.Input D.Reader) × (readers : List D.Reader)
-        × IsUnlisted D.Receipt.keeps D.Reader.failures was.parts was.readers readers e)) }
+        × IsUnlisted D.Receipt.keeps D.Reader.failures was.parts was.readers readers e
+        × (IsTrue D.Receipt.keeps → IsCausedBy (CanFailToWrite D.Writer.next D.Writer.can_fail)
+        (CanFailToRead D.Receipt.stands D.Reader.can_fail) e))) }
 {
     let map = match lists.next() {
         Ok(Some(map)) => map,
@@ -54,7 +58,9 @@ pub fn table_of<F: Mergeable<Key = Name>, D: Disk>(
         → lookup (is_at (name_cmp k)) table ≡ left name_cmp F.code lists k) }
     ensures rising { IfOk result (λ table. IsStrictlySortedBy name_cmp (keys_of table)) }
     ensures told { IfErr result (λ e. (e ≡ Refused.NoMemory) ⊎ ((was : ListsView Name F.Value F.Input D.Reader) × (readers : List D.Reader)
-        × IsUnlisted D.Receipt.keeps D.Reader.failures was.parts was.readers readers e)) }
+        × IsUnlisted D.Receipt.keeps D.Reader.failures was.parts was.readers readers e
+        × (IsTrue D.Receipt.keeps → IsCausedBy (CanFailToWrite D.Writer.next D.Writer.can_fail)
+        (CanFailToRead D.Receipt.stands D.Reader.can_fail) e))) }
 {
     let mut lists = lists;
     lists.count();

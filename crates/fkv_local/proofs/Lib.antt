@@ -12,3 +12,4 @@ mod ListingLemmas
 pub mod MergeLemmas
 mod WaitLemmas
 mod RoomLemmas
+mod CauseLemmas

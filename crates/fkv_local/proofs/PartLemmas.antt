@@ -50,6 +50,11 @@ module _ {K V I : Type 0} (cmp : K → K → Ordering) (merges : Bool) (config :
       record {
         numbered = ap (λ (u : CoreView K V I). u.number) n;
         counted = ap (λ (u : CoreView K V I). u.count) n;
+        made = record {
+          page_bits = ap (λ (u : CoreView K V I). u.records.page_bits) n;
+          frames = ap (λ (u : CoreView K V I). u.records.frames) n;
+          bucket_bits = ap (λ (u : CoreView K V I). u.records.bucket_bits) n;
+        };
         past = omega arith;
         idle = record {
           entered = ap (λ (u : CoreView K V I). is_session (slots_of u) 0) n ∙ ap (λ t. is_session (slice_set (replicate 16 None) t (Some 1)) 0) (sym zero_slot);

@@ -78,10 +78,10 @@ run-of keeps cmp order f code views p old new op (Ok a) here own h k = (
 run-of keeps cmp order f code views p old new op (Err e) here own h k = live-quiet cmp order f code views p old new here (h.effect k)
 
 -- what a contract sees of a store
-abbrev pub seen_as : {K V I W P : Type 0} → List (PartitionView K V I) → List W → List P → Bool → ℕ → StoreView K V I W P
-seen_as parts writers readers keeps_log moments = record { parts = parts; writers = writers; readers = readers; keeps_log = keeps_log; moments = moments }
+abbrev pub seen_as : {K V I W P : Type 0} → List (PartitionView K V I) → List W → List P → Config → Bool → ℕ → StoreView K V I W P
+seen_as parts writers readers config keeps_log moments = record { parts = parts; writers = writers; readers = readers; config = config; keeps_log = keeps_log; moments = moments }
 
-module _ {K V I W P : Type 0} {views : List (PartitionView K V I)} {writers : List W} {readers : List P} {keeps_log : Bool} {now : ℕ} {self : StoreView K V I W P} (is : seen_as views writers readers keeps_log now ≡ self) where
+module _ {K V I W P : Type 0} {views : List (PartitionView K V I)} {writers : List W} {readers : List P} {config : Config} {keeps_log : Bool} {now : ℕ} {self : StoreView K V I W P} (is : seen_as views writers readers config keeps_log now ≡ self) where
   pub parts-is : views ≡ self.parts
   parts-is = ap (λ (s : StoreView _ _ _ _ _). s.parts) is
 
@@ -91,8 +91,8 @@ module _ {K V I W P : Type 0} {views : List (PartitionView K V I)} {writers : Li
   pub keeps-is : keeps_log ≡ self.keeps_log
   keeps-is = ap (λ (s : StoreView _ _ _ _ _). s.keeps_log) is
 
-  pub terms-are : keeps_log ≡ self.keeps_log
-  terms-are = keeps-is
+  pub terms-are : (keeps_log ≡ self.keeps_log) × (config ≡ self.config)
+  terms-are = (keeps-is, ap (λ (s : StoreView _ _ _ _ _). s.config) is)
 
 -- ---- the partition of a key, in its place
 module _ {K V I S : Type 0} (view : S → PartitionView K V I) (code : K → ℕ) (items : List S) (now : ℕ) (views : List (PartitionView K V I))
@@ -158,16 +158,16 @@ get-other f (x ∷ xs) (suc i) zero y apart = refl
 get-other f (x ∷ xs) (suc i) (suc p) y apart = get-other f xs i p y (λ same. apart (ap suc same))
 
 -- a store of these items, as it is seen
-abbrev pub of_items : {K V I W P S : Type 0} → (S → PartitionView K V I) → (S → W) → (S → P) → List S → Bool → ℕ → StoreView K V I W P
-of_items view writer reader items keeps_log now = seen_as (map view items) (map writer items) (map reader items) keeps_log now
+abbrev pub of_items : {K V I W P S : Type 0} → (S → PartitionView K V I) → (S → W) → (S → P) → List S → Config → Bool → ℕ → StoreView K V I W P
+of_items view writer reader items config keeps_log now = seen_as (map view items) (map writer items) (map reader items) config keeps_log now
 
-module _ {K V I W P S : Type 0} (view : S → PartitionView K V I) (writer : S → W) (reader : S → P) (items : List S) {keeps_log : Bool} {now : ℕ} {self : StoreView K V I W P}
-    (is : of_items view writer reader items keeps_log now ≡ self) (home : ℕ) (x y : S) (here : slice_get items home ≡ Some x) (then : ℕ) where
+module _ {K V I W P S : Type 0} (view : S → PartitionView K V I) (writer : S → W) (reader : S → P) (items : List S) {config : Config} {keeps_log : Bool} {now : ℕ} {self : StoreView K V I W P}
+    (is : of_items view writer reader items config keeps_log now ≡ self) (home : ℕ) (x y : S) (here : slice_get items home ≡ Some x) (then : ℕ) where
   now-there : slice_get (slice_set items home y) home ≡ Some y
   now-there = get-set_same items home x y here
 
-  pub others-stay : (p : ℕ) → p ≢ home → StaysAt self (of_items view writer reader (slice_set items home y) keeps_log then) p
-  others-stay p apart = subst (λ s. StaysAt s (of_items view writer reader (slice_set items home y) keeps_log then) p) is (record {
+  pub others-stay : (p : ℕ) → p ≢ home → StaysAt self (of_items view writer reader (slice_set items home y) config keeps_log then) p
+  others-stay p apart = subst (λ s. StaysAt s (of_items view writer reader (slice_set items home y) config keeps_log then) p) is (record {
     part = get-other view items home p y apart;
     writer = get-other writer items home p y apart;
     reader = get-other reader items home p y apart;
@@ -176,14 +176,14 @@ module _ {K V I W P S : Type 0} (view : S → PartitionView K V I) (writer : S �
   ends-were : HasEnds self home (writer x) (reader x)
   ends-were = subst (λ s. HasEnds s home (writer x) (reader x)) is (view-get writer items home x here, view-get reader items home x here)
 
-  ends-are : HasEnds (of_items view writer reader (slice_set items home y) keeps_log then) home (writer y) (reader y)
+  ends-are : HasEnds (of_items view writer reader (slice_set items home y) config keeps_log then) home (writer y) (reader y)
   ends-are = (view-get writer (slice_set items home y) home y now-there, view-get reader (slice_set items home y) home y now-there)
 
   module _ (writes : W → ℕ) (reads : P → ℕ) where
     -- why an operation is refused
     pub home-refusal : {keeps merges : Bool} (code : K → ℕ) (op : KeyedOp K V I) (k : K) → home ≡ partition_of (length self.parts) (code k) → k ≡ key_of op
         → (e : Refused) → IsRefusedBy keeps merges keeps_log writes reads op (view y).core.records.tail then (writer x) (reader x) (writer y) (reader y) e
-        → IsRefusal keeps merges code writes reads self (of_items view writer reader (slice_set items home y) keeps_log then) op e
+        → IsRefusal keeps merges code writes reads self (of_items view writer reader (slice_set items home y) config keeps_log then) op e
     home-refusal {keeps} {merges} code op k at key e h =
         let sized : length (map view (slice_set items home y)) ≡ length self.parts = view-length view (slice_set items home y) ∙ length-set items home y ∙ sym (view-length view items) ∙ ap length (parts-is is) in
         let own : partition_of (length (map view (slice_set items home y))) (code (key_of op)) ≡ home = ap (λ n. partition_of n (code (key_of op))) sized ∙ ap (λ q. partition_of (length self.parts) (code q)) (sym key) ∙ sym at in
@@ -195,14 +195,14 @@ module _ {K V I W P S : Type 0} (view : S → PartitionView K V I) (writer : S �
           reader_now = reader y;
           here = subst (λ p. slice_get (map view (slice_set items home y)) p ≡ Some (view y)) (sym own) (view-get view (slice_set items home y) home y now-there);
           ends = subst (λ p. HasEnds self p (writer x) (reader x)) (sym own) ends-were;
-          ends_now = subst (λ p. HasEnds (of_items view writer reader (slice_set items home y) keeps_log then) p (writer y) (reader y)) (sym own) ends-are;
+          ends_now = subst (λ p. HasEnds (of_items view writer reader (slice_set items home y) config keeps_log then) p (writer y) (reader y)) (sym own) ends-are;
           others = λ p apart. others-stay p (λ same. apart (same ∙ sym own));
           refused = subst (λ (s : StoreView K V I W P). IsRefusedBy keeps merges s.keeps_log writes reads op (view y).core.records.tail then (writer x) (reader x) (writer y) (reader y) e) is h;
         }
 
     -- why a log is not compacted
     pub home-uncompacted : {keeps : Bool} (e : Refused) → IsWorkRefusal keeps (view y).core.records.tail then (failures_of writes reads (writer x) (reader x)) (failures_of writes reads (writer y) (reader y)) e
-        → IsUncompactedAt keeps writes reads self (of_items view writer reader (slice_set items home y) keeps_log then) home e
+        → IsUncompactedAt keeps writes reads self (of_items view writer reader (slice_set items home y) config keeps_log then) home e
     home-uncompacted e h = record {
       part = view y;
       writer = writer x;
@@ -215,7 +215,7 @@ module _ {K V I W P S : Type 0} (view : S → PartitionView K V I) (writer : S �
       refused = h;
     }
 
-    pub home-steady : failures_of writes reads (writer y) (reader y) ≡ failures_of writes reads (writer x) (reader x) → FailedAsBefore writes reads self (of_items view writer reader (slice_set items home y) keeps_log then) home
+    pub home-steady : failures_of writes reads (writer y) (reader y) ≡ failures_of writes reads (writer x) (reader x) → FailedAsBefore writes reads self (of_items view writer reader (slice_set items home y) config keeps_log then) home
     home-steady same = (
       view-get writes (map writer (slice_set items home y)) home (writer y) ends-are.0 ∙ ap (λ (f : Failures). Some f.writes) same ∙ sym (view-get writes self.writers home (writer x) ends-were.0),
       view-get reads (map reader (slice_set items home y)) home (reader y) ends-are.1 ∙ ap (λ (f : Failures). Some f.reads) same ∙ sym (view-get reads self.readers home (reader x) ends-were.1),
@@ -225,20 +225,20 @@ module _ {K V I W P S : Type 0} (view : S → PartitionView K V I) (writer : S �
   begun : begin_at self home ≡ Some (view x).core.records.begin
   begun = subst (λ (s : StoreView K V I W P). begin_at s home ≡ Some (view x).core.records.begin) is (ap (option_map (λ (v : PartitionView K V I). v.core.records.begin)) (view-get view items home x here))
 
-  begins : begin_at (of_items view writer reader (slice_set items home y) keeps_log then) home ≡ Some (view y).core.records.begin
+  begins : begin_at (of_items view writer reader (slice_set items home y) config keeps_log then) home ≡ Some (view y).core.records.begin
   begins = ap (option_map (λ (v : PartitionView K V I). v.core.records.begin)) (view-get view (slice_set items home y) home y now-there)
 
-  pub home-cut : WasCut (view x) (view y) true → IsCutAt self (of_items view writer reader (slice_set items home y) keeps_log then) home
+  pub home-cut : WasCut (view x) (view y) true → IsCutAt self (of_items view writer reader (slice_set items home y) config keeps_log then) home
   home-cut risen = record { begin = (view x).core.records.begin; begin_now = (view y).core.records.begin; was = begun; is = begins; risen = risen }
 
-  pub home-uncut : WasCut (view x) (view y) false → begin_at (of_items view writer reader (slice_set items home y) keeps_log then) home ≡ begin_at self home
+  pub home-uncut : WasCut (view x) (view y) false → begin_at (of_items view writer reader (slice_set items home y) config keeps_log then) home ≡ begin_at self home
   home-uncut same = begins ∙ ap Some same ∙ sym begun
 
-  pub home-all_cut : IsAllCut (view y) → (v : PartitionView K V I) → slice_get (of_items view writer reader (slice_set items home y) keeps_log then).parts home ≡ Some v → IsAllCut v
+  pub home-all_cut : IsAllCut (view y) → (v : PartitionView K V I) → slice_get (of_items view writer reader (slice_set items home y) config keeps_log then).parts home ≡ Some v → IsAllCut v
   home-all_cut all v h = subst IsAllCut (same_Some (view y) v (sym (view-get view (slice_set items home y) home y now-there) ∙ h)) all
 
   -- what had left memory of that log is given back
-  pub home-given_back : IsGivenBack (view x) (view y) → (v w : PartitionView K V I) → slice_get self.parts home ≡ Some v → slice_get (of_items view writer reader (slice_set items home y) keeps_log then).parts home ≡ Some w → IsGivenBack v w
+  pub home-given_back : IsGivenBack (view x) (view y) → (v w : PartitionView K V I) → slice_get self.parts home ≡ Some v → slice_get (of_items view writer reader (slice_set items home y) config keeps_log then).parts home ≡ Some w → IsGivenBack v w
   home-given_back given v w h k =
       let was : view x ≡ v = same_Some (view x) v (sym (view-get view items home x here) ∙ ap (λ ps. slice_get ps home) (parts-is is) ∙ h) in
       let now_is : view y ≡ w = same_Some (view y) w (sym (view-get view (slice_set items home y) home y now-there) ∙ k) in

@@ -37,11 +37,18 @@ pub record StaysIdleBut {K V I : Type 0} (keeps : Bool) (cmp : K → K → Order
   pub idle : IsIdleBut new 0 c
   pub live : IsTrue keeps → Same (live_of cmp new.core) (live_of cmp old.core)
 
+-- a partition has the pages, the frames and the buckets of a configuration
+pub record IsMadeBy {K V I : Type 0} (config : Config) (v : PartitionView K V I) : Type 0 where
+  pub page_bits : v.core.records.page_bits ≡ config.page_bits
+  pub frames : v.core.records.frames ≡ config.frames
+  pub bucket_bits : v.core.records.bucket_bits ≡ config.bucket_bits
+
 -- a partition of this number with nothing in it but a session, of slot 0
 pub record IsSeatedIn {K V I : Type 0} (cmp : K → K → Ordering) (config : Config) (number : ℕ) (v : PartitionView K V I)
     : Type 0 where
   pub numbered : v.core.number ≡ number
   pub counted : v.core.count ≡ 2 ^ config.partition_bits
+  pub made : IsMadeBy config v
   pub past : v.core.moment ≤ number + 1
   pub idle : IsIdle v 0
   pub empty : (k : K) → live_of cmp v.core k ≡ None
@@ -51,6 +58,10 @@ pub record AreNew {K V I : Type 0} (cmp : K → K → Ordering) (config : Config
     (count : ℕ) : Type 0 where
   pub sized : length views ≡ count
   pub each : (p : ℕ) (v : PartitionView K V I) → slice_get views p ≡ Some v → IsSeatedIn cmp config p v
+
+-- no writer of these has given more receipts than the clock has moments
+abbrev pub AreNumbered : {W : Type 0} → (W → ℕ) → List W → ℕ → Type 0
+AreNumbered {W} next writers now = (p : ℕ) (w : W) → slice_get writers p ≡ Some w → next w ≤ now
 
 -- the partitions of a store between two operations: numbered by their places, the session at slot 0 idle in each, and their
 -- moments past by a clock that has begun

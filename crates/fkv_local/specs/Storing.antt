@@ -10,17 +10,19 @@ use Rattle.fkv_operations.specs.After.{after, answer}
 use Rattle.fkv_operations.specs.declared.operations.KeyedOp.{KeyedOp}
 use Rattle.fkv_operations.specs.declared.operations.KeyedOp.TheVariants.{Rmw, Merge}
 use Rattle.fkv_operations.specs.declared.operations.Answer.{Answer}
+use Rattle.fkv_partition.specs.declared.limits.Config.{Config}
 use Rattle.fkv_partition.specs.CoreViews.{live_of}
 use Rattle.fkv_partition.specs.Views.{PartitionView}
 use Rattle.fkv_partition.specs.Unions.{union_of}
 use Rattle.fkv_local.specs.Resting.{IsIdle}
 
--- the partitions of a store, what writes and what reads their pages, whether logs are compacted on call alone, and how many moments
--- it has taken
+-- the partitions of a store, what writes and what reads their pages, its configuration, whether logs are compacted on call alone,
+-- and how many moments it has taken
 pub record StoreView (K V I W P : Type 0) : Type 0 where
   pub parts : List (PartitionView K V I)
   pub writers : List W
   pub readers : List P
+  pub config : Config
   pub keeps_log : Bool
   pub moments : ℕ
 
@@ -30,7 +32,7 @@ plain cmp code s = union_of cmp code s.parts
 
 -- what a store was opened with, or told since, stays
 abbrev pub SameTerms : {K V I W P : Type 0} → StoreView K V I W P → StoreView K V I W P → Type 0
-SameTerms old new = new.keeps_log ≡ old.keeps_log
+SameTerms old new = (new.keeps_log ≡ old.keeps_log) × (new.config ≡ old.config)
 
 -- THE STORE IS A PLAIN MAP. An operation on the map `old` came to this result, and left the map `new`: where it is done,
 -- `new` is `old` after the operation, and the answer is the plain map's; where it is refused, `new` is `old`.

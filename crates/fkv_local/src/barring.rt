@@ -39,6 +39,8 @@ impl<R: Receipt> PageReader for NoPages<R> {
 
     ghost part = { λ r. 0 };
 
+    ghost reads = { λ r. r.asked };
+
     ghost can_fail = { λ receipt size. Unit {0} };
 
     /// Reads no page.

@@ -3,10 +3,12 @@
 //! Relocations are made in the session that all operations are made in, one at a time, while nothing else is open there. So pages
 //! can move on wherever one finds no room, and one that is not done is given up, which is without effect: whatever is refused on the
 //! way, the map stays and nothing is open.
-ghost use Rattle.std.specs.Prelude.{◌≡◌, ◌≤◌, ◌+◌, ◌^◌, ◌<◌, IfOk, IfErr, IfSome, OnOk, IsTrue, List, Option, None, Some, option_map, false};
+ghost use Rattle.std.specs.Prelude.{◌≡◌, ◌≢◌, ◌≤◌, ◌+◌, ◌^◌, ◌<◌, IfOk, IfErr, IfSome, OnOk, IsTrue, List, Option, None, Some, option_map, false};
 ghost use Rattle.fkv_device.specs.Failing.{ReadFailsBy};
 ghost use Rattle.fkv_device.specs.Standing.{Standing};
 ghost use Rattle.fkv_pages.specs.Loads.{IsHeldBy};
+ghost use Rattle.fkv_alone.specs.Causes.{CanFailToRead, CanFailToWrite};
+ghost use Rattle.fkv_local.specs.Causing.{IsCausedBy};
 ghost use Rattle.fkv_local.specs.Clearing.{IsWanted, WantsThen, IsKeptBy, WasCut, IsAllCut, IsGivenBack};
 ghost use Rattle.fkv_local.specs.Failures.{failures_of, IsBeside};
 ghost use Rattle.fkv_local.specs.Resting.{IsIdle, IsIdleBut, StaysIdle, StaysIdleBut};
@@ -60,7 +62,6 @@ impl<R: Receipt> Wanted<R> {
 /// The page of the place that is relocated: the next place stands in it too, but at the page's end.
 #[derive(Drop)]
 struct Kept<R: Receipt> {
-    size: usize,
     page: Option<Loaded<R>>,
     /// Whether it is the log's own for sure: no page has moved since it was read, or was compared.
     is_sure: bool,
@@ -101,6 +102,7 @@ impl<R: Receipt> Kept<R> {
         ensures steady { OnOk result (P.failures reader.new ≡ P.failures reader.old) }
         ensures told { IfErr result
             (ReadFailsBy (R.stands receipt.now).page (P.failures reader.old) (P.failures reader.new)) }
+        ensures caused { IfErr result (λ e. e ≢ Refused.NoMemory → CanFailToRead R.stands P.can_fail) }
     {
         if self.has(receipt) {
             self.is_sure = true;
@@ -108,7 +110,7 @@ impl<R: Receipt> Kept<R> {
                 return page.again();
             }
         }
-        let page = match Loaded::fetch(reader, receipt, self.size) {
+        let page = match Loaded::fetch(reader, receipt, receipt.size()) {
             Ok(page) => page,
             Err(refused) => return Err(refused),
         };
@@ -160,10 +162,14 @@ fn event<F: Mergeable, D: Disk>(
     requires kept { IsKeptBy D.Receipt.stands shard.old.part.partition.core.records.receipts
         kept.old.is_sure kept.old.page }
     requires past { shard.old.part.partition.core.moment ≤ clock.old }
+    requires numbered { D.Writer.next shard.old.part.writer ≤ clock.old }
     requires spare { clock.old + 1 < 2 ^ 64 }
     ensures stays { StaysIdleBut D.Receipt.keeps F.Key.cmp shard.old.part.partition shard.new.part.partition context }
     ensures onward { IsOnward shard.old.part.partition shard.new.part.partition }
     ensures passed { IsPassed shard.new.part.partition.core.moment clock.old clock.new }
+    ensures numbered { D.Writer.next shard.new.part.writer ≤ clock.new }
+    ensures caused { IsTrue D.Receipt.keeps → IfErr result
+        (IsCausedBy (CanFailToWrite D.Writer.next D.Writer.can_fail) (CanFailToRead D.Receipt.stands D.Reader.can_fail)) }
     ensures spare { clock.new + 1 < 2 ^ 64 }
     ensures wants { IfOk result (λ progress. WantsThen D.Receipt.stands shard.new.part.partition context progress) }
     ensures kept { OnOk result (IsKeptBy D.Receipt.stands shard.new.part.partition.core.records.receipts
@@ -210,10 +216,14 @@ fn go_on<F: Mergeable, D: Disk>(
     requires kept { IsKeptBy D.Receipt.stands shard.old.part.partition.core.records.receipts
         kept.old.is_sure kept.old.page }
     requires past { shard.old.part.partition.core.moment ≤ clock.old }
+    requires numbered { D.Writer.next shard.old.part.writer ≤ clock.old }
     requires spare { clock.old + 1 < 2 ^ 64 }
     ensures stays { StaysIdleBut D.Receipt.keeps F.Key.cmp shard.old.part.partition shard.new.part.partition context }
     ensures onward { IsOnward shard.old.part.partition shard.new.part.partition }
     ensures passed { IsPassed shard.new.part.partition.core.moment clock.old clock.new }
+    ensures numbered { D.Writer.next shard.new.part.writer ≤ clock.new }
+    ensures caused { IsTrue D.Receipt.keeps → IfErr result
+        (IsCausedBy (CanFailToWrite D.Writer.next D.Writer.can_fail) (CanFailToRead D.Receipt.stands D.Reader.can_fail)) }
     ensures spare { clock.new + 1 < 2 ^ 64 }
     ensures kept { OnOk result (IsKeptBy D.Receipt.stands shard.new.part.partition.core.records.receipts
         kept.new.is_sure kept.new.page) }
@@ -272,10 +282,14 @@ fn relocate<F: Mergeable, D: Disk>(
     requires kept { IsKeptBy D.Receipt.stands shard.old.part.partition.core.records.receipts
         kept.old.is_sure kept.old.page }
     requires past { shard.old.part.partition.core.moment ≤ clock.old }
+    requires numbered { D.Writer.next shard.old.part.writer ≤ clock.old }
     ensures stays { StaysIdle D.Receipt.keeps F.Key.cmp shard.old.part.partition shard.new.part.partition }
     ensures onward { IsOnward shard.old.part.partition shard.new.part.partition }
     ensures later { OnOk result (clock.old + 1 ≤ clock.new) }
     ensures passed { IsPassed shard.new.part.partition.core.moment clock.old clock.new }
+    ensures numbered { D.Writer.next shard.new.part.writer ≤ clock.new }
+    ensures caused { IsTrue D.Receipt.keeps → IfErr result
+        (IsCausedBy (CanFailToWrite D.Writer.next D.Writer.can_fail) (CanFailToRead D.Receipt.stands D.Reader.can_fail)) }
     ensures kept { OnOk result (IsKeptBy D.Receipt.stands shard.new.part.partition.core.records.receipts
         kept.new.is_sure kept.new.page) }
     ensures same_writer { shard.new.part.writer ≡ shard.old.part.writer }
@@ -351,10 +365,14 @@ fn clear<F: Mergeable, D: Disk>(
 ) -> Result<(), Refused>
     requires idle { IsIdle shard.old.part.partition 0 }
     requires past { shard.old.part.partition.core.moment ≤ clock.old }
+    requires numbered { D.Writer.next shard.old.part.writer ≤ clock.old }
     ensures stays { StaysIdle D.Receipt.keeps F.Key.cmp shard.old.part.partition shard.new.part.partition }
     ensures onward { IsOnward shard.old.part.partition shard.new.part.partition }
     ensures whole { OnOk result (effort ≡ Effort.Whole → end ≤ shard.new.part.partition.cleared) }
     ensures passed { IsPassed shard.new.part.partition.core.moment clock.old clock.new }
+    ensures numbered { D.Writer.next shard.new.part.writer ≤ clock.new }
+    ensures caused { IsTrue D.Receipt.keeps → IfErr result
+        (IsCausedBy (CanFailToWrite D.Writer.next D.Writer.can_fail) (CanFailToRead D.Receipt.stands D.Reader.can_fail)) }
     ensures steady { OnOk result (failures_of D.Writer.failures D.Reader.failures shard.new.part.writer shard.new.reader
         ≡ failures_of D.Writer.failures D.Reader.failures shard.old.part.writer shard.old.reader) }
     ensures same_begin { shard.new.part.partition.core.records.begin ≡ shard.old.part.partition.core.records.begin }
@@ -366,7 +384,6 @@ fn clear<F: Mergeable, D: Disk>(
     let size = shard.part.partition.page_size();
     let (start, tail) = (shard.part.partition.cleared(), shard.part.partition.tail());
     let mut kept = Kept {
-        size,
         page: None,
         is_sure: false,
     };
@@ -433,8 +450,12 @@ pub fn compact<F: Mergeable, D: Disk>(
 ) -> Result<bool, Refused>
     requires idle { IsIdle shard.old.part.partition 0 }
     requires past { shard.old.part.partition.core.moment ≤ clock.old }
+    requires numbered { D.Writer.next shard.old.part.writer ≤ clock.old }
     ensures stays { StaysIdle D.Receipt.keeps F.Key.cmp shard.old.part.partition shard.new.part.partition }
     ensures passed { IsPassed shard.new.part.partition.core.moment clock.old clock.new }
+    ensures numbered { D.Writer.next shard.new.part.writer ≤ clock.new }
+    ensures caused { IsTrue D.Receipt.keeps → IfErr result
+        (IsCausedBy (CanFailToWrite D.Writer.next D.Writer.can_fail) (CanFailToRead D.Receipt.stands D.Reader.can_fail)) }
     ensures onward { IsOnward shard.old.part.partition shard.new.part.partition }
     ensures given_back { OnOk result (effort ≡ Effort.Whole
         → IsGivenBack shard.old.part.partition shard.new.part.partition) }
@@ -482,12 +503,14 @@ pub fn compact_where_due<F: Mergeable, D: Disk>(
 )
     requires idle { IsIdle shard.old.part.partition 0 }
     requires past { shard.old.part.partition.core.moment ≤ clock.old }
+    requires numbered { D.Writer.next shard.old.part.writer ≤ clock.old }
     ensures stays { StaysIdle D.Receipt.keeps F.Key.cmp shard.old.part.partition shard.new.part.partition }
     ensures same { IsTrue terms.now.keeps_log → shard.new ≡ shard.old }
     ensures beside { IsBeside terms.now.keeps_log
         (failures_of D.Writer.failures D.Reader.failures shard.old.part.writer shard.old.reader)
         (failures_of D.Writer.failures D.Reader.failures shard.new.part.writer shard.new.reader) }
     ensures passed { IsPassed shard.new.part.partition.core.moment clock.old clock.new }
+    ensures numbered { D.Writer.next shard.new.part.writer ≤ clock.new }
 {
     if terms.keeps_log || !is_due(&shard.part) {
         return;

@@ -1,12 +1,15 @@
 //! One operation of one partition, driven to its end.
-ghost use Rattle.std.specs.Prelude.{◌≡◌, ◌<◌, ◌≤◌, ◌+◌, ◌-◌, ◌^◌, ℕ, None, Ok, true, IsTrue, IfOk, IfErr, IfSome, OnOk, OnErr};
-ghost use Rattle.fkv_operations.specs.After.{key_of, is_merge};
+ghost use Rattle.std.specs.Prelude.{◌≡◌, ◌≢◌, ◌<◌, ◌≤◌, ◌+◌, ◌-◌, ◌^◌, ℕ, None, Ok, true, false, IsTrue, IfOk, IfErr, IfSome, OnOk, OnErr};
+ghost use Rattle.fkv_operations.specs.After.{key_of};
 ghost use Rattle.fkv_operations.specs.declared.operations.KeyedOp.TheVariants.{Read, Rmw};
 ghost use Rattle.fkv_operations.specs.declared.operations.Answer.TheVariants.{Value};
 ghost use Rattle.fkv_lookups.specs.RecordsViews.{IsFull};
 ghost use Rattle.fkv_partition.specs.CoreViews.{partition_of};
 ghost use Rattle.fkv_partition.specs.Events.{IsPassedOn};
 ghost use Rattle.fkv_alone.specs.Ending.{Ends};
+ghost use Rattle.fkv_alone.specs.Bound.{may_load};
+ghost use Rattle.fkv_alone.specs.Causes.{CanFailToRead, CanFailToWrite};
+ghost use Rattle.fkv_local.specs.Causing.{IsCausedBy};
 ghost use Rattle.fkv_local.specs.Resting.{IsIdle, StaysIdle};
 ghost use Rattle.fkv_local.specs.Moving.{IsPassed, IsMoveRefusal};
 ghost use Rattle.fkv_local.specs.Failures.{failures_of, IsBeside};
@@ -39,7 +42,8 @@ fn once<F: Mergeable, D: Disk, P: PageReader<Receipt = D::Receipt>>(
     requires past { part.old.partition.core.moment ≤ clock.old }
     ensures ends { Ends D.Receipt.keeps F.Key.cmp F.parts.joined F.meaning F.code op part.old.partition part.new.partition 0
         (2 ^ 64 - 1) clock.old clock.new (P.failures reader.old) (P.failures reader.new) result }
-    ensures unread { is_merge op ≡ true → reader.new ≡ reader.old }
+    ensures unread { may_load op ≡ false → reader.new ≡ reader.old }
+    ensures caused { P.failures reader.new ≢ P.failures reader.old → CanFailToRead D.Receipt.stands P.can_fail }
     ensures rest { IsPassedOn part.old.partition part.new.partition }
     ensures passed { IsPassed part.new.partition.core.moment clock.old clock.new }
     ensures small { clock.new < 2 ^ 64 }
@@ -75,6 +79,7 @@ fn try_by_events<F: Mergeable, D: Disk, P: PageReader<Receipt = D::Receipt>>(
     requires idle { IsIdle part.old.partition 0 }
     requires own { partition_of part.old.partition.core.count (F.code (key_of op)) ≡ part.old.partition.core.number }
     requires past { part.old.partition.core.moment ≤ clock.old }
+    requires numbered { D.Writer.next part.old.writer ≤ clock.old }
     requires begun { 0 < clock.old }
     ensures runs { IfOk result (λ told. IfSome told (λ answer.
         Runs D.Receipt.keeps F.Key.cmp F.meaning part.old.partition part.new.partition op (Ok answer))) }
@@ -84,7 +89,10 @@ fn try_by_events<F: Mergeable, D: Disk, P: PageReader<Receipt = D::Receipt>>(
     ensures steady { OnOk result (P.failures reader.new ≡ P.failures reader.old) }
     ensures left { OnErr result (StaysIdle D.Receipt.keeps F.Key.cmp part.old.partition part.new.partition) }
     ensures passed { IsPassed part.new.partition.core.moment clock.old clock.new }
-    ensures unread { is_merge op ≡ true → reader.new ≡ reader.old }
+    ensures numbered { D.Writer.next part.new.writer ≤ clock.new }
+    ensures caused { IsTrue D.Receipt.keeps → IfErr result
+        (IsCausedBy (CanFailToWrite D.Writer.next D.Writer.can_fail) (CanFailToRead D.Receipt.stands P.can_fail)) }
+    ensures unread { may_load op ≡ false → reader.new ≡ reader.old }
     ensures same_writer { part.new.writer ≡ part.old.writer }
     ensures told { IfErr result (IsStopped D.Receipt.keeps F.MERGES
         op part.new.partition.core.records.tail clock.new
@@ -117,10 +125,14 @@ pub fn run_by_events<F: Mergeable, D: Disk, P: PageReader<Receipt = D::Receipt>>
     requires idle { IsIdle part.old.partition 0 }
     requires own { partition_of part.old.partition.core.count (F.code (key_of op)) ≡ part.old.partition.core.number }
     requires past { part.old.partition.core.moment ≤ clock.old }
+    requires numbered { D.Writer.next part.old.writer ≤ clock.old }
     requires begun { 0 < clock.old }
     ensures runs { Runs D.Receipt.keeps F.Key.cmp F.meaning part.old.partition part.new.partition op result }
     ensures passed { IsPassed part.new.partition.core.moment clock.old clock.new }
-    ensures unread { is_merge op ≡ true → reader.new ≡ reader.old }
+    ensures numbered { D.Writer.next part.new.writer ≤ clock.new }
+    ensures caused { IsTrue D.Receipt.keeps → IfErr result
+        (IsCausedBy (CanFailToWrite D.Writer.next D.Writer.can_fail) (CanFailToRead D.Receipt.stands P.can_fail)) }
+    ensures unread { may_load op ≡ false → reader.new ≡ reader.old }
     ensures told { IfErr result (IsStopped D.Receipt.keeps F.MERGES
         op part.new.partition.core.records.tail clock.new
         (failures_of D.Writer.failures P.failures part.old.writer reader.old)
@@ -155,12 +167,16 @@ pub fn try_update_in_place<F: Mergeable, D: Disk>(
 ) -> Result<Option<F::Output>, Refused>
     requires idle { IsIdle part.old.partition 0 }
     requires past { part.old.partition.core.moment ≤ clock.old }
+    requires numbered { D.Writer.next part.old.writer ≤ clock.old }
     // on any device
     ensures done { IfOk result (λ answer. IfSome answer (λ shown. Runs true F.Key.cmp F.meaning
         part.old.partition part.new.partition (Rmw key.now input.now) (Ok (Value shown)))) }
     ensures same { IfOk result (λ answer. answer ≡ None → part.new.partition ≡ part.old.partition) }
     ensures refused { OnErr result (part.new.partition ≡ part.old.partition) }
     ensures passed { IsPassed part.new.partition.core.moment clock.old clock.new }
+    ensures numbered { D.Writer.next part.new.writer ≤ clock.new }
+    ensures caused { IsTrue D.Receipt.keeps → IfErr result
+        (IsCausedBy (CanFailToWrite D.Writer.next D.Writer.can_fail) (CanFailToRead D.Receipt.stands D.Reader.can_fail)) }
     ensures same_writer { part.new.writer ≡ part.old.writer }
     ensures told { IfErr result (λ e. (e ≡ Refused.Worn) × (2 ^ 64 ≤ clock.new + 2)) }
 {
@@ -188,8 +204,12 @@ pub fn tidy_at_times<F: Mergeable, D: Disk>(
 ) -> Result<(), Refused>
     requires idle { IsIdle shard.old.part.partition 0 }
     requires past { shard.old.part.partition.core.moment ≤ clock.old }
+    requires numbered { D.Writer.next shard.old.part.writer ≤ clock.old }
     ensures stays { StaysIdle D.Receipt.keeps F.Key.cmp shard.old.part.partition shard.new.part.partition }
     ensures passed { IsPassed shard.new.part.partition.core.moment clock.old clock.new }
+    ensures numbered { D.Writer.next shard.new.part.writer ≤ clock.new }
+    ensures caused { IsTrue D.Receipt.keeps → IfErr result
+        (IsCausedBy (CanFailToWrite D.Writer.next D.Writer.can_fail) (CanFailToRead D.Receipt.stands D.Reader.can_fail)) }
     ensures same_reader { OnErr result (shard.new.reader ≡ shard.old.reader) }
     ensures unread { IsTrue terms.now.keeps_log → shard.new.reader ≡ shard.old.reader }
     ensures beside { OnOk result (IsBeside terms.now.keeps_log
@@ -215,8 +235,12 @@ fn tidy_where_grown<F: Mergeable, D: Disk>(
 ) -> Result<(), Refused>
     requires idle { IsIdle shard.old.part.partition 0 }
     requires past { shard.old.part.partition.core.moment ≤ clock.old }
+    requires numbered { D.Writer.next shard.old.part.writer ≤ clock.old }
     ensures stays { StaysIdle D.Receipt.keeps F.Key.cmp shard.old.part.partition shard.new.part.partition }
     ensures passed { IsPassed shard.new.part.partition.core.moment clock.old clock.new }
+    ensures numbered { D.Writer.next shard.new.part.writer ≤ clock.new }
+    ensures caused { IsTrue D.Receipt.keeps → IfErr result
+        (IsCausedBy (CanFailToWrite D.Writer.next D.Writer.can_fail) (CanFailToRead D.Receipt.stands D.Reader.can_fail)) }
     ensures same_reader { OnErr result (shard.new.reader ≡ shard.old.reader) }
     ensures unread { IsTrue terms.now.keeps_log → shard.new.reader ≡ shard.old.reader }
     ensures beside { OnOk result (IsBeside terms.now.keeps_log
@@ -248,9 +272,14 @@ pub fn operate<F: Mergeable, D: Disk>(
     requires idle { IsIdle shard.old.part.partition 0 }
     requires own { partition_of shard.old.part.partition.core.count (F.code (key_of op)) ≡ shard.old.part.partition.core.number }
     requires past { shard.old.part.partition.core.moment ≤ clock.old }
+    requires numbered { D.Writer.next shard.old.part.writer ≤ clock.old }
     requires begun { 0 < clock.old }
     ensures runs { Runs D.Receipt.keeps F.Key.cmp F.meaning shard.old.part.partition shard.new.part.partition op result }
+    ensures unread { may_load op ≡ false → IsTrue terms.now.keeps_log → shard.new.reader ≡ shard.old.reader }
     ensures passed { IsPassed shard.new.part.partition.core.moment clock.old clock.new }
+    ensures numbered { D.Writer.next shard.new.part.writer ≤ clock.new }
+    ensures caused { IsTrue D.Receipt.keeps → IfErr result
+        (IsCausedBy (CanFailToWrite D.Writer.next D.Writer.can_fail) (CanFailToRead D.Receipt.stands D.Reader.can_fail)) }
     ensures told { IfErr result (IsRefusedBy D.Receipt.keeps F.MERGES terms.now.keeps_log
         D.Writer.failures D.Reader.failures op shard.new.part.partition.core.records.tail clock.new
         shard.old.part.writer shard.old.reader shard.new.part.writer shard.new.reader) }
@@ -274,9 +303,14 @@ fn operate_by_events<F: Mergeable, D: Disk>(
     requires idle { IsIdle shard.old.part.partition 0 }
     requires own { partition_of shard.old.part.partition.core.count (F.code (key_of op)) ≡ shard.old.part.partition.core.number }
     requires past { shard.old.part.partition.core.moment ≤ clock.old }
+    requires numbered { D.Writer.next shard.old.part.writer ≤ clock.old }
     requires begun { 0 < clock.old }
     ensures runs { Runs D.Receipt.keeps F.Key.cmp F.meaning shard.old.part.partition shard.new.part.partition op result }
+    ensures unread { may_load op ≡ false → IsTrue terms.now.keeps_log → shard.new.reader ≡ shard.old.reader }
     ensures passed { IsPassed shard.new.part.partition.core.moment clock.old clock.new }
+    ensures numbered { D.Writer.next shard.new.part.writer ≤ clock.new }
+    ensures caused { IsTrue D.Receipt.keeps → IfErr result
+        (IsCausedBy (CanFailToWrite D.Writer.next D.Writer.can_fail) (CanFailToRead D.Receipt.stands D.Reader.can_fail)) }
     ensures told { IfErr result (IsRefusedBy D.Receipt.keeps F.MERGES terms.now.keeps_log
         D.Writer.failures D.Reader.failures op shard.new.part.partition.core.records.tail clock.new
         shard.old.part.writer shard.old.reader shard.new.part.writer shard.new.reader) }
@@ -301,10 +335,14 @@ pub fn read<F: Mergeable, D: Disk>(
     requires idle { IsIdle shard.old.part.partition 0 }
     requires own { partition_of shard.old.part.partition.core.count (F.code key.now) ≡ shard.old.part.partition.core.number }
     requires past { shard.old.part.partition.core.moment ≤ clock.old }
+    requires numbered { D.Writer.next shard.old.part.writer ≤ clock.old }
     requires begun { 0 < clock.old }
     ensures runs { Runs D.Receipt.keeps F.Key.cmp F.meaning shard.old.part.partition shard.new.part.partition
         (Read key.now input.now) result }
     ensures passed { IsPassed shard.new.part.partition.core.moment clock.old clock.new }
+    ensures numbered { D.Writer.next shard.new.part.writer ≤ clock.new }
+    ensures caused { IsTrue D.Receipt.keeps → IfErr result
+        (IsCausedBy (CanFailToWrite D.Writer.next D.Writer.can_fail) (CanFailToRead D.Receipt.stands D.Reader.can_fail)) }
     ensures told { IfErr result (IsRefusedBy {V = F.Value} D.Receipt.keeps F.MERGES terms.now.keeps_log
         D.Writer.failures D.Reader.failures (Read key.now input.now) shard.new.part.partition.core.records.tail clock.new
         shard.old.part.writer shard.old.reader shard.new.part.writer shard.new.reader) }
@@ -339,10 +377,14 @@ pub fn update<F: Mergeable, D: Disk>(
     requires idle { IsIdle shard.old.part.partition 0 }
     requires own { partition_of shard.old.part.partition.core.count (F.code key.now) ≡ shard.old.part.partition.core.number }
     requires past { shard.old.part.partition.core.moment ≤ clock.old }
+    requires numbered { D.Writer.next shard.old.part.writer ≤ clock.old }
     requires begun { 0 < clock.old }
     ensures runs { Runs D.Receipt.keeps F.Key.cmp F.meaning shard.old.part.partition shard.new.part.partition
         (Rmw key.now input.now) result }
     ensures passed { IsPassed shard.new.part.partition.core.moment clock.old clock.new }
+    ensures numbered { D.Writer.next shard.new.part.writer ≤ clock.new }
+    ensures caused { IsTrue D.Receipt.keeps → IfErr result
+        (IsCausedBy (CanFailToWrite D.Writer.next D.Writer.can_fail) (CanFailToRead D.Receipt.stands D.Reader.can_fail)) }
     ensures told { IfErr result (IsRefusedBy {V = F.Value} D.Receipt.keeps F.MERGES terms.now.keeps_log
         D.Writer.failures D.Reader.failures (Rmw key.now input.now) shard.new.part.partition.core.records.tail clock.new
         shard.old.part.writer shard.old.reader shard.new.part.writer shard.new.reader) }

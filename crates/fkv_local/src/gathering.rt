@@ -2,6 +2,8 @@
 ghost use Rattle.std.specs.Prelude.{◌≡◌, ◌<◌, ℕ, [], length, map, IsTrue, IfErr, OnOk};
 ghost use Rattle.std.specs.BTreeMap.{get};
 ghost use Rattle.fkv_functions.specs.Plain.{Same};
+ghost use Rattle.fkv_alone.specs.Causes.{CanFailToRead, CanFailToWrite};
+ghost use Rattle.fkv_local.specs.Causing.{IsCausedBy};
 ghost use Rattle.fkv_local.specs.Resting.{AreAtRest};
 ghost use Rattle.fkv_local.specs.Listing.{IsUnlisted};
 ghost use Rattle.fkv_partition.specs.Unions.{union_of};
@@ -28,6 +30,8 @@ pub fn gather<F: Mergeable, D: Disk>(
     ensures sized { length shards.new ≡ length shards.old }
     ensures steady { OnOk result (map D.Reader.failures (map (λ shard. shard.reader) shards.new)
         ≡ map D.Reader.failures (map (λ shard. shard.reader) shards.old)) }
+    ensures caused { IsTrue D.Receipt.keeps → IfErr result
+        (IsCausedBy (CanFailToWrite D.Writer.next D.Writer.can_fail) (CanFailToRead D.Receipt.stands D.Reader.can_fail)) }
     ensures told { IfErr result (IsUnlisted D.Receipt.keeps D.Reader.failures (map (λ shard. shard.part.partition) shards.old)
         (map (λ shard. shard.reader) shards.old) (map (λ shard. shard.reader) shards.new)) }
 {

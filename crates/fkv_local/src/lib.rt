@@ -10,6 +10,7 @@ mod compacting;
 pub mod counting;
 mod driving;
 mod gathering;
+pub mod laws;
 pub mod listing;
 mod merging;
 mod moving;

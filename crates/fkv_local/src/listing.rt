@@ -1,6 +1,8 @@
 //! The live pairs of a store, a partition at a time.
 ghost use Rattle.std.specs.Prelude.{◌≡◌, ◌<◌, ◌↔◌, length, map, Ok, None, ◌-◌, IsTrue, IfOk, IfErr, IfSome, OnOk, OnErr};
 ghost use Rattle.std.specs.BTreeMap.{get};
+ghost use Rattle.fkv_alone.specs.Causes.{CanFailToRead, CanFailToWrite};
+ghost use Rattle.fkv_local.specs.Causing.{IsCausedBy};
 ghost use Rattle.fkv_local.specs.Listing.{AreLeft, IsNextList, IsUnlistedAt, behind_next};
 
 use crate::parts::{Shard, Terms};
@@ -94,6 +96,8 @@ impl<F: Mergeable, D: Disk> Lists<F, D> {
         ensures after { OnOk result (self.new ≡ behind_next self.old) }
         ensures unchanged { OnErr result (self.new ≡ record self.old { readers = self.new.readers }) }
         ensures rest { OnErr result (behind_next self.new ≡ behind_next self.old) }
+        ensures caused { IsTrue D.Receipt.keeps → IfErr result
+            (IsCausedBy (CanFailToWrite D.Writer.next D.Writer.can_fail) (CanFailToRead D.Receipt.stands D.Reader.can_fail)) }
         ensures told { IfErr result (IsUnlistedAt D.Receipt.keeps D.Reader.failures self.old.parts self.old.readers self.new.readers
             (length self.old.parts - 1)) }
     {

@@ -3,6 +3,8 @@ ghost use Rattle.std.specs.Prelude.{◌≡◌, ◌≤◌, ◌<◌, ℕ, true, No
 ghost use Rattle.fkv_operations.specs.After.{key_of, is_merge};
 ghost use Rattle.fkv_operations.specs.declared.operations.KeyedOp.TheVariants.{Rmw};
 ghost use Rattle.fkv_partition.specs.CoreViews.{partition_of};
+ghost use Rattle.fkv_alone.specs.Causes.{CanFailToRead, CanFailToWrite};
+ghost use Rattle.fkv_local.specs.Causing.{IsCausedBy};
 ghost use Rattle.fkv_local.specs.Resting.{IsIdle, StaysIdle};
 ghost use Rattle.fkv_local.specs.Moving.{IsPassed};
 ghost use Rattle.fkv_local.specs.Storing.{Runs, Updates};
@@ -26,6 +28,7 @@ fn run_in_memory<F: Mergeable, D: Disk>(
     requires idle { IsIdle part.old.partition 0 }
     requires own { partition_of part.old.partition.core.count (F.code (key_of op)) ≡ part.old.partition.core.number }
     requires past { part.old.partition.core.moment ≤ clock.old }
+    requires numbered { D.Writer.next part.old.writer ≤ clock.old }
     requires begun { 0 < clock.old }
     ensures runs { IfOk result (λ told. IfSome told (λ answer.
         Runs D.Receipt.keeps F.Key.cmp F.meaning part.old.partition part.new.partition op (Ok answer))) }
@@ -36,6 +39,9 @@ fn run_in_memory<F: Mergeable, D: Disk>(
     ensures left { OnErr result (StaysIdle D.Receipt.keeps F.Key.cmp part.old.partition part.new.partition) }
     ensures merges { is_merge op ≡ true → IfOk result IsSome }
     ensures passed { IsPassed part.new.partition.core.moment clock.old clock.new }
+    ensures numbered { D.Writer.next part.new.writer ≤ clock.new }
+    ensures caused { IsTrue D.Receipt.keeps → IfErr result
+        (IsCausedBy (CanFailToWrite D.Writer.next D.Writer.can_fail) (CanFailToRead D.Receipt.stands D.Reader.can_fail)) }
     ensures told { IfErr result (λ e. (reads : ℕ) → IsStopped D.Receipt.keeps F.MERGES
         op part.new.partition.core.records.tail clock.new
         (record { writes = D.Writer.failures part.old.writer; reads = reads })
@@ -68,9 +74,13 @@ fn merge_for_page<F: Mergeable, D: Disk>(
     requires idle { IsIdle part.old.partition 0 }
     requires own { partition_of part.old.partition.core.count (F.code key.now) ≡ part.old.partition.core.number }
     requires past { part.old.partition.core.moment ≤ clock.old }
+    requires numbered { D.Writer.next part.old.writer ≤ clock.old }
     requires begun { 0 < clock.old }
     ensures runs { Updates D.Receipt.keeps F.Key.cmp F.meaning part.old.partition part.new.partition key.now input.now result }
     ensures passed { IsPassed part.new.partition.core.moment clock.old clock.new }
+    ensures numbered { D.Writer.next part.new.writer ≤ clock.new }
+    ensures caused { IsTrue D.Receipt.keeps → IfErr result
+        (IsCausedBy (CanFailToWrite D.Writer.next D.Writer.can_fail) (CanFailToRead D.Receipt.stands D.Reader.can_fail)) }
     ensures told { IfErr result (λ e. (reads : ℕ) → IsStopped {V = F.Value} D.Receipt.keeps F.MERGES
         (Rmw key.now input.now) part.new.partition.core.records.tail clock.new
         (record { writes = D.Writer.failures part.old.writer; reads = reads })
@@ -104,10 +114,14 @@ pub fn update_or_merge<F: Mergeable, D: Disk>(
     requires idle { IsIdle shard.old.part.partition 0 }
     requires own { partition_of shard.old.part.partition.core.count (F.code key.now) ≡ shard.old.part.partition.core.number }
     requires past { shard.old.part.partition.core.moment ≤ clock.old }
+    requires numbered { D.Writer.next shard.old.part.writer ≤ clock.old }
     requires begun { 0 < clock.old }
     ensures runs { Updates D.Receipt.keeps F.Key.cmp F.meaning shard.old.part.partition shard.new.part.partition
         key.now input.now result }
     ensures passed { IsPassed shard.new.part.partition.core.moment clock.old clock.new }
+    ensures numbered { D.Writer.next shard.new.part.writer ≤ clock.new }
+    ensures caused { IsTrue D.Receipt.keeps → IfErr result
+        (IsCausedBy (CanFailToWrite D.Writer.next D.Writer.can_fail) (CanFailToRead D.Receipt.stands D.Reader.can_fail)) }
     ensures told { IfErr result (IsRefusedBy {V = F.Value} D.Receipt.keeps F.MERGES terms.now.keeps_log
         D.Writer.failures D.Reader.failures (Rmw key.now input.now) shard.new.part.partition.core.records.tail clock.new
         shard.old.part.writer shard.old.reader shard.new.part.writer shard.new.reader) }

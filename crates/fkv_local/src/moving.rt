@@ -3,12 +3,14 @@
 //! A partition keeps its newest records in memory. ReadOnly follows the tail at half of the frames, each page below it
 //! is written, and Head follows so that the page after the tail's finds its frame free. Whatever is refused on the way, the map
 //! stays, and the next call takes up where this one ended.
-ghost use Rattle.std.specs.Prelude.{◌≡◌, ◌<◌, ◌≤◌, ◌+◌, ◌^◌, false, IfOk, IfErr, OnOk};
+ghost use Rattle.std.specs.Prelude.{◌≡◌, ◌<◌, ◌≤◌, ◌+◌, ◌^◌, false, IsTrue, IfOk, IfErr, OnOk};
 ghost use Rattle.fkv_records.specs.Places.{page_at, start_at};
 ghost use Rattle.fkv_regions.specs.Settled.{IsSettled};
 ghost use Rattle.fkv_regions.specs.RegionsView.{refreshed};
 ghost use Rattle.fkv_lookups.specs.RecordsViews.{IsFull};
 ghost use Rattle.fkv_partition.specs.CoreBeginning.{IsEntered};
+ghost use Rattle.fkv_alone.specs.Causes.{CanFailToRead, CanFailToWrite};
+ghost use Rattle.fkv_local.specs.Causing.{IsCausedBy};
 ghost use Rattle.fkv_local.specs.Moving.{IsTidied, IsOnward, StaysSettled, IsSameLog, IsWritten, IsPassed, IsMoveRefusal};
 
 use crate::parts::{Part, SLOT};
@@ -99,10 +101,14 @@ fn flush<F: Mergeable, D: Disk>(
     clock: &mut Clock,
 ) -> Result<bool, Refused>
     requires past { part.old.partition.core.moment ≤ clock.old }
+    requires numbered { D.Writer.next part.old.writer ≤ clock.old }
     ensures tidied { IsTidied D.Receipt.keeps F.Key.cmp part.old.partition part.new.partition }
     ensures onward { IsOnward part.old.partition part.new.partition }
     ensures settled { StaysSettled part.old.partition part.new.partition }
     ensures passed { IsPassed part.new.partition.core.moment clock.old clock.new }
+    ensures numbered { D.Writer.next part.new.writer ≤ clock.new }
+    ensures caused { IsTrue D.Receipt.keeps → IfErr result
+        (IsCausedBy (CanFailToWrite D.Writer.next D.Writer.can_fail) (CanFailToRead D.Receipt.stands D.Reader.can_fail)) }
     ensures same_log { IsSameLog part.old.partition part.new.partition }
     ensures same_offsets { part.new.partition.core.records.regions.offsets ≡ part.old.partition.core.records.regions.offsets }
     ensures later { OnOk result (clock.old < clock.new) }
@@ -146,6 +152,7 @@ fn flush_all<F: Mergeable, D: Disk>(
     clock: &mut Clock,
 ) -> Result<(), Refused>
     requires past { part.old.partition.core.moment ≤ clock.old }
+    requires numbered { D.Writer.next part.old.writer ≤ clock.old }
     ensures tidied { IsTidied D.Receipt.keeps F.Key.cmp part.old.partition part.new.partition }
     ensures onward { IsOnward part.old.partition part.new.partition }
     ensures settled { StaysSettled part.old.partition part.new.partition }
@@ -153,6 +160,9 @@ fn flush_all<F: Mergeable, D: Disk>(
     ensures same_offsets { part.new.partition.core.records.regions.offsets ≡ part.old.partition.core.records.regions.offsets }
     ensures written { OnOk result (IsWritten part.new.partition) }
     ensures passed { IsPassed part.new.partition.core.moment clock.old clock.new }
+    ensures numbered { D.Writer.next part.new.writer ≤ clock.new }
+    ensures caused { IsTrue D.Receipt.keeps → IfErr result
+        (IsCausedBy (CanFailToWrite D.Writer.next D.Writer.can_fail) (CanFailToRead D.Receipt.stands D.Reader.can_fail)) }
     ensures steady { OnOk result (D.Writer.failures part.new.writer ≡ D.Writer.failures part.old.writer) }
     ensures told { IfErr result (IsMoveRefusal clock.new (D.Writer.failures part.old.writer)
         (D.Writer.failures part.new.writer)) }
@@ -188,12 +198,16 @@ pub fn tidy<F: Mergeable, D: Disk>(
 ) -> Result<(), Refused>
     requires entered { IsEntered part.old.partition.core 0 }
     requires past { part.old.partition.core.moment ≤ clock.old }
+    requires numbered { D.Writer.next part.old.writer ≤ clock.old }
     ensures tidied { IsTidied D.Receipt.keeps F.Key.cmp part.old.partition part.new.partition }
     ensures onward { IsOnward part.old.partition part.new.partition }
     ensures settled { StaysSettled part.old.partition part.new.partition }
     ensures roomy { OnOk result (IsSettled part.old.partition.core.records.regions
         → IsFull part.new.partition.core.records → ⊥) }
     ensures passed { IsPassed part.new.partition.core.moment clock.old clock.new }
+    ensures numbered { D.Writer.next part.new.writer ≤ clock.new }
+    ensures caused { IsTrue D.Receipt.keeps → IfErr result
+        (IsCausedBy (CanFailToWrite D.Writer.next D.Writer.can_fail) (CanFailToRead D.Receipt.stands D.Reader.can_fail)) }
     ensures steady { OnOk result (D.Writer.failures part.new.writer ≡ D.Writer.failures part.old.writer) }
     ensures told { IfErr result (IsMoveRefusal clock.new (D.Writer.failures part.old.writer)
         (D.Writer.failures part.new.writer)) }

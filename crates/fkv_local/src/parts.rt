@@ -1,9 +1,9 @@
 //! One partition of a store, with the session that all operations are made in, and its places on a device.
-ghost use Rattle.std.specs.Prelude.{◌≡◌, ◌<◌, ◌+◌, ◌^◌, ◌∷◌, ◌++◌, [], ℕ, map, IfOk, IfErr, OnOk};
+ghost use Rattle.std.specs.Prelude.{◌≡◌, ◌<◌, ◌≤◌, ◌+◌, ◌^◌, ◌∷◌, ◌++◌, [], ℕ, Some, slice_get, map, IfOk, IfErr, OnOk};
 ghost use Rattle.fkv_records.specs.Records.{size_of};
 ghost use Rattle.fkv_device.specs.Failing.{FailsOnlyBy};
 ghost use Rattle.fkv_partition.specs.Limits.{IsWithinLimits, IsPartitionOf};
-ghost use Rattle.fkv_local.specs.Resting.{IsSeatedIn, AreNew};
+ghost use Rattle.fkv_local.specs.Resting.{IsSeatedIn, AreNew, AreNumbered};
 
 use fkv_device::Disk;
 use fkv_functions::{Mergeable, Refused};
@@ -19,6 +19,7 @@ pub const SLOT: usize = 0;
 pub struct Terms<F: Mergeable> {
     pub alloc: Global,
     pub functions: F,
+    pub config: Config,
     /// Whether logs are compacted on call alone.
     pub keeps_log: bool,
 }
@@ -76,6 +77,7 @@ fn placed<F: Mergeable, D: Disk>(
     requires small { number < 64 }
     requires of { IsPartitionOf config.now (size_of F.Key.SIZE F.Value.SIZE) number }
     ensures ok { IfOk result (λ shard. IsSeatedIn F.Key.cmp config.now number shard.part.partition) }
+    ensures unused { IfOk result (λ shard. D.Writer.next shard.part.writer ≡ 0) }
     ensures places { IfOk result
         (λ shard. (D.Writer.part shard.part.writer ≡ number) × (D.Reader.part shard.reader ≡ number)) }
     ensures steady { OnOk result (D.failures device.new ≡ D.failures device.old) }
@@ -128,6 +130,7 @@ pub fn all_placed<F: Mergeable, D: Disk>(
     requires count { count ≡ 2 ^ config.now.partition_bits }
     ensures ok { IfOk result
         (λ shards. AreNew F.Key.cmp config.now (map (λ shard. shard.part.partition) shards.items) count) }
+    ensures unused { IfOk result (λ shards. AreNumbered D.Writer.next (map (λ shard. shard.part.writer) shards.items) 0) }
     ensures steady { OnOk result (D.failures device.new ≡ D.failures device.old) }
     ensures told { IfErr result (FailsOnlyBy 1 0 (D.failures device.old) (D.failures device.new)) }
 {

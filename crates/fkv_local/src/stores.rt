@@ -1,5 +1,5 @@
 //! The store of one thread.
-ghost use Rattle.std.specs.Prelude.{◌≡◌, ◌≢◌, ◌<◌, ◌+◌, ◌-◌, ◌^◌, min, sum_by, ℕ, true, false, None, Some, Err, IsTrue, IfOk, IfErr, OnOk, List, map, length, slice_get};
+ghost use Rattle.std.specs.Prelude.{◌≡◌, ◌≢◌, ◌<◌, ◌+◌, ◌-◌, ◌^◌, min, sum_by, ℕ, false, true, None, Some, Err, IsTrue, IfOk, IfErr, OnOk, List, map, length, slice_get};
 ghost use Rattle.std.specs.BTreeMap.{get};
 ghost use Rattle.fkv_records.specs.Records.{size_of};
 ghost use Rattle.fkv_functions.specs.Plain.{Same};
@@ -9,6 +9,10 @@ ghost use Rattle.fkv_partition.specs.CoreViews.{partition_of};
 ghost use Rattle.fkv_partition.specs.Limits.{IsWithinLimits};
 ghost use Rattle.fkv_partition.specs.Views.{PartitionView};
 ghost use Rattle.fkv_local.specs.Storing.{plain, IsRun, IsUpdateRun, IsUnopened, SameTerms, log_bytes, evicted_bytes};
+ghost use Rattle.fkv_alone.specs.Bound.{may_load};
+ghost use Rattle.fkv_alone.specs.Causes.{CanFailToRead, CanFailToWrite};
+ghost use Rattle.fkv_local.specs.Resting.{IsMadeBy};
+ghost use Rattle.fkv_local.specs.Causing.{IsCausedBy};
 ghost use Rattle.fkv_local.specs.Clearing.{IsCutAt, AnyIsCut, IsAllCut, IsGivenBack, IsAllGivenBack, begin_at};
 ghost use Rattle.fkv_local.specs.Refusing.{IsRefusal, IsUncompacted, IsUncompactedAt, FailedAsBefore, StaysAt};
 ghost use Rattle.fkv_local.specs.Listing.{IsUnlisted, lists_of, left};
@@ -42,7 +46,8 @@ pub struct LocalStore<F: Mergeable, D: Disk> {
 
 impl<F: Mergeable, D: Disk> Model for LocalStore<F, D> {
     ghost use Rattle.std.specs.Prelude.{map};
-    ghost use Rattle.fkv_local.specs.Resting.{AreAtRest};
+    ghost use Rattle.std.specs.Prelude.{◌≡◌, ◌≤◌, ℕ, Some, slice_get};
+    ghost use Rattle.fkv_local.specs.Resting.{AreAtRest, AreNumbered};
     ghost use Rattle.fkv_local.specs.Storing.{StoreView};
 
     ghost Value = { StoreView F.Key F.Value F.Input D.Writer D.Reader };
@@ -51,11 +56,13 @@ impl<F: Mergeable, D: Disk> Model for LocalStore<F, D> {
       parts = map (λ shard. shard.part.partition) s.shards.items;
       writers = map (λ shard. shard.part.writer) s.shards.items;
       readers = map (λ shard. shard.reader) s.shards.items;
+      config = s.terms.config;
       keeps_log = s.terms.keeps_log;
       moments = s.clock;
     } };
 
-    ghost invariant = { λ s. AreAtRest (map (λ shard. shard.part.partition) s.shards.items) s.clock };
+    ghost invariant = { λ s. AreAtRest (map (λ shard. shard.part.partition) s.shards.items) s.clock
+        × AreNumbered D.Writer.next (map (λ shard. shard.part.writer) s.shards.items) s.clock };
 }
 
 impl<F: Mergeable, D: Disk> LocalStore<F, D> {
@@ -73,6 +80,8 @@ impl<F: Mergeable, D: Disk> LocalStore<F, D> {
     ) -> Result<Self, Refused>
         ensures empty { IfOk result (λ s. (k : F.Key) → plain F.Key.cmp F.code s k ≡ None) }
         ensures compacts { IfOk result (λ s. s.keeps_log ≡ false) }
+        ensures configured { IfOk result (λ s. s.config ≡ config.now) }
+        ensures made { IfOk result (λ s. (p : ℕ) (v : PartitionView F.Key F.Value F.Input) → slice_get s.parts p ≡ Some v → IsMadeBy config.now v) }
         ensures sized { IfOk result (λ s. length s.parts ≡ 2 ^ config.now.partition_bits) }
         ensures good { result ≢ Err Refused.BadConfig → IsWithinLimits config.now (size_of F.Key.SIZE F.Value.SIZE) }
         ensures bad { result ≡ Err Refused.BadConfig → IsWithinLimits config.now (size_of F.Key.SIZE F.Value.SIZE) → ⊥ }
@@ -88,6 +97,7 @@ impl<F: Mergeable, D: Disk> LocalStore<F, D> {
                 terms: Terms {
                     alloc,
                     functions,
+                    config: *config,
                     keeps_log: false,
                 },
                 shards,
@@ -95,6 +105,13 @@ impl<F: Mergeable, D: Disk> LocalStore<F, D> {
             }),
             Err(refused) => Err(refused),
         }
+    }
+
+    /// The configuration that the store was opened with.
+    pub fn config(&self) -> &Config
+        ensures { result.now ≡ self.now.config }
+    {
+        &self.terms.config
     }
 
     /// From now on no log is compacted by itself, but by [`LocalStore::compact`] alone.
@@ -115,6 +132,9 @@ impl<F: Mergeable, D: Disk> LocalStore<F, D> {
         ensures runs { IsTrue D.Receipt.keeps → IsRun F.Key.cmp F.meaning (plain F.Key.cmp F.code self.old) (plain F.Key.cmp F.code self.new) op result }
         ensures told { IfErr result (IsRefusal D.Receipt.keeps F.MERGES
             F.code D.Writer.failures D.Reader.failures self.old self.new op) }
+        ensures caused { IsTrue D.Receipt.keeps → IfErr result
+            (IsCausedBy (CanFailToWrite D.Writer.next D.Writer.can_fail) (CanFailToRead D.Receipt.stands D.Reader.can_fail)) }
+        ensures unread { may_load op ≡ false → IsTrue self.old.keeps_log → self.new.readers ≡ self.old.readers }
         ensures same_terms { SameTerms self.old self.new }
     {
         let home = self.home(&op.key());
@@ -132,6 +152,8 @@ impl<F: Mergeable, D: Disk> LocalStore<F, D> {
         ensures runs { IsTrue D.Receipt.keeps → IsRun F.Key.cmp F.meaning (plain F.Key.cmp F.code self.old) (plain F.Key.cmp F.code self.new) (Rmw key.now input.now) result }
         ensures told { IfErr result (IsRefusal D.Receipt.keeps F.MERGES
             F.code D.Writer.failures D.Reader.failures self.old self.new (Rmw key.now input.now)) }
+        ensures caused { IsTrue D.Receipt.keeps → IfErr result
+            (IsCausedBy (CanFailToWrite D.Writer.next D.Writer.can_fail) (CanFailToRead D.Receipt.stands D.Reader.can_fail)) }
         ensures same_terms { SameTerms self.old self.new }
     {
         let home = self.home(key);
@@ -154,6 +176,8 @@ impl<F: Mergeable, D: Disk> LocalStore<F, D> {
         ensures told { IfErr result (IsRefusal D.Receipt.keeps F.MERGES
             F.code D.Writer.failures D.Reader.failures self.old self.new (Rmw key.now input.now)) }
         ensures unread { IsTrue F.MERGES → IsTrue self.old.keeps_log → self.new.readers ≡ self.old.readers }
+        ensures caused { IsTrue D.Receipt.keeps → IfErr result
+            (IsCausedBy (CanFailToWrite D.Writer.next D.Writer.can_fail) (CanFailToRead D.Receipt.stands D.Reader.can_fail)) }
         ensures same_terms { SameTerms self.old self.new }
     {
         let place = self.home(key);
@@ -170,6 +194,8 @@ impl<F: Mergeable, D: Disk> LocalStore<F, D> {
         ensures runs { IsTrue D.Receipt.keeps → IsRun F.Key.cmp F.meaning (plain F.Key.cmp F.code self.old) (plain F.Key.cmp F.code self.new) (Read key.now input.now) result }
         ensures told { IfErr result (IsRefusal D.Receipt.keeps F.MERGES
             F.code D.Writer.failures D.Reader.failures self.old self.new (Read key.now input.now)) }
+        ensures caused { IsTrue D.Receipt.keeps → IfErr result
+            (IsCausedBy (CanFailToWrite D.Writer.next D.Writer.can_fail) (CanFailToRead D.Receipt.stands D.Reader.can_fail)) }
         ensures same_terms { SameTerms self.old self.new }
     {
         let home = self.home(key);
@@ -186,6 +212,9 @@ impl<F: Mergeable, D: Disk> LocalStore<F, D> {
         ensures runs { IsTrue D.Receipt.keeps → IsRun F.Key.cmp F.meaning (plain F.Key.cmp F.code self.old) (plain F.Key.cmp F.code self.new) (Upsert key.now value.now) result }
         ensures told { IfErr result (IsRefusal D.Receipt.keeps F.MERGES
             F.code D.Writer.failures D.Reader.failures self.old self.new (Upsert key.now value.now)) }
+        ensures caused { IsTrue D.Receipt.keeps → IfErr result
+            (IsCausedBy (CanFailToWrite D.Writer.next D.Writer.can_fail) (CanFailToRead D.Receipt.stands D.Reader.can_fail)) }
+        ensures unread { IsTrue self.old.keeps_log → self.new.readers ≡ self.old.readers }
         ensures same_terms { SameTerms self.old self.new }
     {
         self.run(KeyedOp::Upsert(*key, *value))
@@ -200,6 +229,9 @@ impl<F: Mergeable, D: Disk> LocalStore<F, D> {
         ensures runs { IsTrue D.Receipt.keeps → IsRun F.Key.cmp F.meaning (plain F.Key.cmp F.code self.old) (plain F.Key.cmp F.code self.new) (Delete key.now) result }
         ensures told { IfErr result (IsRefusal D.Receipt.keeps F.MERGES
             F.code D.Writer.failures D.Reader.failures self.old self.new (Delete key.now)) }
+        ensures caused { IsTrue D.Receipt.keeps → IfErr result
+            (IsCausedBy (CanFailToWrite D.Writer.next D.Writer.can_fail) (CanFailToRead D.Receipt.stands D.Reader.can_fail)) }
+        ensures unread { IsTrue self.old.keeps_log → self.new.readers ≡ self.old.readers }
         ensures same_terms { SameTerms self.old self.new }
     {
         self.run(KeyedOp::Delete(*key))
@@ -214,6 +246,9 @@ impl<F: Mergeable, D: Disk> LocalStore<F, D> {
         ensures runs { IsTrue D.Receipt.keeps → IsRun F.Key.cmp F.meaning (plain F.Key.cmp F.code self.old) (plain F.Key.cmp F.code self.new) (Merge key.now input.now) result }
         ensures told { IfErr result (IsRefusal D.Receipt.keeps F.MERGES
             F.code D.Writer.failures D.Reader.failures self.old self.new (Merge key.now input.now)) }
+        ensures caused { IsTrue D.Receipt.keeps → IfErr result
+            (IsCausedBy (CanFailToWrite D.Writer.next D.Writer.can_fail) (CanFailToRead D.Receipt.stands D.Reader.can_fail)) }
+        ensures unread { IsTrue self.old.keeps_log → self.new.readers ≡ self.old.readers }
         ensures same_terms { SameTerms self.old self.new }
     {
         self.run(KeyedOp::Merge(*key, *input))
@@ -230,12 +265,15 @@ impl<F: Mergeable, D: Disk> LocalStore<F, D> {
         ensures stays { self.new ≡ record self.old { readers = self.new.readers } }
         ensures steady { OnOk result (map D.Reader.failures self.new.readers ≡ map D.Reader.failures self.old.readers) }
         ensures told { IfErr result (IsUnlisted D.Receipt.keeps D.Reader.failures self.old.parts self.old.readers self.new.readers) }
+        ensures caused { IsTrue D.Receipt.keeps → IfErr result
+            (IsCausedBy (CanFailToWrite D.Writer.next D.Writer.can_fail) (CanFailToRead D.Receipt.stands D.Reader.can_fail)) }
     {
         let mut map = BTreeMap::new(self.terms.alloc);
         match gather(&self.terms.functions, &mut map, &mut self.shards) {
-            Ok(()) => Ok(map),
-            Err(refused) => Err(refused),
+            Ok(()) => {}
+            Err(refused) => return Err(refused),
         }
+        Ok(map)
     }
 
     /// The map that the store is, as [`LocalStore::live`] gives it, and the end of the store.
@@ -247,6 +285,8 @@ impl<F: Mergeable, D: Disk> LocalStore<F, D> {
         ensures map { IsTrue D.Receipt.keeps → IfOk result (λ live. Same (get F.Key.cmp live) (plain F.Key.cmp F.code self)) }
         ensures told { IfErr result (λ why. (readers : List D.Reader)
             × IsUnlisted D.Receipt.keeps D.Reader.failures self.parts self.readers readers why) }
+        ensures caused { IsTrue D.Receipt.keeps → IfErr result
+            (IsCausedBy (CanFailToWrite D.Writer.next D.Writer.can_fail) (CanFailToRead D.Receipt.stands D.Reader.can_fail)) }
     {
         let mut store = self;
         store.live()
@@ -273,6 +313,8 @@ impl<F: Mergeable, D: Disk> LocalStore<F, D> {
     pub fn compact(&mut self) -> Result<bool, Refused>
         ensures stays { IsTrue D.Receipt.keeps → Same (plain F.Key.cmp F.code self.new) (plain F.Key.cmp F.code self.old) }
         ensures sized { length self.new.parts ≡ length self.old.parts }
+        ensures caused { IsTrue D.Receipt.keeps → IfErr result
+            (IsCausedBy (CanFailToWrite D.Writer.next D.Writer.can_fail) (CanFailToRead D.Receipt.stands D.Reader.can_fail)) }
         ensures same_terms { SameTerms self.old self.new }
         ensures given_back { OnOk result (IsAllGivenBack self.old self.new) }
         ensures cut { IfOk result (AnyIsCut self.old self.new) }
@@ -296,6 +338,8 @@ impl<F: Mergeable, D: Disk> LocalStore<F, D> {
         requires within { home < length self.old.parts }
         ensures stays { IsTrue D.Receipt.keeps → Same (plain F.Key.cmp F.code self.new) (plain F.Key.cmp F.code self.old) }
         ensures sized { length self.new.parts ≡ length self.old.parts }
+        ensures caused { IsTrue D.Receipt.keeps → IfErr result
+            (IsCausedBy (CanFailToWrite D.Writer.next D.Writer.can_fail) (CanFailToRead D.Receipt.stands D.Reader.can_fail)) }
         ensures same_terms { SameTerms self.old self.new }
         ensures others { (p : ℕ) → p ≢ home → StaysAt self.old self.new p }
         ensures given_back { OnOk result ((v w : PartitionView F.Key F.Value F.Input)

@@ -197,6 +197,8 @@ impl<F: Mergeable, R: Receipt, H: Recorder<F>> Locked<F, R, H> {
             self.old.partition self.new.partition mine.now.session.slot
             mine.now.context came (self.old.clock + 1) (Err why)) }
         ensures left { IfErr result (λ _. (self.new ≡ self.old) ⊎ IsLoadRefused self.old self.new mine.now) }
+        // on a device that keeps it finds no damage, and tells only of what came in place of the page
+        ensures undamaged { IsTrue R.keeps → (page : ℕ) → result ≡ Err (Refused.Damaged page) → came ≡ Err (Refused.Damaged page) }
     {
         let Locked {
             partition,

@@ -48,6 +48,8 @@ impl<'a, R: PageReader> PageReader for MeteredReader<'a, R> {
 
     ghost part = { λ r. R.part r.reader };
 
+    ghost reads = { λ r. R.reads r.reader };
+
     ghost can_fail = { R.can_fail };
 
     fn read(&mut self, receipt: &R::Receipt, size: usize) -> Result<Page, Refused> {

@@ -12,5 +12,5 @@ pub mod sources;
 
 pub use devices::{MeteredDevice, MeteredReader, MeteredWriter};
 pub use meters::{Meters, Seen};
-pub use progress::{Progress, Silent, Telling};
+pub use progress::{Beside, Progress, Silent, Telling};
 pub use sources::ProgressSource;

@@ -2,7 +2,7 @@
 ghost use Rattle.std.specs.Prelude.{◌≡◌, ◌==◌, ◌+◌, ◌-◌, ◌*◌, ◌/◌, ◌^◌, ◌≤◌, ◌↔◌, IsTrue, count_by, max, min};
 
 use std::io::Print;
-use std::rt::Clock;
+use std::rt::{Clock, Stderr};
 use std::sync::atomic::{AtomicBool, AtomicU64, Ordering};
 
 /// The milliseconds that pass at least between two lines.
@@ -22,6 +22,11 @@ pub trait Progress {
     /// The run has read its feeds: from now on nothing is to be told, and a line that was begun is to be ended.
     fn end(&self);
 }
+
+/// An output beside that of what a run makes, to which may go how far the run is. Standard output is none.
+pub trait Beside: Print {}
+
+impl Beside for Stderr {}
 
 /// Tells nothing.
 #[derive(Clone, Copy, Debug, Default)]
@@ -88,7 +93,7 @@ pub(crate) fn line_ends(bytes: &[u8]) -> u64
     bytes.iter().filter(|byte| **byte == b'\n').count() as u64
 }
 
-impl<'a, C: Clock, E: Print> Telling<'a, C, E> {
+impl<'a, C: Clock, E: Beside> Telling<'a, C, E> {
     /// Is to tell on this output, which is a terminal or not, by this clock. It has not begun.
     pub fn new(clock: &'a C, output: &'a E, is_terminal: bool) -> Telling<'a, C, E> {
         Telling {
@@ -135,7 +140,7 @@ impl<'a, C: Clock, E: Print> Telling<'a, C, E> {
     }
 }
 
-impl<'a, C: Clock, E: Print> Progress for Telling<'a, C, E> {
+impl<'a, C: Clock, E: Beside> Progress for Telling<'a, C, E> {
     fn begin(&self) {
         self.last
             .store(millis(self.clock).unwrap_or(0), Ordering::SeqCst);

@@ -166,6 +166,7 @@ impl<F: Mergeable, R: Receipt> Partition<F, R> {
             IsLoaded F.Key.cmp F.meaning self.old.core self.new.core slot context now progress) }
         ensures undamaged { IsTrue R.keeps → (page : ℕ) → result ≡ Err (Refused.Damaged page)
             → P.failures reader.new ≡ P.failures reader.old + 1 }
+        ensures once { P.reads reader.new ≤ P.reads reader.old + 1 }
         ensures unread { ((page : ℕ) → WaitsFor self.old.core slot context page → ⊥) → reader.new ≡ reader.old }
         ensures caused { P.failures reader.new ≢ P.failures reader.old → (page : ℕ)
             × MayFail R.stands P.can_fail self.old.core.records.receipts self.old.core.records.page_bits page }

@@ -107,6 +107,7 @@ impl<F: Mergeable, R: Receipt> Core<F, R> {
         // on a device that keeps, it finds no damage, and tells only of what the reader counted
         ensures undamaged { IsTrue R.keeps → (page : ℕ) → result ≡ Err (Refused.Damaged page)
             → P.failures reader.new ≡ P.failures reader.old + 1 }
+        ensures once { P.reads reader.new ≤ P.reads reader.old + 1 }
         ensures unread { ((page : ℕ) → WaitsFor self.old slot context page → ⊥) → reader.new ≡ reader.old }
         ensures caused { P.failures reader.new ≢ P.failures reader.old → (page : ℕ)
             × MayFail R.stands P.can_fail self.old.records.receipts self.old.records.page_bits page }
@@ -144,6 +145,7 @@ impl<F: Mergeable, R: Receipt> Core<F, R> {
         ensures own { IfOk result (λ l. IsHeldBy self.now.records.receipts page (R.stands l.receipt)) }
         ensures steady { OnOk result (P.failures reader.new ≡ P.failures reader.old) }
         ensures counted { IfErr result (ReadFailsBy page (P.failures reader.old) (P.failures reader.new)) }
+        ensures once { P.reads reader.new ≤ P.reads reader.old + 1 }
         ensures caused { IfErr result (λ e. e ≢ Refused.NoMemory
             → MayFail R.stands P.can_fail self.now.records.receipts self.now.records.page_bits page) }
     {

@@ -230,6 +230,7 @@ impl<F: Mergeable, R: Receipt> Partition<F, R> {
         ensures others { IsTrue R.keeps → OthersPend F.Key.cmp self.old.core self.new.core slot context }
         ensures cleared { result ≡ Ok (Done Cleared now)
             → IfSome (relocation_at self.old slot context) (λ x. x.target < self.new.cleared) }
+        ensures once { P.reads reader.new ≤ P.reads reader.old + 1 }
         ensures unread { ((page : ℕ) → WaitsFor self.old slot context page → ⊥) → reader.new ≡ reader.old }
         // the reader fails only where it may for the receipt that is kept of a page
         ensures caused { P.failures reader.new ≢ P.failures reader.old → (page : ℕ)

@@ -90,6 +90,7 @@ impl<F: Mergeable, R: Receipt> Partition<F, R> {
         ensures event { IfOk result (λ _. IsRelocating R.keeps F.Key.cmp self.old self.new slot context now) }
         ensures cleared { result ≡ Ok (Progress.Done Answer.Cleared now)
             → IfSome (relocation_at self.old slot context) (λ x. x.target < self.new.cleared) }
+        ensures once { P.reads reader.new ≤ P.reads reader.old + 1 }
         ensures unread { ((page : ℕ) → WaitsOn self.old slot context page → ⊥) → reader.new ≡ reader.old }
         ensures caused { P.failures reader.new ≢ P.failures reader.old → (page : ℕ)
             × MayFail R.stands P.can_fail self.old.core.records.receipts self.old.core.records.page_bits page }

@@ -1,5 +1,8 @@
 pub mod StopLemmas
 pub mod ClosingLemmas
+pub mod CountLemmas
+mod MoveLemmas
+mod LeftLemmas
 mod PartedLemmas
 pub mod PassLemmas
 mod RunLemmas

@@ -1,3 +1,4 @@
 pub mod Stores
 pub mod Passes
 pub mod Runs
+pub mod Closes

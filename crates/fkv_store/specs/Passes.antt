@@ -1,5 +1,5 @@
 -- What a contract sees of a pass, and what an operation that it runs adds.
-use Rattle.std.specs.Prelude.{◌≡◌, ◌≢◌, ◌+◌, ◌≤◌, ◌⊎◌, ℕ, Bool, true, List, [], ◌∷◌, ◌++◌, Option, Some, length, slice_set, slice_index, slice_index_or}
+use Rattle.std.specs.Prelude.{◌≡◌, ◌≢◌, ◌+◌, ◌<◌, ◌≤◌, max, ◌⊎◌, ℕ, Bool, true, List, [], ◌∷◌, ◌++◌, Option, Some, length, slice_set, slice_index, slice_index_or}
 use Rattle.fkv_functions.specs.declared.refusals.Refused.{Refused}
 use Rattle.fkv_functions.specs.declared.refusals.Refused.TheVariants.{Stranger}
 use Rattle.fkv_functions.specs.declared.refusals.What.TheVariants as what
@@ -11,8 +11,9 @@ use Rattle.fkv_locked.specs.Owns.{told_after}
 use Rattle.fkv_store.specs.Stores.{StoreView}
 
 -- the number of its store; for each partition its own list, and of how many updates it was told there; and its share: how
--- many entries it took; and the answer of the last. It takes what events finished under a lock, and nothing else (`Owns`). And how
--- many turns its last operation took that was issued: each is a hold of a lock in which an event of it was made (`Turned`)
+-- many entries it took; and the answer of the last. It takes what events finished under a lock, and nothing else (`Owns`). Then how
+-- many turns its last operation took since its issue, and how many faults of pages it passed over: each turn is a hold of a lock in
+-- which an event of it was made (`Turned`). And of each partition how often the reader of its pages has failed
 pub record PassView (K V I O : Type 0) : Type 0 where
   pub store : ℕ
   pub own : List (List (Entry K V I O))
@@ -20,6 +21,14 @@ pub record PassView (K V I O : Type 0) : Type 0 where
   pub share : ℕ
   pub last : Option (Answer O)
   pub turned : ℕ
+  pub missed : ℕ
+  pub reads : List ℕ
+
+-- how far a pass was told of a partition: its store's number, the partition, and of how many updates
+pub record MarkView : Type 0 where
+  pub store : ℕ
+  pub partition : ℕ
+  pub told : ℕ
 
 -- an update of a key by an input, or a merge, which does the same to the map
 abbrev pub IsUpdateBy : {K V I : Type 0} → K → I → KeyedOp K V I → Type 0
@@ -29,6 +38,21 @@ module _ {K V I O : Type 0} where
   -- a pass is of a store where it has the store's number, and as many partitions
   abbrev pub IsPassOf : StoreView → PassView K V I O → Type 0
   IsPassOf s p = (p.store ≡ s.id) × (length p.told ≡ s.count)
+
+  -- a mark is of the store of a pass, and of one of its partitions
+  abbrev pub IsMarkOf : PassView K V I O → MarkView → Type 0
+  IsMarkOf p m = (m.store ≡ p.store) × (m.partition < length p.told)
+
+  -- it was heard: no later answer there comes from fewer updates than it tells of
+  abbrev pub heard_by : PassView K V I O → MarkView → PassView K V I O
+  heard_by p m = record p { told = slice_set p.told m.partition (max (slice_index p.told m.partition) m.told) }
+
+  -- another store's mark is refused with the two stores' numbers, or, where these agree, with how many partitions there are and the
+  -- mark's
+  abbrev pub IsStrangeMark : PassView K V I O → MarkView → Refused → Type 0
+  IsStrangeMark p m (Stranger what.Pass held came) = ((m.store ≢ p.store) × (held ≡ p.store) × (came ≡ m.store))
+      ⊎ ((m.store ≡ p.store) × (length p.told ≤ m.partition) × (held ≡ length p.told) × (came ≡ m.partition))
+  IsStrangeMark p m other = ⊥
 
   -- an operation was answered: by one entry of this operation and answer, whose place is not before what the pass was told
   -- of the partition; where entries are kept the own list has it, at its end

@@ -6,6 +6,7 @@ ghost use Rattle.fkv_locked.specs.Kept.{seen, IsEnded};
 ghost use Rattle.fkv_partition.specs.Unions.{union_of};
 ghost use Rattle.fkv_closing.specs.Closing.{IsClosed, AreMerged, AreNumbered};
 ghost use Rattle.fkv_closing.specs.Lists.{lists_of};
+ghost use Rattle.fkv_store.specs.Closes.{IsUnclosedBy, IsUnsettledBy};
 ghost use Rattle.fkv_store.specs.Passes.{IsPassOf};
 ghost use Rattle.fkv_store.specs.Stores.{AreReaders, IsClosing, IsEnding, IsUnopened};
 
@@ -171,6 +172,9 @@ impl<F: Mergeable, D: Disk, H: Recorder<F>> Store<F, D, H> {
         ensures foreign { ¬ All (IsPassOf self) passes.items → result ≡ Err Refused.Mismatch }
         ensures worn { All (IsPassOf self) passes.items → 2 ^ 64 ≤ sum (map (λ pass. pass.share) passes.items)
             → IfErr result (λ why. (why ≡ Refused.Worn) ⊎ IsUnopened why) }
+        ensures refused { All (IsPassOf self) passes.items → IfErr result (λ why. IsUnopened why
+            ⊎ IsUnclosedBy F.Key.cmp F.meaning H.keeps D.Receipt.keeps self.count (map (λ pass. pass.own) passes.items)
+            (map (λ pass. pass.share) passes.items) why) }
         ensures only { IfErr result IsClosing }
     {
         let left = match self.leave(alloc, passes) {
@@ -224,6 +228,9 @@ impl<F: Mergeable, D: Disk, H: Recorder<F>> Store<F, D, H> {
         ensures foreign { ¬ All (IsPassOf self) passes.items → result ≡ Err Refused.Mismatch }
         ensures worn { All (IsPassOf self) passes.items → 2 ^ 64 ≤ sum (map (λ pass. pass.share) passes.items)
             → IfErr result (λ why. (why ≡ Refused.Worn) ⊎ IsUnopened why) }
+        ensures refused { All (IsPassOf self) passes.items → IfErr result (λ why. IsUnopened why
+            ⊎ IsUnsettledBy F.Key.cmp F.meaning H.keeps D.Receipt.keeps self.count (map (λ pass. pass.own) passes.items)
+            (map (λ pass. pass.share) passes.items) why) }
         ensures only { IfErr result IsEnding }
     {
         let left = match self.leave(alloc, passes) {

@@ -1,10 +1,10 @@
 //! How the start of a partition's log is cleared and cut, a hold at a time.
-ghost use Rattle.std.specs.Prelude.{◌≡◌, ◌<◌, ◌≤◌, Err, IfErr};
-ghost use Rattle.fkv_store.specs.Stores.{IsUncompacted};
+ghost use Rattle.std.specs.Prelude.{◌≡◌, ◌≢◌, ◌+◌, ◌-◌, ◌^◌, ◌<◌, ◌≤◌, ◌⊎◌, Err, IfOk, IfErr};
+ghost use Rattle.fkv_store.specs.Stores.{IsUncompacted, IsUnrelocated, IsUncut, IsUnentered, IsUnopened};
+ghost use Rattle.fkv_store.specs.declared.compacting.Stage.TheVariants.{Over};
 
 use crate::gates::{Gate, Place};
 use crate::holds::At;
-use crate::refusals::told_of_compaction;
 use crate::stores::Store;
 use crate::tidying::KEEPER;
 use fkv_compaction::Compactor;
@@ -13,13 +13,38 @@ use fkv_functions::{Mergeable, Refused};
 use fkv_histories::Recorder;
 use fkv_partition::{Progress, ProgressOf};
 use fkv_records::Address;
-use std::alloc::Global;
+use std::marker::Model;
 use std::sync::Wait;
 use std::sync::atomic::{AtomicBool, Ordering};
 
 /// How often one relocation begins anew in one call, because callers moved the entry of its key meanwhile. After that it is given
 /// up: they write the key faster than it follows.
 const RESTARTS: u8 = 8;
+
+/// How many events of relocations a compaction made. Only the hold that makes one counts it.
+#[derive(Drop)]
+pub struct Events {
+    count: u64,
+}
+
+impl Model for Events {
+    ghost use Rattle.std.specs.Prelude.{ℕ};
+
+    ghost Value = { ℕ };
+
+    ghost view = { λ e. e.count };
+
+    ghost inverse = { λ n. record { count = n } };
+}
+
+impl Events {
+    /// No event.
+    pub fn none() -> Events
+        ensures { result ≡ 0 }
+    {
+        Events { count: 0 }
+    }
+}
 
 /// A compactor that has joined, up to where it relocates, which is Head as it was then, and how often pages had been moved.
 #[derive(Drop)]
@@ -80,18 +105,28 @@ enum Stage<R: Drop> {
     Over,
 }
 
-/// What comes of an event of a compactor: relocations end where one waits, or where none is due.
-fn after_event<F: Mergeable, D: Disk>(
-    turned: Result<ProgressOf<F, D::Receipt>, Refused>,
-) -> Result<Stage<D::Receipt>, Refused>
-    ensures only { IfErr result IsUncompacted }
+/// What comes of a refused event of a compactor: relocations end where none is due, and where its session is not its own any more.
+/// The session is known to no other caller, so that does not come.
+fn after_refusal<R: Drop>(refused: Refused) -> Result<Stage<R>, Refused>
+    ensures only { IfErr result IsUnrelocated }
+    ensures over { IfOk result (λ stage. stage ≡ Over) }
 {
-    match turned {
-        Ok(Progress::NeedsLoad(receipt, _)) => Ok(Stage::NeedsLoad(receipt)),
-        Ok(Progress::Waits(_)) | Err(Refused::NotDue) => Ok(Stage::Over),
-        Ok(Progress::Done(_, _)) => Ok(Stage::Done),
-        Ok(_) => Ok(Stage::Begun),
-        Err(refused) => Err(told_of_compaction(refused)),
+    match refused {
+        Refused::NoMemory
+        | Refused::Worn
+        | Refused::Device { code: 3, .. }
+        | Refused::Damaged { .. } => Err(refused),
+        _ => Ok(Stage::Over),
+    }
+}
+
+/// What comes of an event of a compactor: relocations end where one waits.
+fn after_event<F: Mergeable, D: Disk>(made: ProgressOf<F, D::Receipt>) -> Stage<D::Receipt> {
+    match made {
+        Progress::NeedsLoad(receipt, _) => Stage::NeedsLoad(receipt),
+        Progress::Waits(_) => Stage::Over,
+        Progress::Done(_, _) => Stage::Done,
+        Progress::Next | Progress::NeedsBuild(_) => Stage::Begun,
     }
 }
 
@@ -115,13 +150,15 @@ impl<F: Mergeable, D: Disk, H: Recorder<F>> Store<F, D, H> {
         gate: &G,
     ) -> Result<(), Refused>
         ensures none { self.now.count ≤ partition → result ≡ Err Refused.Unknown }
-        ensures only { IfErr result IsUncompacted }
+        ensures only { IfErr result (λ why. ((why ≡ Refused.Unknown) × (self.now.count ≤ partition)) ⊎ IsUncompacted why) }
     {
         let never = AtomicBool::new(false);
-        self.compact_until(rt, partition, gate, &never)
+        let mut events = Events::none();
+        self.compact_until(rt, partition, gate, &mut events, &never)
     }
 
-    /// Does the same, but begins no event of a relocation any more once it is told to stop: what is cleared by then is cut.
+    /// Does the same, and counts its events anew, but begins no event of a relocation any more once it is told to stop: what is cleared by
+    /// then is cut.
     ///
     /// # Errors
     ///
@@ -131,11 +168,14 @@ impl<F: Mergeable, D: Disk, H: Recorder<F>> Store<F, D, H> {
         rt: &impl Wait,
         partition: usize,
         gate: &G,
+        events: &mut Events,
         stop: &AtomicBool,
     ) -> Result<(), Refused>
         ensures none { self.now.count ≤ partition → result ≡ Err Refused.Unknown }
-        ensures only { IfErr result IsUncompacted }
+        ensures only { IfErr result (λ why. ((why ≡ Refused.Unknown) × (self.now.count ≤ partition)) ⊎ IsUncompacted why) }
+        ensures stalled { result ≡ Err Refused.Stalled → events.new ≡ self.now.turns }
     {
+        *events = Events::none();
         if partition >= self.locks.len() {
             return Err(Refused::Unknown);
         }
@@ -145,7 +185,7 @@ impl<F: Mergeable, D: Disk, H: Recorder<F>> Store<F, D, H> {
         };
         let reader = match self.reader(rt, partition) {
             Ok(reader) => reader,
-            Err(refused) => return Err(told_of_compaction(refused)),
+            Err(refused) => return Err(refused),
         };
         let mut pages = Pages {
             reader,
@@ -156,7 +196,7 @@ impl<F: Mergeable, D: Disk, H: Recorder<F>> Store<F, D, H> {
             Ok(joined) => joined,
             Err(refused) => return Err(refused),
         };
-        let relocated = self.relocate(rt, at, &joined, &mut pages, gate, stop);
+        let relocated = self.relocate(rt, at, &joined, &mut pages, events, gate, stop);
         let truncated = self.truncate(rt, at, &joined.compactor, gate);
         let parted = self.part(rt, at, joined.compactor, gate);
         match relocated {
@@ -170,7 +210,9 @@ impl<F: Mergeable, D: Disk, H: Recorder<F>> Store<F, D, H> {
     }
 
     /// A reader of a partition's pages. Refused as the device refuses to open.
-    fn reader(&self, rt: &impl Wait, partition: usize) -> Result<D::Reader, Refused> {
+    fn reader(&self, rt: &impl Wait, partition: usize) -> Result<D::Reader, Refused>
+        ensures only { IfErr result IsUnopened }
+    {
         let mut device = self.device.lock(rt);
         device.reader(partition as u64)
     }
@@ -178,7 +220,7 @@ impl<F: Mergeable, D: Disk, H: Recorder<F>> Store<F, D, H> {
     /// A compactor joins a partition.
     fn join<G: Gate>(&self, rt: &impl Wait, at: At, gate: &G) -> Result<Joined, Refused>
         requires { at.partition < self.now.count }
-        ensures only { IfErr result IsUncompacted }
+        ensures only { IfErr result IsUnentered }
     {
         let moves = self.moves_of(at.partition);
         let mut held = self.locks[at.partition].lock(rt);
@@ -190,7 +232,7 @@ impl<F: Mergeable, D: Disk, H: Recorder<F>> Store<F, D, H> {
                 end,
                 moves,
             }),
-            Err(refused) => Err(told_of_compaction(refused)),
+            Err(refused) => Err(refused),
         }
     }
 
@@ -202,11 +244,14 @@ impl<F: Mergeable, D: Disk, H: Recorder<F>> Store<F, D, H> {
         at: At,
         joined: &Joined,
         pages: &mut Pages<D::Reader>,
+        events: &mut Events,
         gate: &G,
         stop: &AtomicBool,
     ) -> Result<(), Refused>
-        requires { at.partition < self.now.count }
-        ensures only { IfErr result IsUncompacted }
+        requires within { at.partition < self.now.count }
+        requires none { events.old ≡ 0 }
+        ensures only { IfErr result (λ why. (why ≡ Refused.Stalled) ⊎ IsUnrelocated why) }
+        ensures stalled { result ≡ Err Refused.Stalled → events.new ≡ self.now.turns }
     {
         let mut came: Option<Result<Loaded<D::Receipt>, Refused>> = None;
         let mut moves = joined.moves;
@@ -218,7 +263,7 @@ impl<F: Mergeable, D: Disk, H: Recorder<F>> Store<F, D, H> {
             }
             let page = came;
             came = None;
-            match self.relocate_on(rt, at, joined, page, gate) {
+            match self.relocate_on(rt, at, joined, page, events, gate) {
                 Ok(Stage::Begun) if begun > RESTARTS => return Ok(()),
                 Ok(Stage::Begun) => {
                     begun += 1;
@@ -255,7 +300,7 @@ impl<F: Mergeable, D: Disk, H: Recorder<F>> Store<F, D, H> {
         gate: &G,
     ) -> Result<u64, Refused>
         requires { at.partition < self.now.count }
-        ensures only { IfErr result IsUncompacted }
+        ensures only { IfErr result (λ why. why ≡ Refused.Worn) }
     {
         let moves = self.moves_of(at.partition);
         if moves == seen {
@@ -264,33 +309,40 @@ impl<F: Mergeable, D: Disk, H: Recorder<F>> Store<F, D, H> {
         let mut held = self.locks[at.partition].lock(rt);
         gate.pass(at.worker, at.locked());
         match held.refresh_compactor(compactor) {
-            Ok(()) => Ok(moves),
-            Err(refused) => Err(told_of_compaction(refused)),
+            Err(Refused::Worn) => Err(Refused::Worn),
+            // without its session, the next event ends the relocations
+            Ok(()) | Err(_) => Ok(moves),
         }
     }
 
-    /// Makes the next event of a compactor, with the page that came for it, if one did.
+    /// Makes the next event of a compactor, with the page that came for it, if one did, and counts it, unless all is cleared.
     fn relocate_on<G: Gate>(
         &self,
         rt: &impl Wait,
         at: At,
         joined: &Joined,
         page: Option<Result<Loaded<D::Receipt>, Refused>>,
+        events: &mut Events,
         gate: &G,
     ) -> Result<Stage<D::Receipt>, Refused>
-        requires { at.partition < self.now.count }
-        ensures only { IfErr result IsUncompacted }
+        requires within { at.partition < self.now.count }
+        requires room { events.old < 2 ^ 64 - 1 }
+        ensures only { IfErr result IsUnrelocated }
+        ensures counted { IfOk result (λ stage. stage ≢ Over → events.new ≡ events.old + 1) }
     {
         let mut held = self.locks[at.partition].lock(rt);
         gate.pass(at.worker, at.locked());
-        match page {
-            Some(came) => after_event::<F, D>(held.load_relocation(
-                &joined.compactor,
-                came,
-                &self.functions,
-            )),
-            None if held.cleared() >= joined.end => Ok(Stage::Over),
-            None => after_event::<F, D>(held.next(&joined.compactor, &self.functions)),
+        let made = match page {
+            Some(came) => held.load_relocation(&joined.compactor, came, &self.functions),
+            None if held.cleared() >= joined.end => return Ok(Stage::Over),
+            None => held.next(&joined.compactor, &self.functions),
+        };
+        match made {
+            Ok(made) => {
+                events.count += 1;
+                Ok(after_event::<F, D>(made))
+            }
+            Err(refused) => after_refusal(refused),
         }
     }
 
@@ -303,7 +355,7 @@ impl<F: Mergeable, D: Disk, H: Recorder<F>> Store<F, D, H> {
         gate: &G,
     ) -> Result<(), Refused>
         requires { at.partition < self.now.count }
-        ensures only { IfErr result IsUncompacted }
+        ensures only { IfErr result (λ why. why ≡ Refused.Worn) }
     {
         match self.move_begin(rt, at, compactor, gate) {
             Ok(begin) => {
@@ -313,7 +365,7 @@ impl<F: Mergeable, D: Disk, H: Recorder<F>> Store<F, D, H> {
                 Ok(())
             }
             Err(Refused::NotDue) => Ok(()),
-            Err(refused) => Err(told_of_compaction(refused)),
+            Err(refused) => Err(refused),
         }
     }
 
@@ -326,6 +378,7 @@ impl<F: Mergeable, D: Disk, H: Recorder<F>> Store<F, D, H> {
         gate: &G,
     ) -> Result<Address, Refused>
         requires { at.partition < self.now.count }
+        ensures only { IfErr result IsUncut }
     {
         let mut held = self.locks[at.partition].lock(rt);
         gate.pass(at.worker, at.locked());
@@ -341,13 +394,14 @@ impl<F: Mergeable, D: Disk, H: Recorder<F>> Store<F, D, H> {
         gate: &G,
     ) -> Result<(), Refused>
         requires { at.partition < self.now.count }
-        ensures only { IfErr result IsUncompacted }
+        ensures only { IfErr result (λ why. why ≡ Refused.Worn) }
     {
         let mut held = self.locks[at.partition].lock(rt);
         gate.pass(at.worker, at.locked());
         match held.part(compactor) {
-            Ok(()) => Ok(()),
-            Err(refused) => Err(told_of_compaction(refused)),
+            Err(Refused::Worn) => Err(Refused::Worn),
+            // a session that is not its own any more is not left
+            Ok(()) | Err(_) => Ok(()),
         }
     }
 }

@@ -1,13 +1,14 @@
 //! Holds of a partition's lock, each for one event, or for an operation that is issued and finished at once.
-ghost use Rattle.std.specs.Prelude.{◌≡◌, ◌≢◌, ◌<◌, ◌≤◌, ◌+◌, ◌-◌, ◌^◌, IfOk, IfErr, IfSome, OnOk};
+ghost use Rattle.std.specs.Prelude.{◌≡◌, ◌≢◌, ◌<◌, ◌≤◌, ◌+◌, ◌-◌, ◌^◌, IfOk, IfErr, IfSome, OnOk, OnErr};
 ghost use Rattle.fkv_operations.specs.declared.operations.KeyedOp.TheVariants.{Read, Rmw};
 ghost use Rattle.fkv_locked.specs.Turns.{IsOf, IsTurnOf};
-ghost use Rattle.fkv_store.specs.Stores.{IsUnentered, IsUndone, IsUnrefreshed};
+ghost use Rattle.fkv_store.specs.Stores.{IsUnentered, IsUndone, IsUnturned, IsUnrefreshed};
+ghost use Rattle.fkv_store.specs.Runs.{fault_in, faults_of, IsSaid};
 
 use crate::gates::{Gate, Place};
-use crate::refusals::{told, told_of};
+use crate::refusals::{fault_in, faults_of, is_page_fault, told, told_of, told_of_load};
 use crate::stores::Store;
-use fkv_device::{Disk, Loaded, Receipt};
+use fkv_device::{Disk, Loaded};
 use fkv_functions::{Built, Functions, Mergeable, Refused};
 use fkv_histories::Recorder;
 use fkv_locked::{FinishedOf, OpenOperation, SessionId, TurnOf};
@@ -27,15 +28,6 @@ impl At {
     pub(crate) fn locked(&self) -> Place {
         Place::Locked(self.partition as u64)
     }
-}
-
-/// What is at hand for the next event of an operation.
-#[derive(Drop)]
-pub(crate) enum EventInput<R: Receipt> {
-    /// Nothing: it goes on.
-    Nothing,
-    /// The page that it waits for, or the refusal that came in its place.
-    Came(Result<Loaded<R>, Refused>),
 }
 
 /// An operation of a caller that is issued. A contract sees it as what the caller knows of it. It is neither copied nor let go: it
@@ -61,28 +53,33 @@ pub(crate) type IssuedOf<F> = Issued<
     <F as Functions>::Input,
 >;
 
-/// How many turns an operation took. Only [`turn`] counts one, where an event of the operation was made under a lock.
+/// How many turns an operation took, and how many faults of pages it passed over. Only [`go`] and [`load`] count them, where an event
+/// of the operation is made under a lock.
 #[derive(Drop)]
 pub(crate) struct Turned {
     count: u64,
+    missed: u64,
 }
 
 impl Model for Turned {
-    ghost use Rattle.std.specs.Prelude.{ℕ};
+    ghost use Rattle.fkv_store.specs.Runs.{TurnsView};
 
-    ghost Value = { ℕ };
+    ghost Value = { TurnsView };
 
-    ghost view = { λ t. t.count };
+    ghost view = { λ t. record { count = t.count; missed = t.missed } };
 
-    ghost inverse = { λ n. record { count = n } };
+    ghost inverse = { λ t. record { count = t.count; missed = t.missed } };
 }
 
 impl Turned {
     /// No turn.
     pub(crate) fn none() -> Turned
-        ensures { result ≡ 0 }
+        ensures { result ≡ record { count = 0; missed = 0 } }
     {
-        Turned { count: 0 }
+        Turned {
+            count: 0,
+            missed: 0,
+        }
     }
 }
 
@@ -233,35 +230,71 @@ pub(crate) fn may_need_page<F: Mergeable, D: Disk, H: Recorder<F>, G: Gate>(
     held.may_need_page(session, key, &store.functions)
 }
 
-/// Makes the next event of an operation of a caller, with what is at hand, and counts a turn of it. Refused as
-/// [`fkv_locked::Locked::go`] and `load` are.
-pub(crate) fn turn<F: Mergeable, D: Disk, H: Recorder<F>, G: Gate>(
+/// Makes the next event of an operation of a caller, and counts a turn of it. Refused as [`fkv_locked::Locked::go`] is.
+pub(crate) fn go<F: Mergeable, D: Disk, H: Recorder<F>, G: Gate>(
     rt: &impl Wait,
     store: &Store<F, D, H>,
     at: At,
     issued: &IssuedOf<F>,
-    hand: EventInput<D::Receipt>,
     turned: &mut Turned,
     gate: &G,
 ) -> Result<TurnOf<F, D::Receipt>, Refused>
     requires within { at.partition < store.now.count }
-    requires room { turned.old < 2 ^ 64 - 1 }
-    ensures counted { OnOk result (turned.new ≡ turned.old + 1) }
+    requires room { turned.old.count < 2 ^ 64 - 1 }
+    ensures counted { OnOk result (turned.new ≡ record turned.old { count = turned.old.count + 1 }) }
+    ensures same { OnErr result (turned.new ≡ turned.old) }
     ensures of { IfOk result (IsTurnOf issued.now) }
     ensures only { IfErr result (IsUndone issued.now.told) }
 {
     let mut held = store.locks[at.partition].lock(rt);
     gate.pass(at.worker, at.locked());
-    let turn = match hand {
-        EventInput::Nothing => held.go(&issued.mine, &store.functions),
-        EventInput::Came(came) => held.load(&issued.mine, came, &store.functions),
-    };
-    match turn {
+    match held.go(&issued.mine, &store.functions) {
         Ok(turn) => {
             turned.count += 1;
             Ok(turn)
         }
         Err(refused) => Err(told_of(refused, issued.mine.told)),
+    }
+}
+
+/// Makes the next event of an operation of a caller that waits for a page, with that page, or what came in its place, and counts a
+/// turn of it. Refused as [`fkv_locked::Locked::load`] is. A fault in place of the page that it does not tell is counted as passed
+/// over.
+pub(crate) fn load<F: Mergeable, D: Disk, H: Recorder<F>, G: Gate>(
+    rt: &impl Wait,
+    store: &Store<F, D, H>,
+    at: At,
+    issued: &IssuedOf<F>,
+    came: Result<Loaded<D::Receipt>, Refused>,
+    turned: &mut Turned,
+    gate: &G,
+) -> Result<TurnOf<F, D::Receipt>, Refused>
+    requires within { at.partition < store.now.count }
+    requires room { turned.old.count < 2 ^ 64 - 1 }
+    requires missed { turned.old.missed ≤ turned.old.count }
+    ensures counted { OnOk result (turned.new
+        ≡ record { count = turned.old.count + 1; missed = turned.old.missed + faults_of (fault_in came) }) }
+    ensures of { IfOk result (IsTurnOf issued.now) }
+    ensures only { IfErr result (IsUnturned issued.now.told) }
+    ensures said { IfErr result (IsSaid D.Receipt.keeps (fault_in came) turned.old.missed turned.new.missed) }
+{
+    let fault = fault_in(&came);
+    let mut held = store.locks[at.partition].lock(rt);
+    gate.pass(at.worker, at.locked());
+    match held.load(&issued.mine, came, &store.functions) {
+        Ok(turn) => {
+            turned.count += 1;
+            turned.missed += faults_of(fault);
+            Ok(turn)
+        }
+        Err(refused) => {
+            let why = told_of_load(refused, fault, issued.mine.told);
+            if is_page_fault(&why) {
+                return Err(why);
+            }
+            turned.missed += faults_of(fault);
+            Err(why)
+        }
     }
 }
 

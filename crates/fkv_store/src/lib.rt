@@ -20,9 +20,10 @@ pub mod tidying;
 pub mod unlisted;
 pub(crate) mod waiting;
 
+pub use compacting::Events;
 pub use fkv_histories::{Audited, Plain, Recorder};
 pub use gates::{Gate, Open, Place};
-pub use passes::Pass;
+pub use passes::{Mark, Pass};
 pub use stores::Store;
 pub use tidying::KEEPER;
 pub use unlisted::{Ended, Unlisted};

@@ -4,8 +4,8 @@ ghost use Rattle.fkv_partition.specs.CoreViews.{partition_of};
 ghost use Rattle.fkv_operations.specs.After.{key_of, is_merge};
 ghost use Rattle.fkv_operations.specs.declared.operations.KeyedOp.{KeyedOp};
 ghost use Rattle.fkv_store.specs.Stores.{IsUnentered, IsUnrefreshed, IsStopped, IsUnrun};
-ghost use Rattle.fkv_store.specs.Passes.{IsPassOf, IsStrange, Runs, Updates};
-ghost use Rattle.fkv_store.specs.Runs.{IsRunAs};
+ghost use Rattle.fkv_store.specs.Passes.{IsPassOf, IsStrange, IsMarkOf, IsStrangeMark, heard_by, Runs, Updates};
+ghost use Rattle.fkv_store.specs.Runs.{IsRunAs, AreCounted, AreSteady};
 
 use crate::gates::{Gate, Open, Place};
 use crate::holds::{At, Turned, enter, leave};
@@ -31,13 +31,15 @@ pub struct Pass<F: Mergeable, D: Disk, H: Recorder<F>> {
     pub(crate) store: u64,
     pub(crate) worker: u32,
     pub(crate) owns: Owns<F, H>,
+    /// For each partition of how many updates it was told: by its answers, or by marks of other passes.
+    pub(crate) told: Vec<u64>,
     pub(crate) sessions: Vec<Option<SessionId>>,
     /// For each partition how often its pages had been moved when its session was refreshed.
     pub(crate) seen: Vec<u64>,
     pub(crate) readers: Vec<D::Reader>,
     /// How many operations were answered since its sessions were refreshed.
     pub(crate) answered: u8,
-    /// How many turns its last operation took that was issued.
+    /// How many turns its last operation took, and how many faults of pages it passed over.
     pub(crate) turned: Turned,
 }
 
@@ -50,16 +52,37 @@ impl<F: Mergeable, D: Disk, H: Recorder<F>> Model for Pass<F, D, H> {
     ghost view = { λ p. record {
       store = p.store;
       own = map H.entries p.owns.lists;
-      told = p.owns.told;
+      told = p.told.items;
       share = p.owns.share;
       last = p.owns.last;
-      turned = p.turned;
+      turned = p.turned.count;
+      missed = p.turned.missed;
+      reads = map D.Reader.failures p.readers.items;
     } };
 
-    ghost invariant = { λ p. (length p.owns.told ≡ length p.owns.lists)
+    ghost invariant = { λ p. (length p.told.items ≡ length p.owns.lists)
+        × (length p.owns.told ≡ length p.owns.lists)
         × (length p.sessions.items ≡ length p.owns.lists)
         × (length p.seen.items ≡ length p.owns.lists)
         × (length p.readers.items ≡ length p.owns.lists) };
+}
+
+/// How far a pass was told of a partition of its store. [`Pass::hear`] lets another pass know.
+#[derive(Clone, Copy, Debug)]
+pub struct Mark {
+    store: u64,
+    partition: usize,
+    told: u64,
+}
+
+impl Model for Mark {
+    ghost use Rattle.fkv_store.specs.Passes.{MarkView};
+
+    ghost Value = { MarkView };
+
+    ghost view = { λ m. record { store = m.store; partition = m.partition; told = m.told } };
+
+    ghost inverse = { λ m. record { store = m.store; partition = m.partition; told = m.told } };
 }
 
 /// The session of a pass in a partition: the one that it has there, or one that is entered now.
@@ -153,6 +176,7 @@ impl<F: Mergeable, D: Disk, H: Recorder<F>> Pass<F, D, H> {
     /// `Device` with code 2 where a page can't be written, 3 where one can't be
     /// read; `Damaged` where a page came back with other bytes, or spells no record; `Stalled` where the operation took as
     /// many turns as the configuration says; `Unknown` where another caller took the pass's sessions for its own.
+    /// Where a page is not read, it is the pass's reader of that partition that failed, and counted it.
     pub fn run<G: Gate>(
         &mut self,
         rt: &(impl Wait + Clock),
@@ -169,7 +193,12 @@ impl<F: Mergeable, D: Disk, H: Recorder<F>> Pass<F, D, H> {
         ensures only { IfErr result (λ why. IsStrange store.now self.old why
             ⊎ IsUnrun F.MERGES op (slice_index self.old.told (partition_of store.now.count (F.code (key_of op)))) why) }
         ensures stalled { IfErr result (λ why. why ≡ Refused.Stalled → self.new.turned ≡ store.now.turns) }
-        ensures unchanged { OnErr result (self.new ≡ record self.old { turned = self.new.turned }) }
+        ensures unchanged { OnErr result
+            (self.new ≡ record self.old { turned = self.new.turned; missed = self.new.missed; reads = self.new.reads }) }
+        ensures steady { OnOk result (AreSteady (partition_of store.now.count (F.code (key_of op)))
+            self.old.reads self.new.reads self.new.missed) }
+        ensures counted { IfErr result (AreCounted D.Receipt.keeps (partition_of store.now.count (F.code (key_of op)))
+            self.old.reads self.new.reads self.new.missed) }
     {
         self.run_as(rt, alloc, store, op, Loads::Read, gate)
     }
@@ -199,7 +228,12 @@ impl<F: Mergeable, D: Disk, H: Recorder<F>> Pass<F, D, H> {
         ensures only { IfErr result (λ why. IsStrange store.now self.old why
             ⊎ IsStopped (slice_index self.old.told (partition_of store.now.count (F.code key))) why) }
         ensures stalled { IfErr result (λ why. why ≡ Refused.Stalled → self.new.turned ≡ store.now.turns) }
-        ensures unchanged { OnErr result (self.new ≡ record self.old { turned = self.new.turned }) }
+        ensures unchanged { OnErr result
+            (self.new ≡ record self.old { turned = self.new.turned; missed = self.new.missed; reads = self.new.reads }) }
+        ensures steady { OnOk result (AreSteady (partition_of store.now.count (F.code key))
+            self.old.reads self.new.reads self.new.missed) }
+        ensures counted { IfErr result (AreCounted D.Receipt.keeps (partition_of store.now.count (F.code key))
+            self.old.reads self.new.reads self.new.missed) }
     {
         let op = KeyedOp::Rmw(key, input);
         match self.run_as(rt, alloc, store, op, Loads::Merge, gate) {
@@ -228,9 +262,16 @@ impl<F: Mergeable, D: Disk, H: Recorder<F>> Pass<F, D, H> {
         ensures only { IfErr result (λ why. IsStrange store.now self.old why
             ⊎ IsUnrun F.MERGES op (slice_index self.old.told (partition_of store.now.count (F.code (key_of op)))) why) }
         ensures stalled { IfErr result (λ why. why ≡ Refused.Stalled → self.new.turned ≡ store.now.turns) }
-        ensures unchanged { OnErr result (self.new ≡ record self.old { turned = self.new.turned }) }
+        ensures unchanged { OnErr result
+            (self.new ≡ record self.old { turned = self.new.turned; missed = self.new.missed; reads = self.new.reads }) }
+        ensures steady { OnOk result (AreSteady (partition_of store.now.count (F.code (key_of op)))
+            self.old.reads self.new.reads self.new.missed) }
+        ensures counted { IfErr result (AreCounted D.Receipt.keeps (partition_of store.now.count (F.code (key_of op)))
+            self.old.reads self.new.reads self.new.missed) }
     {
-        match self.known_to(store) {
+        let known = self.known_to(store);
+        self.turned = Turned::none();
+        match known {
             Ok(()) => {}
             Err(refused) => return Err(refused),
         }
@@ -260,7 +301,7 @@ impl<F: Mergeable, D: Disk, H: Recorder<F>> Pass<F, D, H> {
             Ok(session) => session,
             Err(refused) => return Err(refused),
         };
-        let known = self.owns.told_at(partition);
+        let known = self.told[partition];
         let run = Run {
             alloc,
             at,
@@ -282,9 +323,61 @@ impl<F: Mergeable, D: Disk, H: Recorder<F>> Pass<F, D, H> {
             Err(refused) => return Err(refused),
         };
         let answer = self.owns.take(partition, finished);
+        self.told[partition] = self.owns.told_at(partition);
         self.answered += 1;
         gate.pass(self.worker, Place::Answered);
         Ok(answer)
+    }
+
+    /// How far the pass was told of a partition, for another pass to hear of.
+    pub fn mark(&self, partition: usize) -> Mark
+        ensures { result ≡ record {
+          store = self.now.store;
+          partition = partition;
+          told = slice_index self.now.told partition;
+        } }
+    {
+        let told = match self.told.get(partition) {
+            Some(told) => *told,
+            None => 0,
+        };
+        Mark {
+            store: self.store,
+            partition,
+            told,
+        }
+    }
+
+    /// Hears how far another pass was told of a partition: then this pass was told so far, at least, and no later answer of it there
+    /// comes from fewer updates.
+    ///
+    /// # Errors
+    ///
+    /// `Stranger`, and then nothing changes, where the mark is of another store, with the two stores' numbers, or of no partition
+    /// of this one, with how many it has and the mark's.
+    pub fn hear(&mut self, mark: &Mark) -> Result<(), Refused>
+        ensures ok { OnOk result (self.new ≡ heard_by self.old mark.now) }
+        ensures own { OnOk result (IsMarkOf self.old mark.now) }
+        ensures foreign { ¬ IsMarkOf self.old mark.now → IfErr result (IsStrangeMark self.old mark.now) }
+        ensures refused { IfErr result (IsStrangeMark self.old mark.now) }
+        ensures unchanged { OnErr result (self.new ≡ self.old) }
+    {
+        if mark.store != self.store {
+            return Err(Refused::Stranger {
+                what: What::Pass,
+                held: self.store,
+                came: mark.store,
+            });
+        }
+        if mark.partition >= self.told.len() {
+            return Err(Refused::Stranger {
+                what: What::Pass,
+                held: self.told.len() as u64,
+                came: mark.partition as u64,
+            });
+        }
+        self.told[mark.partition] = self.told[mark.partition].max(mark.told);
+        Ok(())
     }
 
     /// Refreshes each session of the pass, so that partitions need not wait for it.

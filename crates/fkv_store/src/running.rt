@@ -1,14 +1,14 @@
 //! How an operation of a pass runs, from its issue to its end: in one hold, or one event a hold, and what is done between holds.
-ghost use Rattle.std.specs.Prelude.{◌≡◌, ◌≢◌, ◌<◌, ◌≤◌, ◌+◌, ◌-◌, ◌^◌, true, false, length, IsTrue, IfOk, IfErr, IfSome, OnOk, IsSome};
+ghost use Rattle.std.specs.Prelude.{◌≡◌, ◌≢◌, ◌<◌, ◌≤◌, ◌+◌, ◌-◌, ◌^◌, ◌⊎◌, ℕ, true, false, None, length, map, IsTrue, IfOk, IfErr, IfSome, OnOk, IsSome};
 ghost use Rattle.fkv_operations.specs.After.{is_merge};
 ghost use Rattle.fkv_locked.specs.Turns.{IsOf, IsTurnOf};
-ghost use Rattle.fkv_store.specs.Stores.{IsUndone, IsUnrefreshed, IsUntidy, IsStopped, IsUnrun};
-ghost use Rattle.fkv_store.specs.Runs.{IsRunAs, IsEntryOf};
+ghost use Rattle.fkv_store.specs.Stores.{IsUndone, IsUnturned, IsUnrefreshed, IsUntidy, IsStopped, IsUnrun};
+ghost use Rattle.fkv_store.specs.Runs.{IsRunAs, IsEntryOf, IsCounted, AreCounted, AreSteady};
 
 use crate::gates::{Gate, Place};
 use crate::holds::{
-    At, EventInput, IssuedOf, Turned, close, give_up, install, issue, may_need_page, refresh,
-    try_read_in_memory, try_update_in_place, turn,
+    At, IssuedOf, Turned, close, give_up, go, install, issue, load, may_need_page, refresh,
+    try_read_in_memory, try_update_in_place,
 };
 use crate::stores::Store;
 use crate::waiting::Patience;
@@ -95,24 +95,65 @@ pub(crate) fn refresh_moved<F: Mergeable, D: Disk, H: Recorder<F>, G: Gate>(
     Ok(())
 }
 
-/// Makes the next event of an operation, which is a turn of it, and where a value is to be built for it builds and installs that.
-/// Refused as [`turn`] and [`install`] are.
+/// Makes the next event of an operation, which is a turn of it: where it wants a page, with that page, which is read by this receipt.
+/// Refused as [`go`] and [`load`] are. Of the reader's failures those are counted as passed over that no refusal tells.
+fn turn<F: Mergeable, D: Disk, H: Recorder<F>, G: Gate>(
+    rt: &impl Wait,
+    store: &Store<F, D, H>,
+    at: At,
+    issued: &IssuedOf<F>,
+    reader: &mut D::Reader,
+    wanted: Option<D::Receipt>,
+    turned: &mut Turned,
+    gate: &G,
+) -> Result<TurnOf<F, D::Receipt>, Refused>
+    requires within { at.partition < store.now.count }
+    requires room { turned.old.count < 2 ^ 64 - 1 }
+    requires missed { turned.old.missed ≤ turned.old.count }
+    ensures counted { OnOk result (turned.new.count ≡ turned.old.count + 1) }
+    ensures missed { OnOk result (turned.new.missed ≤ turned.new.count) }
+    ensures of { IfOk result (IsTurnOf issued.now) }
+    ensures only { IfErr result (IsUnturned issued.now.told) }
+    ensures steady { (before : ℕ) → D.Reader.failures reader.old ≡ before + turned.old.missed
+        → OnOk result (D.Reader.failures reader.new ≡ before + turned.new.missed) }
+    ensures read { (before : ℕ) → D.Reader.failures reader.old ≡ before + turned.old.missed
+        → IfErr result (IsCounted D.Receipt.keeps before (D.Reader.failures reader.new) turned.new.missed) }
+    ensures unread { wanted ≡ None → turned.new.missed ≡ turned.old.missed }
+{
+    let Some(receipt) = wanted else {
+        return go(rt, store, at, issued, turned, gate);
+    };
+    gate.pass(at.worker, Place::Load);
+    let came = Loaded::fetch(reader, &receipt, store.page_size);
+    load(rt, store, at, issued, came, turned, gate)
+}
+
+/// Makes the next event of an operation as [`turn`] does, and where a value is to be built for it builds and installs that. Refused
+/// as [`turn`] and [`install`] are.
 fn attempt<F: Mergeable, D: Disk, H: Recorder<F>, G: Gate>(
     rt: &impl Wait,
     store: &Store<F, D, H>,
     at: At,
     issued: &IssuedOf<F>,
-    hand: EventInput<D::Receipt>,
+    reader: &mut D::Reader,
+    wanted: Option<D::Receipt>,
     turned: &mut Turned,
     gate: &G,
 ) -> Result<TurnOf<F, D::Receipt>, Refused>
     requires within { at.partition < store.now.count }
-    requires room { turned.old < 2 ^ 64 - 1 }
-    ensures counted { OnOk result (turned.new ≡ turned.old + 1) }
+    requires room { turned.old.count < 2 ^ 64 - 1 }
+    requires missed { turned.old.missed ≤ turned.old.count }
+    ensures counted { OnOk result (turned.new.count ≡ turned.old.count + 1) }
+    ensures missed { OnOk result (turned.new.missed ≤ turned.new.count) }
     ensures of { IfOk result (IsTurnOf issued.now) }
-    ensures only { IfErr result (IsUndone issued.now.told) }
+    ensures only { IfErr result (IsUnturned issued.now.told) }
+    ensures steady { (before : ℕ) → D.Reader.failures reader.old ≡ before + turned.old.missed
+        → OnOk result (D.Reader.failures reader.new ≡ before + turned.new.missed) }
+    ensures read { (before : ℕ) → D.Reader.failures reader.old ≡ before + turned.old.missed
+        → IfErr result (IsCounted D.Receipt.keeps before (D.Reader.failures reader.new) turned.new.missed) }
+    ensures unread { wanted ≡ None → turned.new.missed ≡ turned.old.missed }
 {
-    let made = match turn(rt, store, at, issued, hand, turned, gate) {
+    let made = match turn(rt, store, at, issued, reader, wanted, turned, gate) {
         Ok(made) => made,
         Err(refused) => return Err(refused),
     };
@@ -145,7 +186,7 @@ fn wait<F: Mergeable, D: Disk, H: Recorder<F>, G: Gate>(
 ) -> Result<(), Refused>
     requires within { run.now.at.partition < store.now.count }
     requires sessions { length run.now.sessions.now ≡ store.now.count }
-    ensures only { IfErr result IsUntidy }
+    ensures only { IfErr result (λ why. IsUntidy why ⊎ IsUnrefreshed why) }
 {
     patience.give_way(rt, store.moves_of(run.at.partition));
     for _step in 0..STEPS {
@@ -162,7 +203,8 @@ fn wait<F: Mergeable, D: Disk, H: Recorder<F>, G: Gate>(
 }
 
 /// Goes on with an operation until it is finished, or has taken all its turns: each event that lets it go on, asks for a page
-/// or waits is a turn, and they are counted. Answers its entry, or `None` where it needs a page that is not to be read: then it is still open.
+/// or waits is a turn, and they are counted. Answers its entry, or `None` where it needs a page that is not to be read: then it is
+/// still open.
 fn run_on<F: Mergeable, D: Disk, H: Recorder<F>, G: Gate>(
     rt: &(impl Wait + Clock),
     store: &Store<F, D, H>,
@@ -175,18 +217,22 @@ fn run_on<F: Mergeable, D: Disk, H: Recorder<F>, G: Gate>(
 ) -> Result<Option<FinishedOf<F>>, Refused>
     requires within { run.now.at.partition < store.now.count }
     requires sessions { length run.now.sessions.now ≡ store.now.count }
+    requires fresh { turned.old ≡ record { count = 0; missed = 0 } }
     ensures of { IfOk result (λ done. IfSome done (IsOf issued.now)) }
     ensures read { IsTrue reads → IfOk result IsSome }
     ensures only { IfErr result (IsStopped issued.now.told) }
-    ensures stalled { IfErr result (λ why. why ≡ Refused.Stalled → turned.new ≡ store.now.turns) }
+    ensures stalled { IfErr result (λ why. why ≡ Refused.Stalled → turned.new.count ≡ store.now.turns) }
+    ensures steady { OnOk result (D.Reader.failures reader.new ≡ D.Reader.failures reader.old + turned.new.missed) }
+    ensures counted { IfErr result
+        (IsCounted D.Receipt.keeps (D.Reader.failures reader.old) (D.Reader.failures reader.new) turned.new.missed) }
+    ensures unread { reads ≡ false → turned.new.missed ≡ 0 }
 {
-    *turned = Turned::none();
-    let mut hand = EventInput::Nothing;
+    let mut wanted: Option<D::Receipt> = None;
     let mut patience = Patience::default();
     for _turn in 0..store.turns {
-        let at_hand = hand;
-        hand = EventInput::Nothing;
-        let made = match attempt(rt, store, run.at, issued, at_hand, turned, gate) {
+        let page = wanted;
+        wanted = None;
+        let made = match attempt(rt, store, run.at, issued, reader, page, turned, gate) {
             Ok(made) => made,
             Err(refused) => return Err(refused),
         };
@@ -198,8 +244,7 @@ fn run_on<F: Mergeable, D: Disk, H: Recorder<F>, G: Gate>(
                 if !reads {
                     return Ok(None);
                 }
-                gate.pass(run.at.worker, Place::Load);
-                hand = EventInput::Came(Loaded::fetch(reader, &receipt, store.page_size));
+                wanted = Some(receipt);
             }
             Turn::Waits(_) => match wait(rt, store, run, &mut patience, gate) {
                 Ok(()) => {}
@@ -271,8 +316,13 @@ fn run_out<F: Mergeable, D: Disk, H: Recorder<F>, G: Gate>(
     ensures of { IfOk result (λ done. IfSome done (IsEntryOf op run.now.known)) }
     ensures read { IsTrue reads → IfOk result IsSome }
     ensures only { IfErr result (IsStopped run.now.known) }
-    ensures stalled { IfErr result (λ why. why ≡ Refused.Stalled → turned.new ≡ store.now.turns) }
+    ensures stalled { IfErr result (λ why. why ≡ Refused.Stalled → turned.new.count ≡ store.now.turns) }
+    ensures steady { OnOk result (D.Reader.failures reader.new ≡ D.Reader.failures reader.old + turned.new.missed) }
+    ensures counted { IfErr result
+        (IsCounted D.Receipt.keeps (D.Reader.failures reader.old) (D.Reader.failures reader.new) turned.new.missed) }
+    ensures unread { reads ≡ false → turned.new.missed ≡ 0 }
 {
+    *turned = Turned::none();
     let issued = match issue(rt, store, run.at, run.session, op, run.known, gate) {
         Ok(issued) => issued,
         Err(refused) => return Err(refused),
@@ -308,7 +358,10 @@ fn run_reading<F: Mergeable, D: Disk, H: Recorder<F>, G: Gate>(
     requires sessions { length run.now.sessions.now ≡ store.now.count }
     ensures of { IfOk result (IsEntryOf op run.now.known) }
     ensures only { IfErr result (IsStopped run.now.known) }
-    ensures stalled { IfErr result (λ why. why ≡ Refused.Stalled → turned.new ≡ store.now.turns) }
+    ensures stalled { IfErr result (λ why. why ≡ Refused.Stalled → turned.new.count ≡ store.now.turns) }
+    ensures steady { OnOk result (D.Reader.failures reader.new ≡ D.Reader.failures reader.old + turned.new.missed) }
+    ensures counted { IfErr result
+        (IsCounted D.Receipt.keeps (D.Reader.failures reader.old) (D.Reader.failures reader.new) turned.new.missed) }
 {
     match run_out(rt, store, run, reader, op, true, turned, gate) {
         Ok(Some(entry)) => Ok(entry),
@@ -344,13 +397,18 @@ pub(crate) fn run_in<F: Mergeable, D: Disk, H: Recorder<F>, G: Gate>(
     requires within { run.now.at.partition < store.now.count }
     requires sessions { length run.now.sessions.now ≡ store.now.count }
     requires readers { length readers.old.items ≡ store.now.count }
+    requires none { turned.old.missed ≡ 0 }
     ensures readers { length readers.new.items ≡ length readers.old.items }
     ensures op { IfOk result (λ e. IsRunAs loads op e.op) }
     ensures fresh { IfOk result (λ e. run.now.known ≤ e.at) }
     ensures room { IfOk result (λ e. e.at < 2 ^ 64 - 1) }
     ensures merging { OnOk result (is_merge op ≡ true → F.MERGES ≡ true) }
     ensures only { IfErr result (IsUnrun F.MERGES op run.now.known) }
-    ensures stalled { IfErr result (λ why. why ≡ Refused.Stalled → turned.new ≡ store.now.turns) }
+    ensures stalled { IfErr result (λ why. why ≡ Refused.Stalled → turned.new.count ≡ store.now.turns) }
+    ensures steady { OnOk result (AreSteady run.now.at.partition (map D.Reader.failures readers.old.items)
+        (map D.Reader.failures readers.new.items) turned.new.missed) }
+    ensures counted { IfErr result (AreCounted D.Receipt.keeps run.now.at.partition
+        (map D.Reader.failures readers.old.items) (map D.Reader.failures readers.new.items) turned.new.missed) }
 {
     match try_at_once(rt, store, run, op, gate) {
         Ok(Some(entry)) => Ok(entry),
@@ -375,13 +433,18 @@ fn run_by_turns<F: Mergeable, D: Disk, H: Recorder<F>, G: Gate>(
     requires within { run.now.at.partition < store.now.count }
     requires sessions { length run.now.sessions.now ≡ store.now.count }
     requires readers { length readers.old.items ≡ store.now.count }
+    requires none { turned.old.missed ≡ 0 }
     ensures readers { length readers.new.items ≡ length readers.old.items }
     ensures op { IfOk result (λ e. IsRunAs loads op e.op) }
     ensures fresh { IfOk result (λ e. run.now.known ≤ e.at) }
     ensures room { IfOk result (λ e. e.at < 2 ^ 64 - 1) }
     ensures merging { OnOk result (is_merge op ≡ true → F.MERGES ≡ true) }
     ensures only { IfErr result (IsUnrun F.MERGES op run.now.known) }
-    ensures stalled { IfErr result (λ why. why ≡ Refused.Stalled → turned.new ≡ store.now.turns) }
+    ensures stalled { IfErr result (λ why. why ≡ Refused.Stalled → turned.new.count ≡ store.now.turns) }
+    ensures steady { OnOk result (AreSteady run.now.at.partition (map D.Reader.failures readers.old.items)
+        (map D.Reader.failures readers.new.items) turned.new.missed) }
+    ensures counted { IfErr result (AreCounted D.Receipt.keeps run.now.at.partition
+        (map D.Reader.failures readers.old.items) (map D.Reader.failures readers.new.items) turned.new.missed) }
 {
     if !F::MERGES && op.is_merge() {
         return Err(Refused::NoMerge);
@@ -390,12 +453,12 @@ fn run_by_turns<F: Mergeable, D: Disk, H: Recorder<F>, G: Gate>(
     let Some(merge) = merge_for::<F>(&op, loads) else {
         return run_reading(rt, store, run, reader, op, turned, gate);
     };
-    if !may_need_page(rt, store, run.at, run.session, &op.key(), gate) {
-        match run_out(rt, store, run, reader, op, false, turned, gate) {
-            Ok(Some(entry)) => return Ok(entry),
-            Ok(None) => {}
-            Err(refused) => return Err(refused),
-        }
+    if may_need_page(rt, store, run.at, run.session, &op.key(), gate) {
+        return run_reading(rt, store, run, reader, merge, turned, gate);
     }
-    run_reading(rt, store, run, reader, merge, turned, gate)
+    match run_out(rt, store, run, reader, op, false, turned, gate) {
+        Ok(Some(entry)) => Ok(entry),
+        Ok(None) => run_reading(rt, store, run, reader, merge, turned, gate),
+        Err(refused) => Err(refused),
+    }
 }

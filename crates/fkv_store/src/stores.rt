@@ -124,7 +124,8 @@ pub(crate) fn readers_of<D: Disk>(
 }
 
 impl<F: Mergeable, D: Disk, H: Recorder<F>> Store<F, D, H> {
-    /// A store of this configuration with nothing in it, whose pages go to this device.
+    /// A store of this configuration with nothing in it, whose pages go to this device. It is known by the configuration's `id`, and
+    /// by nothing else: two stores that are opened with one configuration take each other's passes and marks.
     ///
     /// # Errors
     ///
@@ -199,7 +200,8 @@ impl<F: Mergeable, D: Disk, H: Recorder<F>> Store<F, D, H> {
         partition_at(self.functions.hash(key), count) as usize
     }
 
-    /// A pass for a caller, who has this number at gates. It was answered nothing, and has no session yet.
+    /// A pass for a caller, who has this number at gates. It was answered nothing, and has no session yet. Any store with the same `id`
+    /// and as many partitions takes it for one of its own.
     ///
     /// # Errors
     ///
@@ -212,7 +214,10 @@ impl<F: Mergeable, D: Disk, H: Recorder<F>> Store<F, D, H> {
           share = 0;
           last = None;
           turned = 0;
+          missed = 0;
+          reads = pass.reads;
         }) }
+        ensures reads { IfOk result (λ pass. length pass.reads ≡ self.now.count) }
         ensures only { IfErr result IsUnopened }
     {
         let count = self.locks.len();
@@ -222,6 +227,10 @@ impl<F: Mergeable, D: Disk, H: Recorder<F>> Store<F, D, H> {
         };
         let owns = match Owns::fresh(alloc, count) {
             Ok(owns) => owns,
+            Err(refused) => return Err(refused),
+        };
+        let told = match zeros(alloc, count) {
+            Ok(told) => told,
             Err(refused) => return Err(refused),
         };
         let sessions = match no_sessions(alloc, count) {
@@ -236,6 +245,7 @@ impl<F: Mergeable, D: Disk, H: Recorder<F>> Store<F, D, H> {
             store: self.id,
             worker,
             owns,
+            told,
             sessions,
             seen,
             readers,

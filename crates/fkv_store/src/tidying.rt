@@ -1,10 +1,9 @@
 //! How a partition's pages move, a hold at a time: to where they are read only, to the device, and out of their frames.
-ghost use Rattle.std.specs.Prelude.{◌≡◌, ◌≢◌, ◌<◌, ◌≤◌, ◌⊎◌, ℕ, Err, IfErr};
-ghost use Rattle.fkv_store.specs.Stores.{IsUntidy};
+ghost use Rattle.std.specs.Prelude.{◌≡◌, ◌<◌, ◌≤◌, ◌⊎◌, Err, IfErr};
+ghost use Rattle.fkv_store.specs.Stores.{IsUntidy, IsUnshifted, IsUntaken, IsUnflushed};
 
 use crate::gates::{Gate, Place};
 use crate::holds::At;
-use crate::refusals::told_of_move;
 use crate::stores::Store;
 use fkv_device::{Disk, FlushJob, Written};
 use fkv_functions::{Mergeable, Refused};
@@ -19,11 +18,23 @@ pub const KEEPER: u32 = u32::MAX;
 
 /// What comes of a shift: one that is not due, or finds the list of waiting actions full, is passed over.
 fn passed(shifted: Result<(), Refused>) -> Result<(), Refused>
-    ensures only { IfErr result IsUntidy }
+    requires { IfErr shifted IsUnshifted }
+    ensures only { IfErr result (λ why. why ≡ Refused.Worn) }
 {
     match shifted {
         Ok(()) | Err(Refused::NotDue) | Err(Refused::DrainFull) => Ok(()),
-        Err(refused) => Err(told_of_move(refused)),
+        Err(refused) => Err(refused),
+    }
+}
+
+/// What comes of a page that was written and is not taken in: one that waits no more is passed over.
+fn untaken(refused: Refused) -> Result<bool, Refused>
+    requires { IsUnflushed refused }
+    ensures only { IfErr result IsUntidy }
+{
+    match refused {
+        Refused::NotDue => Ok(false),
+        _ => Err(refused),
     }
 }
 
@@ -36,7 +47,9 @@ impl<F: Mergeable, D: Disk, H: Recorder<F>> Store<F, D, H> {
     /// # Errors
     ///
     /// `Unknown` where there is no such partition. Then, and what was moved stays so: `NoMemory`; `Worn` where the
-    /// partition's clock has no next moment; `Device` with code 2 where a page can't be written: a later call writes it.
+    /// partition's clock has no next moment; `Device` with code 2 where a page can't be written: a later call writes it;
+    /// `Stranger` where another page was to be written than the one that was, or with other bytes, which the writer's lock
+    /// rules out.
     pub fn tidy<G: Gate>(
         &self,
         rt: &impl Wait,
@@ -45,7 +58,7 @@ impl<F: Mergeable, D: Disk, H: Recorder<F>> Store<F, D, H> {
         gate: &G,
     ) -> Result<Address, Refused>
         ensures none { self.now.count ≤ partition → result ≡ Err Refused.Unknown }
-        ensures only { IfErr result IsUntidy }
+        ensures only { IfErr result (λ why. ((why ≡ Refused.Unknown) × (self.now.count ≤ partition)) ⊎ IsUntidy why) }
     {
         if partition >= self.locks.len() {
             return Err(Refused::Unknown);
@@ -68,7 +81,7 @@ impl<F: Mergeable, D: Disk, H: Recorder<F>> Store<F, D, H> {
     /// Moves ReadOnly behind the tail.
     fn freeze<G: Gate>(&self, rt: &impl Wait, at: At, gate: &G) -> Result<(), Refused>
         requires { at.partition < self.now.count }
-        ensures only { IfErr result IsUntidy }
+        ensures only { IfErr result (λ why. why ≡ Refused.Worn) }
     {
         let mut held = self.locks[at.partition].lock(rt);
         gate.pass(at.worker, at.locked());
@@ -85,7 +98,7 @@ impl<F: Mergeable, D: Disk, H: Recorder<F>> Store<F, D, H> {
     /// Moves Head behind the tail, as far as pages are written, and answers it.
     fn evict<G: Gate>(&self, rt: &impl Wait, at: At, gate: &G) -> Result<Address, Refused>
         requires { at.partition < self.now.count }
-        ensures only { IfErr result IsUntidy }
+        ensures only { IfErr result (λ why. why ≡ Refused.Worn) }
     {
         let mut held = self.locks[at.partition].lock(rt);
         gate.pass(at.worker, at.locked());
@@ -143,12 +156,12 @@ impl<F: Mergeable, D: Disk, H: Recorder<F>> Store<F, D, H> {
         let job = match self.take(rt, alloc, at, gate) {
             Ok(job) => job,
             Err(Refused::NotDue) => return Ok(false),
-            Err(refused) => return Err(told_of_move(refused)),
+            Err(refused) => return Err(refused),
         };
         gate.pass(at.worker, Place::Flush);
         let written = match Written::<D::Receipt>::write(&mut *writer, job) {
             Ok(written) => written,
-            Err(refused) => return Err(told_of_move(refused)),
+            Err(refused) => return Err(refused),
         };
         let mut held = self.locks[at.partition].lock(rt);
         gate.pass(at.worker, at.locked());
@@ -157,7 +170,7 @@ impl<F: Mergeable, D: Disk, H: Recorder<F>> Store<F, D, H> {
                 self.tell_move(at.partition);
                 Ok(true)
             }
-            Err(refused) => Err(told_of_move(refused)),
+            Err(refused) => untaken(refused),
         }
     }
 
@@ -170,6 +183,7 @@ impl<F: Mergeable, D: Disk, H: Recorder<F>> Store<F, D, H> {
         gate: &G,
     ) -> Result<FlushJob, Refused>
         requires { at.partition < self.now.count }
+        ensures only { IfErr result IsUntaken }
     {
         let mut held = self.locks[at.partition].lock(rt);
         gate.pass(at.worker, at.locked());

@@ -100,6 +100,8 @@ impl<'a, P: PageReader> PageReader for FailingReader<'a, P> {
 
     ghost part = { λ r. P.part r.reader };
 
+    ghost reads = { λ r. P.reads r.reader };
+
     ghost can_fail = { λ _ _. Unit {0} };
 
     fn read(&mut self, receipt: &P::Receipt, size: usize) -> Result<Page, Refused> {

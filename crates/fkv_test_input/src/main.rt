@@ -2,8 +2,8 @@
 //! It is the same call as that of `fkv_cli`.
 #![tactic(auto)]
 
-use std::process::ExitCode;
+use fkv_commands::{End, start};
 
-fn main(rt: HostRuntime) -> ExitCode {
-    fkv_commands::start(&rt, &rt.stdin(), &rt.stdout(), &rt.stderr())
+fn main(rt: HostRuntime) -> End {
+    start(&rt, &rt.stdin(), &rt.stdout(), &rt.stderr())
 }

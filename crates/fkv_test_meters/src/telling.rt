@@ -1,5 +1,5 @@
 //! What is written of a run's progress, by a clock that a test sets.
-use fkv_meters::{Progress, Telling};
+use fkv_meters::{Beside, Progress, Telling};
 use std::alloc::Global;
 use std::cell::{Cell, RefCell};
 use std::fmt::Display;
@@ -31,6 +31,8 @@ struct Paper {
     text: RefCell<Vec<u8>>,
     is_torn: Cell<bool>,
 }
+
+impl Beside for Paper {}
 
 impl Print for Paper {
     fn print<D: Display + Drop>(&self, value: D) -> io::Result<()> {

@@ -325,11 +325,11 @@ const RUNS: [(&str, &str, u8, &str, &str); 74] = [
         "",
     ),
     (
-        "fkv_cli max --audit --dir made/pages --page-bits 8 --frames 2",
+        "fkv_cli max --stats --audit --dir made/pages --page-bits 8 --frames 2",
         "a,5\nb,7\na,-2\n",
         0,
         "a,5\nb,7\n",
-        "",
+        "fkv_cli: rows 3\nfkv_cli: keys 2\nfkv_cli: pages written 0\n",
     ),
     ("fkv_cli sum --audit", "", 0, "", ""),
     // rows that are made merges come to the same table

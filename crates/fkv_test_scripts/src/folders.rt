@@ -8,8 +8,6 @@ use std::io::{self, Read, Write};
 use std::os::unix::fs::symlink;
 use std::test::Fail;
 
-const FOLDER: &str = "folders";
-
 /// Forty keys, each in two rows, and their sums: more than two frames of 256 bytes hold of either of two partitions.
 fn forty(alloc: Global) -> io::Result<(String, String)> {
     let mut rows = String::new(alloc);
@@ -26,27 +24,35 @@ fn forty(alloc: Global) -> io::Result<(String, String)> {
 }
 
 /// Options of runs whose partitions move pages to a folder.
-const MOVING: [&str; 5] = [
+const MOVING: [&str; 6] = [
     "sum --partition-bits 1 --page-bits 8 --frames 2 --dir folders/pages",
     "sum --partition-bits 1 --page-bits 8 --frames 2 --dir folders/pages --merge",
     "sum --partition-bits 2 --page-bits 8 --frames 2 --dir folders/pages",
+    "sum --partition-bits 0 --page-bits 9 --frames 2 --dir folders/pages",
     "sum --partition-bits 1 --page-bits 8 --frames 2 --dir folders/pages --audit",
     "sum --partition-bits 1 --page-bits 8 --frames 2 --dir folders/pages --workers 2 folders/rows folders/none",
 ];
 
+/// A file of an earlier run, which is longer than any of these runs makes it.
+const OLD: [u8; 20_000] = [7; 20_000];
+
+/// After each run the file of the first partition has pages of this run, and nothing of an earlier one.
 #[test]
 fn partitions_have_files_of_their_own(rt: HostRuntime) -> Result<(), Fail> {
-    fs::create_dir_all(&rt, FOLDER)?;
+    fs::create_dir_all(&rt, "folders/pages")?;
     let (rows, sums) = forty(rt.alloc())?;
     fs::write(&rt, "folders/rows", rows.as_str())?;
     fs::write(&rt, "folders/none", "")?;
     for options in MOVING {
+        fs::write(&rt, "folders/pages/part-00.log", OLD.as_slice())?;
         let line = format!(in rt.alloc(); "fkv_cli {options}")?;
         let run = start(line.as_str(), rows.as_str());
         assert!(rt;
             ends(&rt, rt.alloc(), run, 0, sums.as_str(), ""),
             "{options}"
         );
+        let size = fs::metadata(&rt, "folders/pages/part-00.log")?.len();
+        assert!(rt; 0 < size && size < 20_000, "{options}: {size}");
     }
     Ok(())
 }

@@ -6,7 +6,7 @@ const FOLDER: &str = "named_feeds";
 
 /// What stands in `named_feeds/a` and `named_feeds/b`, the words of a run over them, its status, and what it prints and
 /// tells. Standard input has a row of its own, which no run reads that names a feed.
-const NAMED: [(&str, &str, &str, u8, &str, &str); 28] = [
+const NAMED: [(&str, &str, &str, u8, &str, &str); 31] = [
     (
         "a,1\nb,2\n",
         "a,5\nc,7\n",
@@ -65,6 +65,14 @@ const NAMED: [(&str, &str, &str, u8, &str, &str); 28] = [
         "a,6\nb,2\n",
         "fkv_cli: rows 3\nfkv_cli: keys 2\nfkv_cli: pages written 0\n",
     ),
+    (
+        "a,1\nb,2\n",
+        "",
+        "fkv_cli sum --stats --audit named_feeds/a",
+        0,
+        "a,1\nb,2\n",
+        "fkv_cli: rows 2\nfkv_cli: keys 2\nfkv_cli: pages written 0\n",
+    ),
     // the feed after the third
     (
         "a,1\n",
@@ -122,6 +130,15 @@ const NAMED: [(&str, &str, &str, u8, &str, &str); 28] = [
         1,
         "",
         "fkv_cli: cannot read input 2\nfkv_cli: feed 2 is 'named_feeds/none': no such file\n",
+    ),
+    // a path is taken as it stands
+    (
+        "a,1\n",
+        "",
+        "fkv_cli sum named_feeds/a\t",
+        1,
+        "",
+        "fkv_cli: cannot read input 1\nfkv_cli: feed 1 is 'named_feeds/a\\x09': no such file\n",
     ),
     ("", "", "fkv_cli sum named_feeds/a named_feeds/b", 0, "", ""),
     (
@@ -224,6 +241,15 @@ const NAMED: [(&str, &str, &str, u8, &str, &str); 28] = [
         1,
         "",
         "fkv_cli: bad row 2 of feed 1\nfkv_cli: 'named_feeds/a', line 2: \"abcdefghijklmnopqrstuvwxyzabcdefghijklmnopqrstuvwxyz01234567...\"\n",
+    ),
+    // bytes above 127, of which the first two are a terminal's control
+    (
+        "a,1\n\u{9b}2J\u{e9}\n",
+        "",
+        "fkv_cli sum named_feeds/a",
+        1,
+        "",
+        "fkv_cli: bad row 2 of feed 1\nfkv_cli: 'named_feeds/a', line 2: \"\\xc2\\x9b2J\\xc3\\xa9\"\n",
     ),
     // a header
     (

@@ -11,6 +11,8 @@ mod faults;
 #[cfg(test)]
 mod growths;
 #[cfg(test)]
+mod hearing;
+#[cfg(test)]
 mod merging;
 #[cfg(test)]
 mod room;

@@ -14,7 +14,7 @@ use Rattle.fkv_workers.specs.Works.{StandsFor}
 use Rattle.fkv_workers.proofs.ShareLemmas.{share_none}
 
 pub stands_fresh : {V O : Type 0} (keeps : Bool) (code : Name → ℕ) (mode : RowMode) (s : StoreView) (p : PassView Name V ℤ O) → 0 < s.count
-    → p ≡ record { store = s.id; own = replicate s.count []; told = replicate s.count 0; share = 0; last = None; turned = 0 }
+    → p ≡ record { store = s.id; own = replicate s.count []; told = replicate s.count 0; share = 0; last = None; turned = 0; missed = 0; reads = p.reads }
     → StandsFor keeps code mode p []
 stands_fresh {V = V} {O = O} keeps code mode s p some is =
     rw is

@@ -2,6 +2,10 @@
 use Rattle.std.specs.Prelude.{◌≡◌, ◌<◌, ◌+◌, ◌-◌, ◌^◌, ◌≤◌, ◌⊎◌, ℕ, ℤ, Bool, true, false, FitsSigned, List, [], ◌∷◌, ◌++◌, length, map, slice_get, slice_index_or, Option, Some, None, min}
 use Rattle.std.specs.Int.{w64}
 use Rattle.std.specs.List.{All, AllZip}
+use Rattle.std.specs.BTreeMap.{is_at}
+use Rattle.std.specs.Map.{lookup}
+use Rattle.fkv_functions.specs.Meanings.{Meanings}
+use Rattle.fkv_functions.specs.Names.{name_cmp}
 use Rattle.fkv_functions.specs.declared.names.Name.{Name}
 use Rattle.fkv_functions.specs.declared.refusals.Refused.{Refused}
 use Rattle.fkv_functions.specs.declared.refusals.Refused.TheVariants.{BadConfig}
@@ -10,11 +14,12 @@ use Rattle.fkv_feeds.specs.Tables.{AreFeeds, most_rows}
 use Rattle.fkv_feeds.specs.declared.modes.RowMode.{RowMode}
 use Rattle.fkv_feeds.specs.declared.modes.RowMode.TheVariants.{Update}
 use Rattle.fkv_operations.specs.After.{is_merge}
+use Rattle.fkv_closing.specs.Closing.{IsClosed}
 use Rattle.fkv_histories.specs.declared.entries.Entry.{Entry}
 use Rattle.fkv_partition.specs.Limits.{IsWithinLimits}
 use Rattle.fkv_partition.specs.declared.limits.Config.{Config}
 use Rattle.fkv_partition.specs.CoreViews.{partition_of}
-use Rattle.fkv_store.specs.Stores.{IsTold, IsClosing}
+use Rattle.fkv_store.specs.Stores.{IsTold, IsUnopened, IsClosing}
 use Rattle.fkv_store.specs.Passes.{PassView, IsUpdateBy, Answers}
 use Rattle.fkv_workers.specs.Shares.{AreFed, HasShare, dealt, rows_at}
 
@@ -55,12 +60,14 @@ abbrev pub number_of : ℕ → ℕ
 number_of place = min (place + 1) (2 ^ 64 - 1)
 
 module _ {S : Type 0} (remaining : S → Option (List ℕ)) (failures : S → ℕ) where
-  -- one of these feeds was not read to its end, and why
+  -- one of these feeds was not read to its end, and why: by its failures, and those of what the reading left of it
   pub record IsUnreadOf (feeds : List (ℕ × S)) (why : Refused) : Type 0 where
     pub place : ℕ
     pub feed : ℕ × S
     pub here : slice_get feeds place ≡ Some feed
+    pub left : S
     pub after : ℕ
+    pub counts : after ≡ failures left
     pub tells : TellsUnread (number_of feed.0) most_rows (remaining feed.1) (failures feed.1) after why
 
   -- a worker read these feeds to their ends, and its pass has their rows, each made as the mode says
@@ -73,6 +80,28 @@ module _ {S : Type 0} (remaining : S → Option (List ℕ)) (failures : S → �
   -- why a worker stopped before: its pass refused an update or to rest, or a feed was not read to its end
   abbrev pub IsStop : List (ℕ × S) → Refused → Type 0
   IsStop feeds why = IsTold why ⊎ IsUnreadOf feeds why
+
+  -- these feeds were read to their ends, and have rows
+  pub record HasRead (feeds : List (ℕ × S)) : Type 0 where
+    pub rows : List (Name × ℤ)
+    pub read : AreFeeds most_rows (map (λ feed. remaining feed.1) feeds) rows
+
+  -- each worker has read its feeds, of so many workers
+  abbrev pub HaveRead : ℕ → ℕ → List S → Type 0
+  HaveRead many workers feeds = (w : ℕ) → w < many → HasRead (dealt workers w feeds)
+
+  -- whose refusal is told of a run by so many workers: one that comes before any feed is read, or where threads can't be made or
+  -- hand nothing back; or that of the first worker that stopped, where all before it have read their feeds to their ends; or, where
+  -- all have, the keeper's; or that of the store's end
+  pub data IsFirst (workers : ℕ) (feeds : List S) (why : Refused) : Type 0 where
+    early : (why ≡ BadConfig) ⊎ IsUnopened why → IsFirst workers feeds why
+    worker : (w : ℕ)
+        → w < workers
+        → HaveRead w workers feeds
+        → IsStop (dealt workers w feeds) why
+        → IsFirst workers feeds why
+    keeper : HaveRead workers workers feeds → IsTold why → IsFirst workers feeds why
+    closing : HaveRead workers workers feeds → IsClosing why → IsFirst workers feeds why
 
   -- why a run by so many workers has no table: it is outside its limits; a call on the store was refused, one that opens it, an
   -- update of a row or the keeper's work; one of the feeds that a worker has was not read to its end; or the store did not close
@@ -101,6 +130,17 @@ pub record IsFedBy {V O : Type 0} (code : Name → ℕ) (mode : RowMode) (feeds 
   pub fed : AreFed most_rows feeds shares
   pub kept : AllZip (λ pass rows. HasShare code (length pass.told) pass.own rows) passes shares
   pub made : All (λ pass. AreMadeBy mode pass.own) passes
+
+-- a table, beside which stand so many updates, was made of these feeds in this mode: the own lists of passes have one update or merge
+-- for each row, each history is a merge of these lists, they have as many entries, and what they make of the empty map is the
+-- table
+pub record IsMadeBy {V O : Type 0} (f : Meanings Name V ℤ O) (code : Name → ℕ) (mode : RowMode) (feeds : List (Option (List ℕ)))
+    (table : List (Name × V)) (count : ℕ) : Type 0 where
+  pub passes : List (PassView Name V ℤ O)
+  pub histories : List (List (Entry Name V ℤ O))
+  pub fed : IsFedBy code mode feeds passes
+  pub closed : IsClosed name_cmp f code (map (λ pass. pass.own) passes) (map (λ pass. pass.share) passes)
+      (λ k. lookup (is_at (name_cmp k)) table) histories count
 
 -- a run of so many workers over so many feeds is within its limits
 pub record IsRunnable (c : Config) (record_size workers feeds : ℕ) : Type 0 where

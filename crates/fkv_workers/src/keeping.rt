@@ -7,7 +7,7 @@ use fkv_device::Disk;
 use fkv_functions::{Mergeable, Refused};
 use fkv_histories::Recorder;
 use fkv_jobs::Keeper;
-use fkv_store::{Gate, Store};
+use fkv_store::{Events, Gate, Store};
 use std::alloc::Global;
 use std::sync::Wait;
 use std::sync::atomic::{AtomicBool, AtomicU64, Ordering};
@@ -46,7 +46,11 @@ fn keep_one<F: Mergeable, D: Disk, H: Recorder<F>, G: Gate>(
         return Ok(());
     }
     compacted.store(head, Ordering::SeqCst);
-    match keeper.store.compact_until(rt, partition, keeper.gate, stop) {
+    let mut events = Events::none();
+    match keeper
+        .store
+        .compact_until(rt, partition, keeper.gate, &mut events, stop)
+    {
         // one that took too long, or found no free session, is tried again when Head has moved on
         Ok(()) | Err(Refused::Stalled | Refused::NoSlot) => Ok(()),
         Err(refused) => Err(refused),

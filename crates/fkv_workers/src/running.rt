@@ -5,7 +5,7 @@ ghost use Rattle.fkv_records.specs.Records.{size_of};
 ghost use Rattle.fkv_partition.specs.Limits.{IsWithinLimits};
 ghost use Rattle.fkv_feeds.specs.Tables.{IsTableOf};
 ghost use Rattle.fkv_functions.specs.declared.refusals.Refused.TheVariants as refused;
-ghost use Rattle.fkv_workers.specs.Works.{IsFedBy, IsFirstFault, IsRunnable, IsUnmade, IsUnworked};
+ghost use Rattle.fkv_workers.specs.Works.{HaveRead, IsFedBy, IsFirst, IsFirstFault, IsMadeBy, IsRunnable, IsUnmade, IsUnworked};
 
 use crate::dealing::{passes_of, works};
 use crate::deals::deal;
@@ -102,7 +102,9 @@ where
     ensures ok { IfOk result (λ fed. H.keeps ≡ true
         → IsFedBy F.code fed.mode (map S.remaining feeds.items) fed.passes.items) }
     ensures mode { IfOk result (λ fed. fed.mode ≡ mode) }
+    ensures read { OnOk result (HaveRead S.remaining S.failures workers workers feeds.items) }
     ensures refused { IfErr result (IsUnworked S.remaining S.failures workers feeds.items) }
+    ensures first { IfErr result (IsFirst S.remaining S.failures workers feeds.items) }
 {
     let hands = match deal(alloc, feeds, workers) {
         Ok(hands) => hands,
@@ -170,11 +172,14 @@ where
     D::Reader: Send,
     ensures ok { H.keeps ≡ true → IsTrue D.Receipt.keeps
         → IfOk result (λ run. IsTableOf F.meaning (map S.remaining feeds.items) run.table) }
+    ensures made { H.keeps ≡ true → IsTrue D.Receipt.keeps → IfOk result (λ run.
+        IsMadeBy F.meaning F.code RowMode.Update (map S.remaining feeds.items) run.table run.counts.rows) }
     ensures ran { IfOk result (λ run. run.plan ≡ record { config = config.now; mode = RowMode.Update; workers = workers }) }
     ensures good { result ≢ Err Refused.BadConfig
         → IsRunnable config.now (size_of 32 F.Value.SIZE) workers (length feeds.items) }
     ensures refused { IfErr result (IsUnmade S.remaining S.failures
         (IsRunnable config.now (size_of 32 F.Value.SIZE) workers (length feeds.items)) workers feeds.items) }
+    ensures first { IfErr result (IsFirst S.remaining S.failures workers feeds.items) }
 {
     run_feeds_by::<S, F, D, H, G, T>(
         rt,
@@ -221,11 +226,14 @@ where
     D::Reader: Send,
     ensures ok { H.keeps ≡ true → IsTrue D.Receipt.keeps
         → IfOk result (λ run. IsTableOf F.meaning (map S.remaining feeds.items) run.table) }
+    ensures made { H.keeps ≡ true → IsTrue D.Receipt.keeps → IfOk result (λ run.
+        IsMadeBy F.meaning F.code mode (map S.remaining feeds.items) run.table run.counts.rows) }
     ensures ran { IfOk result (λ run. run.plan ≡ record { config = config.now; mode = mode; workers = workers }) }
     ensures good { result ≢ Err Refused.BadConfig
         → IsRunnable config.now (size_of 32 F.Value.SIZE) workers (length feeds.items) }
     ensures refused { IfErr result (IsUnmade S.remaining S.failures
         (IsRunnable config.now (size_of 32 F.Value.SIZE) workers (length feeds.items)) workers feeds.items) }
+    ensures first { IfErr result (IsFirst S.remaining S.failures workers feeds.items) }
 {
     if !is_runnable::<F::Value>(config, workers, feeds.len()) {
         return Err(Refused::BadConfig);

@@ -185,6 +185,8 @@ impl<
     ghost stands = { λ r rows. AreSplit H.keeps F.code M.mode r.pass (map (λ rows. rows.items) r.waiting.items) rows
         × (length r.pass.told ≡ r.store.now.count) × (r.mode ≡ M.mode) };
 
+    ghost kept = { λ _. tt };
+
     ghost fault = { IsTold };
 
     fn add(&mut self, key: &Name, amount: i64) -> Result<(), Refused> {

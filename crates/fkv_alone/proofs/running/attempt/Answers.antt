@@ -206,3 +206,31 @@ returns-in-Err-drive-clause-unread g c = λ merge.
     let issued = issue-told g.F.Functions.code v w c.args.slot k c.in-Ok.now c.args.op (issued-on-key g.F.Functions.code v w c.args.slot c.in-Ok.now c.args.op c.op.result (Ok k) c.op.ensures c.in-Ok-issue.ensures.effect) in
     let begun = issue-begun g.F.Functions.code v w c.args.slot k c.in-Ok.now c.args.op issued c.known.ensures.core.places c.in-Ok-issue.ensures.within.0 in
     c.in-Err-drive.ensures.unread c.args.op v.core c.in-Ok.now begun.ready merge
+
+pub returns-in-Ok-drive-clause-loads : goal.returns-in-Ok-drive-clause-loads
+returns-in-Ok-drive-clause-loads g c = λ kept clear.
+    let first = c.in-Ok.ensures.ok in
+    let v = c.args.partition.now in
+    let w = c.issue.new.self in
+    let k = c.in-Ok-issue.context in
+    let issued = issue-told g.F.Functions.code v w c.args.slot k c.in-Ok.now c.args.op (issued-on-key g.F.Functions.code v w c.args.slot c.in-Ok.now c.args.op c.op.result (Ok k) c.op.ensures c.in-Ok-issue.ensures.effect) in
+    let begun = issue-begun g.F.Functions.code v w c.args.slot k c.in-Ok.now c.args.op issued c.known.ensures.core.places c.in-Ok-issue.ensures.within.0 in
+    let hashed : c.hash-hash.result ≡ g.F.Functions.code (key_of c.args.op) = c.hash-hash.ensures ∙ ap g.F.Functions.code c.key.ensures in
+    let fits = c.hash-hash.type_inv in
+    let range : g.F.Functions.code (key_of c.args.op) < 2 ^ 64 = subst (λ h. h < 2 ^ 64) hashed fits in
+    let near = issue-near g.F.Functions.code v.core w.core c.args.slot k c.in-Ok.now c.args.op (ap (λ (u : PartitionView _ _ _). u.core) issued.is) begun.ready begun.fresh clear range in
+    c.in-Ok-drive.ensures.loads kept c.args.op v.core c.in-Ok.now (3 + rest_of g.F.Functions.code v.core.records c.args.op) begun.ready near
+
+pub returns-in-Err-drive-clause-loads : goal.returns-in-Err-drive-clause-loads
+returns-in-Err-drive-clause-loads g c = λ kept clear.
+    let first = c.in-Ok.ensures.ok in
+    let v = c.args.partition.now in
+    let w = c.issue.new.self in
+    let k = c.in-Ok-issue.context in
+    let issued = issue-told g.F.Functions.code v w c.args.slot k c.in-Ok.now c.args.op (issued-on-key g.F.Functions.code v w c.args.slot c.in-Ok.now c.args.op c.op.result (Ok k) c.op.ensures c.in-Ok-issue.ensures.effect) in
+    let begun = issue-begun g.F.Functions.code v w c.args.slot k c.in-Ok.now c.args.op issued c.known.ensures.core.places c.in-Ok-issue.ensures.within.0 in
+    let hashed : c.hash-hash.result ≡ g.F.Functions.code (key_of c.args.op) = c.hash-hash.ensures ∙ ap g.F.Functions.code c.key.ensures in
+    let fits = c.hash-hash.type_inv in
+    let range : g.F.Functions.code (key_of c.args.op) < 2 ^ 64 = subst (λ h. h < 2 ^ 64) hashed fits in
+    let near = issue-near g.F.Functions.code v.core w.core c.args.slot k c.in-Ok.now c.args.op (ap (λ (u : PartitionView _ _ _). u.core) issued.is) begun.ready begun.fresh clear range in
+    c.in-Err-drive.ensures.loads kept c.args.op v.core c.in-Ok.now (3 + rest_of g.F.Functions.code v.core.records c.args.op) begun.ready near

@@ -4,6 +4,7 @@ use Rattle.fkv_alone.proofs.BoundLemmas.{near-some}
 use Rattle.fkv_alone.proofs.DriveLemmas.{pend-then, pend-self, come-halted, stop-halted}
 use Rattle.fkv_alone.proofs.EndLemmas.{stop-stalled}
 use Rattle.fkv_alone.proofs.KeyLemmas.{none-then, rest-then}
+use Rattle.fkv_alone.proofs.LoadsLemmas.{caused-then, left-falls}
 use Rattle.fkv_alone.proofs.running.drive.Goals as goal
 
 pub step-requires-clause-none : goal.step-requires-clause-none
@@ -56,6 +57,17 @@ loop-turn-preserved g c =
           let e = c.in-Ok-step.ensures.advances op old started come.0 in
           (e.0, (let a = e.1 in let b = come.1 in omega arith));
       unread = λ op old started h merge. c.in-Ok-step.ensures.unread op old started (i.comes op old started h).0 merge ∙ i.unread op old started h merge;
+      loads = λ kept op old started n h near.
+          let come = (i.comes op old started h).0 in
+          let e = c.in-Ok-step.ensures.advances op old started come in
+          let more = i.near n kept near in
+          let before = i.loads kept op old started n h near in
+          let once = c.in-Ok-step.ensures.once in
+          let some = c.in-Ok-step.ensures.wanted kept op old started come in
+          let go = c.is_on.ensures.0 c.if-not-is_on.false in
+          let falls = left-falls g.R.Receipt.keeps g.R.Receipt.stands g.F.Key.Ord.cmp g.F.Mergeable.parts.joined g.F.Functions.meaning g.F.Functions.code op old c.args.slot c.args.context started c.loop-turn.partition.core c.step.new.partition.core c.loop-turn.told c.in-Ok-step.progress more.0 come e.0 i.on go more.2 (λ m near. c.in-Ok-step.ensures.nearer m kept near go) some in
+          omega arith;
+      caused = caused-then _ _ _ i.caused c.in-Ok-step.ensures.caused;
       near = λ n kept near.
           let more = i.near n kept near in
           let next = c.in-Ok-step.ensures.nearer more.0 kept more.2 (c.is_on.ensures.0 c.if-not-is_on.false) in
@@ -151,6 +163,8 @@ pub loop-turn-init : goal.loop-turn-init
 loop-turn-init g c = record {
   comes = λ op old started h. (h, refl);
   unread = λ op old started h merge. refl;
+  loads = λ kept op old started n h near. omega arith;
+  caused = λ other. absurd (other refl);
   near = λ n kept near. (n, omega arith, near);
   others = λ kept. pend-self g.F.Key.Ord.cmp c.args.partition.now.core c.args.slot c.args.context;
   on = tt;
@@ -202,3 +216,29 @@ returns-then-not-is_on-clause-unread g c = λ op old started h merge.
 
 pub returns-clause-unread : goal.returns-clause-unread
 returns-clause-unread g c = λ op old started h merge. c.loop-turn.invariant.unread op old started h merge
+
+pub returns-in-Err-clause-loads : goal.returns-in-Err-clause-loads
+returns-in-Err-clause-loads g c = λ kept op old started n h near. let before = c.loop-turn.invariant.loads kept op old started n h near in omega arith
+
+pub returns-in-Err-step-clause-loads : goal.returns-in-Err-step-clause-loads
+returns-in-Err-step-clause-loads g c = λ kept op old started n h near.
+    let before = c.loop-turn.invariant.loads kept op old started n h near in
+    let once = c.in-Err-step.ensures.once in
+    let some = c.in-Err-step.ensures.wanted kept op old started (c.loop-turn.invariant.comes op old started h).0 in
+    omega arith
+
+pub returns-then-not-is_on-clause-loads : goal.returns-then-not-is_on-clause-loads
+returns-then-not-is_on-clause-loads g c = λ kept op old started n h near.
+    let before = c.loop-turn.invariant.loads kept op old started n h near in
+    let once = c.in-Ok-step.ensures.once in
+    let some = c.in-Ok-step.ensures.wanted kept op old started (c.loop-turn.invariant.comes op old started h).0 in
+    omega arith
+
+pub returns-clause-loads : goal.returns-clause-loads
+returns-clause-loads g c = λ kept op old started n h near. let before = c.loop-turn.invariant.loads kept op old started n h near in omega arith
+
+pub returns-in-Err-step-clause-caused : goal.returns-in-Err-step-clause-caused
+returns-in-Err-step-clause-caused g c = caused-then _ _ _ c.loop-turn.invariant.caused c.in-Err-step.ensures.caused
+
+pub returns-then-not-is_on-clause-caused : goal.returns-then-not-is_on-clause-caused
+returns-then-not-is_on-clause-caused g c = caused-then _ _ _ c.loop-turn.invariant.caused c.in-Ok-step.ensures.caused

@@ -1,9 +1,11 @@
+use Rattle.std.proofs.Common.{arith}
 use Rattle.std.proofs.lemmas.Result.{IfOk-weaker}
 use Rattle.fkv_pages.specs.Spelled.{IsEntryIn}
 use Rattle.fkv_alone.proofs.BoundLemmas.{goes-nearer, installs-nearer, reads-nearer}
 use Rattle.fkv_alone.proofs.DriveLemmas.{core-same}
 use Rattle.fkv_alone.proofs.KeyLemmas.{goes-on-key, installs-on-key, reads-on-key, none-here, finds-asks, event-finishes, load-tells}
-use Rattle.fkv_alone.proofs.MergeLemmas.{merges-fetch-not}
+use Rattle.fkv_alone.proofs.LoadsLemmas.{wanted-left, may-fail-can}
+use Rattle.fkv_alone.proofs.MergeLemmas.{others-fetch-not}
 use Rattle.fkv_alone.proofs.StageLemmas.{goes-advances, installs-advances, reads-advances}
 use Rattle.fkv_alone.proofs.stepping.step.Goals as goal
 
@@ -78,4 +80,26 @@ returns-in-NeedsBuild-clause-rest g c =
     (installs-on-key c.args.partition.now c.install.new.self c.args.slot c.args.context c.args.now c.requires.none g.F.Key.Ord.cmp g.F.Functions.meaning g.F.Functions.code c.make-built.result c.install.result c.install.ensures.effect).1
 
 pub returns-in-NeedsLoad-clause-unread : goal.returns-in-NeedsLoad-clause-unread
-returns-in-NeedsLoad-clause-unread g c = λ op old started h merge. absurd (merges-fetch-not c.known.ensures.core (rw c.in-NeedsLoad.is at h) merge)
+returns-in-NeedsLoad-clause-unread g c = λ op old started h merge. absurd (others-fetch-not c.known.ensures.core (rw c.in-NeedsLoad.is at h) merge)
+
+pub returns-in-NeedsLoad-clause-once : goal.returns-in-NeedsLoad-clause-once
+returns-in-NeedsLoad-clause-once g c = rw c.in-NeedsLoad.is c.load_by.ensures.once
+
+pub returns-in-Next-clause-once : goal.returns-in-Next-clause-once
+returns-in-Next-clause-once g c = omega arith
+
+pub returns-in-NeedsBuild-clause-once : goal.returns-in-NeedsBuild-clause-once
+returns-in-NeedsBuild-clause-once g c = omega arith
+
+pub returns-in-NeedsLoad-clause-wanted : goal.returns-in-NeedsLoad-clause-wanted
+returns-in-NeedsLoad-clause-wanted g c = λ kept op old started h.
+    rw c.in-NeedsLoad.is (wanted-left g.R.Receipt.keeps g.R.Receipt.stands g.F.Key.Ord.cmp g.F.Mergeable.parts.joined g.F.Functions.meaning g.F.Functions.code op old c.args.slot c.args.context started c.args.partition.now.core (g.R.Receipt.stands c.in-NeedsLoad._receipt) c.in-NeedsLoad._address (rw c.in-NeedsLoad.is at h) kept c.known.ensures.core)
+
+pub returns-in-Next-clause-wanted : goal.returns-in-Next-clause-wanted
+returns-in-Next-clause-wanted g c = λ kept op old started h. rw c.in-Next.is (omega arith)
+
+pub returns-in-NeedsBuild-clause-wanted : goal.returns-in-NeedsBuild-clause-wanted
+returns-in-NeedsBuild-clause-wanted g c = λ kept op old started h. rw c.in-NeedsBuild.is (omega arith)
+
+pub returns-in-NeedsLoad-clause-caused : goal.returns-in-NeedsLoad-clause-caused
+returns-in-NeedsLoad-clause-caused g c = λ other. may-fail-can (c.load_by.ensures.caused other).1

@@ -15,6 +15,7 @@ loop-count-init g c = record {
   plain = c.requires.fresh.plain;
   ready = c.requires.fresh.ready;
   config = c.requires.fresh.config;
+  kept = refl;
   so_far = ([], [], has_read-start g.R.Read.remaining _ c.args.reader.now refl c.requires.fresh.start, tt, refl, λ before h. rw (append-nil before) h);
 }
 
@@ -53,6 +54,7 @@ loop-count-preserved g c =
       plain = read.3 ∙ old.plain;
       ready = inl (c.in-Ok-true.ensures.ready old.plain);
       config = read.2 ∙ old.config;
+      kept = c.add.ensures.kept ∙ old.kept;
       so_far = (
         old.so_far.0 ++ fields ∷ [],
         old.so_far.1 ++ (c.in-Some.key, c.in-Some.amount) ∷ [],

@@ -11,6 +11,7 @@ invariant-loop-count g l = record {
   plain : reader_trim l.reader ≡ trim.None;
   ready : Ready l.reader;
   config : reader_config l.reader ≡ default_config;
+  kept : g.K.RowSink.kept l.sink ≡ g.K.RowSink.kept l.initial.sink;
   so_far : (records : List (List (List ℕ)))
       × (rows : List (Name × ℤ))
       × HasRead g.R.Read.remaining (source_of g.R.Read.remaining l.initial.reader) l.reader records

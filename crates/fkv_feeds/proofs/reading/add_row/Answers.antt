@@ -9,7 +9,7 @@ returns-in-Ok-clause-ok g c = λ rows stand.
     (rw (to_z-of_z w64 c.args.amount c.ranges.amount) at c.in-Ok.ensures.runs) stand
 
 pub returns-in-Err-clause-told : goal.returns-in-Err-clause-told
-returns-in-Err-clause-told g c = refused-row g.D.Disk.failures g.D.Writer.PageWriter.failures g.D.Reader.PageReader.failures c.in-Err.ensures.told
+returns-in-Err-clause-told g c = refused-row g.D.Disk.failures g.D.Writer.PageWriter.failures g.D.Reader.PageReader.failures c.in-Err.ensures.caused c.in-Err.ensures.told
 
 pub returns-in-Ok-update_or_merge-clause-ok : goal.returns-in-Ok-update_or_merge-clause-ok
 returns-in-Ok-update_or_merge-clause-ok g c = λ rows stand.
@@ -17,4 +17,4 @@ returns-in-Ok-update_or_merge-clause-ok g c = λ rows stand.
     (rw (to_z-of_z w64 c.args.amount c.ranges.amount) at c.in-Ok-update_or_merge.ensures.runs) stand
 
 pub returns-in-Err-update_or_merge-clause-told : goal.returns-in-Err-update_or_merge-clause-told
-returns-in-Err-update_or_merge-clause-told g c = refused-row g.D.Disk.failures g.D.Writer.PageWriter.failures g.D.Reader.PageReader.failures c.in-Err-update_or_merge.ensures.told
+returns-in-Err-update_or_merge-clause-told g c = refused-row g.D.Disk.failures g.D.Writer.PageWriter.failures g.D.Reader.PageReader.failures c.in-Err-update_or_merge.ensures.caused c.in-Err-update_or_merge.ensures.told

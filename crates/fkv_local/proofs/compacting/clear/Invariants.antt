@@ -15,5 +15,6 @@ invariant-loop-record g l = record {
   kept : IsKeptBy g.D.Receipt.Receipt.stands l.shard.part.partition.core.records.receipts l.kept.is_sure l.kept.page;
   writes : g.D.Writer.PageWriter.failures l.shard.part.writer ≡ g.D.Writer.PageWriter.failures l.initial.shard.part.writer;
   reads : g.D.Reader.PageReader.failures l.shard.reader ≡ g.D.Reader.PageReader.failures l.initial.shard.reader;
+  numbered : g.D.Writer.PageWriter.next l.shard.part.writer ≤ l.clock;
   begin : l.shard.part.partition.core.records.begin ≡ l.initial.shard.part.partition.core.records.begin;
 }

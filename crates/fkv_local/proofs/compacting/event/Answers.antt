@@ -1,10 +1,11 @@
 use Rattle.std.proofs.Common.{refl}
 use Rattle.std.proofs.lemmas.Result.{IfErr-weaker}
 use Rattle.fkv_local.specs.Refusing.{IsWorkRefusal}
+use Rattle.fkv_local.proofs.CauseLemmas.{reads-caused, work-caused}
 use Rattle.fkv_local.proofs.ClearLemmas.{but-same, go-stays, load-stays}
 use Rattle.fkv_local.proofs.OnwardLemmas.{onward-same, go-onward, load-onward}
 use Rattle.fkv_local.proofs.RelocateLemmas.{wanted-here, wanted-held, go-wants, load-wants, load-receipts, load-told, kept-then, own-waits}
-use Rattle.fkv_local.proofs.WorkLemmas.{same-both, work-since}
+use Rattle.fkv_local.proofs.WorkLemmas.{both, same-both, work-since}
 use Rattle.fkv_local.proofs.compacting.event.Goals as goal
 
 pub returns-in-Err-clause-stays : goal.returns-in-Err-clause-stays
@@ -60,3 +61,12 @@ returns-in-None-clause-onward g c = go-onward g.D.Receipt.Receipt.keeps g.F.Key.
 
 pub returns-in-Ok-fetch-clause-onward : goal.returns-in-Ok-fetch-clause-onward
 returns-in-Ok-fetch-clause-onward g c = load-onward g.D.Receipt.Receipt.keeps g.F.Key.Ord.cmp c.args.context c.in-Ok.now c.load_own.result (c.load_own.ensures.relocating (wanted-here c.requires.wanted)) c.load_own.ensures.fails
+
+pub returns-in-Err-fetch-clause-caused : goal.returns-in-Err-fetch-clause-caused
+returns-in-Err-fetch-clause-caused g c = λ kept. reads-caused _ _ c.in-Err-fetch.ensures.told c.in-Err-fetch.ensures.caused
+
+pub returns-in-Ok-fetch-clause-caused : goal.returns-in-Ok-fetch-clause-caused
+returns-in-Ok-fetch-clause-caused g c = λ kept.
+    let wanted = rw c.in-Some.is at c.requires.wanted in
+    let own = (c.in-Ok-fetch.ensures.same _ c.requires.kept (wanted-held c.pages_known.ensures.receipts wanted)).0 in
+    IfErr-weaker c.load_own.result _ _ (λ e told. work-caused _ _ kept told (λ other. absurd (other refl)) (λ other. absurd (other refl))) (load-told c.load_own.result own wanted c.load_own.ensures.effect g.D.Receipt.Receipt.keeps 0 (both 0 0) c.load_own.ensures.undamaged)

@@ -1,4 +1,5 @@
 use Rattle.std.proofs.Common.{ap}
+use Rattle.fkv_local.proofs.CauseLemmas.{stopped-caused}
 use Rattle.fkv_local.proofs.ClearLemmas.{stays-same}
 use Rattle.fkv_local.proofs.DriveLemmas.{done-runs, err-left, steady-waits, waits-room, wait-given_up}
 use Rattle.fkv_local.proofs.driving.try_by_events.Goals as goal
@@ -20,3 +21,9 @@ returns-in-Waits-clause-full g c = λ _. waits-room {keeps = g.D.Receipt.Receipt
 
 pub returns-in-Waits-clause-steady : goal.returns-in-Waits-clause-steady
 returns-in-Waits-clause-steady g c = steady-waits {keeps = g.D.Receipt.Receipt.keeps} {cmp = g.F.Key.Ord.cmp} (stays-same c.requires.idle) c.requires.own c.in-Ok.ensures.rest c.requires.begun c.in-Ok.ensures.small (rw c.in-Waits.is at c.in-Ok.ensures.ends)
+
+pub returns-in-Err-clause-caused : goal.returns-in-Err-clause-caused
+returns-in-Err-clause-caused g c = λ kept.
+    let writes = ap g.D.Writer.PageWriter.failures c.in-Err.ensures.same_writer in
+    stopped-caused _ _ kept (err-left {keeps = g.D.Receipt.Receipt.keeps} {cmp = g.F.Key.Ord.cmp} (stays-same c.requires.idle) c.requires.own c.in-Err.ensures.rest c.requires.begun c.in-Err.ensures.small c.in-Err.ensures.merges writes c.in-Err.ensures.ends).why
+    (λ other. absurd (other writes)) c.in-Err.ensures.caused

@@ -3,6 +3,7 @@ use Rattle.std.proofs.lemmas.List.{length-set}
 use Rattle.std.proofs.lemmas.Option.{slice_get-get_or}
 use Rattle.std.specs.BTreeMap.{get}
 use Rattle.fkv_partition.specs.CoreViews.{partition_of}
+use Rattle.fkv_local.proofs.CauseLemmas.{listed-caused}
 use Rattle.fkv_local.proofs.PartLemmas.{view-get, view-set, view-same}
 use Rattle.fkv_local.proofs.ListingLemmas.{readers-behind, readers-counted, unlisted-here}
 use Rattle.fkv_partition.proofs.UnionLemmas.{live-more, bare_before}
@@ -75,3 +76,6 @@ returns-in-Err-clause-told g c =
       rw (view-set (λ shard. shard.reader) items i (record x { reader = c.put_live.new.reader }))
           (unlisted-here g.D.Reader.PageReader.failures were readers i x.reader c.put_live.new.reader old.counts old.behind read g.D.Receipt.Receipt.keeps (map (λ shard. shard.part.partition) c.args.shards.now) x.part.partition c.in-Err.refused there c.in-Err.ensures.refused),
     )
+
+pub returns-in-Err-clause-caused : goal.returns-in-Err-clause-caused
+returns-in-Err-clause-caused g c = λ kept. listed-caused _ kept c.in-Err.ensures.refused (c.in-Err.ensures.caused kept)

@@ -1,7 +1,10 @@
-use Rattle.std.proofs.Common.{rules, ◌≡◌, ◌++◌, [], ◌∷◌, None, map, sym, ap, ◌∙◌, inr, append_assoc}
+use Rattle.std.proofs.Common.{rules, ◌≡◌, ◌++◌, [], ◌∷◌, None, map, sym, ap, subst, ◌∙◌, inr, append_assoc}
 use Rattle.std.specs.Vec.Iter.{into_iter_items}
-use Rattle.std.proofs.lemmas.List.{map_push, map-append}
+use Rattle.std.specs.List.{All}
+use Rattle.std.proofs.lemmas.List.{map-id, map_push, map-append}
 use Rattle.std.proofs.lemmas.List.Elements.{All-push}
+use Rattle.std.proofs.lemmas.Iterator.Adapters.{YieldsList-from_vec}
+use Rattle.std.proofs.lemmas.Iterator.Consumers.{YieldsList-end}
 use Rattle.fkv_workers.proofs.dealing.passes_of.Goals as goal
 
 pub loop-one-preserved : goal.loop-one-preserved
@@ -33,3 +36,17 @@ returns-in-Some-fault-clause-refused g c =
       is = is ∙ (map-append (λ w. w.fault) c.loop-one.yielded (c.in-Some.one ∷ into_iter_items c.next.new.self) ∙ ap (λ f. map (λ w. w.fault) c.loop-one.yielded ++ f ∷ rest) c.in-Some-fault.is);
       none = old.none;
     })
+
+pub returns-clause-ok : goal.returns-clause-ok
+returns-clause-ok g c =
+    let gives = c.into_iter-one-iterator.ensures.into_iter_gives in
+    let road = YieldsList-from_vec c.args.worked.items gives.0 (gives.1 ∙ c.args.worked.ok.0) in
+    let end = YieldsList-end road c.loop-one.yielded c.loop-one.one-iterator c.loop-one.yielded_by c.next.result c.next.new.self c.in-None.is c.next.ensures.steps in
+    c.loop-one.invariant.passes ∙ ap (map (λ w. w.pass)) (sym (map-id c.loop-one.yielded) ∙ end.0)
+
+pub returns-clause-none : goal.returns-clause-none
+returns-clause-none g c =
+    let gives = c.into_iter-one-iterator.ensures.into_iter_gives in
+    let road = YieldsList-from_vec c.args.worked.items gives.0 (gives.1 ∙ c.args.worked.ok.0) in
+    let end = YieldsList-end road c.loop-one.yielded c.loop-one.one-iterator c.loop-one.yielded_by c.next.result c.next.new.self c.in-None.is c.next.ensures.steps in
+    subst (λ ws. All (λ fault. fault ≡ None) (map (λ w. w.fault) ws)) (sym (map-id c.loop-one.yielded) ∙ end.0) c.loop-one.invariant.none

@@ -4,7 +4,7 @@ use Rattle.std.proofs.lemmas.List.{length-map}
 use Rattle.fkv_records.specs.Records.{size_of}
 use Rattle.fkv_store.proofs.ClosingLemmas.{ending_closing, unlisted_closing}
 use Rattle.fkv_workers.specs.Shares.{HasShare}
-use Rattle.fkv_workers.specs.Works.{IsRunnable, IsUnmade}
+use Rattle.fkv_workers.specs.Works.{IsRunnable, IsUnmade, IsFirst}
 use Rattle.fkv_workers.proofs.WorkedLemmas.{counted}
 use Rattle.fkv_workers.proofs.running.run_feeds_by.Goals as goal
 
@@ -46,3 +46,31 @@ returns-in-Err-table_of-clause-refused g c = IsUnmade.unclosed (unlisted_closing
 pub returns-in-Err-worked-clause-refused : goal.returns-in-Err-worked-clause-refused
 returns-in-Err-worked-clause-refused g c =
     ⊎_elim (λ told. IsUnmade.told told) (λ unread. IsUnmade.unread unread.0 unread.1 unread.2) c.in-Err-worked.ensures.refused
+
+pub returns-clause-made : goal.returns-clause-made
+returns-clause-made g c keeps held =
+    let closed = c.in-Ok-close_unlisted.ensures.closed keeps held in
+    record {
+      passes = c.in-Ok-worked.fed.passes.items;
+      histories = map (λ history. history.items) c.in-Ok-close_unlisted.ended.histories.items;
+      fed = rw (← c.in-Ok-worked.ensures.mode) (c.in-Ok-worked.ensures.ok keeps);
+      closed = record {
+        sized = closed.sized;
+        legal = closed.legal;
+        merged = closed.merged;
+        counted = closed.counted;
+        shared = closed.shared;
+        made = λ k. c.in-Ok-table_of.ensures.value held k ∙ closed.made k;
+      };
+    }
+
+pub returns-in-Err-worked-clause-first : goal.returns-in-Err-worked-clause-first
+returns-in-Err-worked-clause-first g c = c.in-Err-worked.ensures.first
+
+pub returns-in-Err-close_unlisted-clause-first : goal.returns-in-Err-close_unlisted-clause-first
+returns-in-Err-close_unlisted-clause-first g c =
+    IsFirst.closing c.in-Ok-worked.ensures.read (ending_closing c.in-Err-close_unlisted.refused c.in-Err-close_unlisted.ensures.only)
+
+pub returns-in-Err-table_of-clause-first : goal.returns-in-Err-table_of-clause-first
+returns-in-Err-table_of-clause-first g c =
+    IsFirst.closing c.in-Ok-worked.ensures.read (unlisted_closing c.in-Err-table_of.refused c.in-Err-table_of.ensures.only)

@@ -1,8 +1,9 @@
-use Rattle.std.proofs.Common.{⊎_elim, inl, inr, map, refl, subst, IfSome}
+use Rattle.std.proofs.Common.{⊎_elim, inl, inr, length, map, refl, subst, IfSome}
 use Rattle.std.specs.Prelude.{IfErr, IfNone}
 use Rattle.fkv_store.specs.Stores.{IsTold}
-use Rattle.fkv_workers.specs.Works.{HasDone, IsStop}
-use Rattle.fkv_workers.proofs.StoppedLemmas.{stopped, told_memory}
+use Rattle.fkv_functions.specs.declared.refusals.Refused.TheVariants.{NoMemory}
+use Rattle.fkv_workers.specs.Works.{HasDone, IsStop, IsFirst}
+use Rattle.fkv_workers.proofs.StoppedLemmas.{stopped, told_memory, all_read, read_before}
 use Rattle.fkv_workers.proofs.WorkedLemmas.{shared, fed_by}
 use Rattle.fkv_workers.proofs.running.worked.Goals as goal
 
@@ -19,7 +20,12 @@ returns-in-Ok-ended g c = record {
       (fed_by rem g.F.Functions.code c.args.mode (λ work. work.feeds.items) c.args.workers c.args.feeds.items works (map (λ w. w.pass) results) sh.shares c.requires.some
       (rw c.in-Ok-works.ensures.feeds c.in-Ok.ensures.ok) sh.read sh.kept sh.made);
   mode = refl;
+  read =
+      all_read g.S.Source.remaining g.S.Source.failures g.H.Recorder.keeps g.F.Functions.code (λ work. work.feeds.items) (λ work. work.mode) (λ w. w.pass) (λ w. w.fault)
+      (λ work w. IfSome w.fault (IsStop g.S.Source.remaining g.S.Source.failures work.feeds.items)) c.args.workers c.args.feeds.items c.in-Ok-works.works.items c.in-Ok-run_jobs.ran.results.items NoMemory
+      (rw c.in-Ok-works.ensures.feeds c.in-Ok.ensures.ok) c.in-Ok-run_jobs.ensures.ok.results c.in-Ok-ended.ensures.none;
   refused = tt;
+  first = tt;
 }
 
 pub returns-clause-refused : goal.returns-clause-refused
@@ -36,7 +42,35 @@ returns-clause-refused g c =
     (λ work w. IfNone w.fault (HasDone rem fails g.H.Recorder.keeps g.F.Functions.code work.mode work.feeds.items w.pass))
     c.args.workers c.args.feeds.items works results c.in-Err-ended.refused
     (rw c.in-Ok-works.ensures.feeds c.in-Ok.ensures.ok) c.in-Ok-run_jobs.ensures.ok.results first in
-    ⊎_elim (λ told. inl told) (λ unread. inr (at.0, at.1, unread)) at.2)
+    ⊎_elim (λ told. inl told) (λ unread. inr (length first.before, at.0, unread)) at.1)
     (λ kept. inl (subst (λ r. IfErr r IsTold) kept.0 c.in-Ok-run_jobs.ensures.ok.kept))
+    rest)
+    c.in-Err-ended.ensures.refused
+
+pub returns-clause-first : goal.returns-clause-first
+returns-clause-first g c =
+    let rem = g.S.Source.remaining in
+    let fails = g.S.Source.failures in
+    let works = c.in-Ok-works.works.items in
+    let results = c.in-Ok-run_jobs.ran.results.items in
+    ⊎_elim (λ memory. IsFirst.early (inr (inl memory)))
+    (λ rest.
+    ⊎_elim
+    (λ first.
+    let at = stopped (λ work. work.feeds.items) (λ w. w.fault) (IsStop rem fails)
+    (λ work w. IfNone w.fault (HasDone rem fails g.H.Recorder.keeps g.F.Functions.code work.mode work.feeds.items w.pass))
+    c.args.workers c.args.feeds.items works results c.in-Err-ended.refused
+    (rw c.in-Ok-works.ensures.feeds c.in-Ok.ensures.ok) c.in-Ok-run_jobs.ensures.ok.results first in
+    IsFirst.worker (length first.before) at.0
+    (read_before rem fails g.H.Recorder.keeps g.F.Functions.code (λ work. work.feeds.items) (λ work. work.mode) (λ w. w.pass) (λ w. w.fault)
+    (λ work w. IfSome w.fault (IsStop rem fails work.feeds.items))
+    c.args.workers c.args.feeds.items works results
+    c.in-Err-ended.refused (rw c.in-Ok-works.ensures.feeds c.in-Ok.ensures.ok) c.in-Ok-run_jobs.ensures.ok.results first) at.1)
+    (λ kept.
+    IsFirst.keeper
+    (all_read rem fails g.H.Recorder.keeps g.F.Functions.code (λ work. work.feeds.items) (λ work. work.mode) (λ w. w.pass) (λ w. w.fault)
+    (λ work w. IfSome w.fault (IsStop rem fails work.feeds.items))
+    c.args.workers c.args.feeds.items works results
+    c.in-Err-ended.refused (rw c.in-Ok-works.ensures.feeds c.in-Ok.ensures.ok) c.in-Ok-run_jobs.ensures.ok.results kept.1) (subst (λ r. IfErr r IsTold) kept.0 c.in-Ok-run_jobs.ensures.ok.kept))
     rest)
     c.in-Err-ended.ensures.refused

@@ -41,7 +41,9 @@ returns-in-Err-clause-told g c =
       place = length c.loop-feed.yielded;
       feed = c.in-Some.feed;
       here = slice_get-get_or c.args.feeds.items (length c.loop-feed.yielded) c.in-Some.feed turn.0 ∙ ap Some (sym turn.1);
+      left = c.read_feed.new.source;
       after = g.S.Source.failures c.read_feed.new.source;
+      counts = refl;
       tells = rw c.saturating_add-number.ensures at tells;
     }))
     c.in-Err.ensures.told

@@ -3,6 +3,7 @@ use Rattle.std.specs.BTreeMap.{get}
 use Rattle.std.proofs.lemmas.List.{take-set}
 use Rattle.std.proofs.lemmas.Option.{slice_get_read}
 use Rattle.fkv_local.specs.Listing.{IsNextList, IsUnlistedAt, behind_next}
+use Rattle.fkv_local.proofs.CauseLemmas.{listed-caused}
 use Rattle.fkv_local.proofs.ListingLemmas.{listed, front-view, front-left_of, read-view, read-left, read-rest, read-unlisted, gone-list}
 use Rattle.fkv_local.proofs.listing.Lists.next.Goals as goal
 
@@ -80,3 +81,6 @@ returns-in-Err-clause-told g c =
     let y = record x { reader = c.put_live.new.reader } in
     subst (λ l. IsUnlistedAt g.D.Receipt.Receipt.keeps g.D.Reader.PageReader.failures l.parts l.readers (map (λ shard. shard.reader) (slice_set items n y)) (length l.parts - 1) c.in-Err.refused) c.self.view_is
     (read-unlisted (λ shard. shard.part.partition) (λ shard. shard.reader) c.self.inside.count items n x y here refl g.D.Receipt.Receipt.keeps g.D.Reader.PageReader.failures c.in-Err.refused last c.in-Err.ensures.refused)
+
+pub returns-in-Err-clause-caused : goal.returns-in-Err-clause-caused
+returns-in-Err-clause-caused g c = λ kept. listed-caused _ kept c.in-Err.ensures.refused (c.in-Err.ensures.caused kept)

@@ -24,7 +24,7 @@ loop-home-preserved g c =
     record {
       stays = λ kept q. part.stays kept q ∙ i.stays kept q;
       sized = part.sized ∙ i.sized;
-      terms = part.same_terms ∙ i.terms;
+      terms = (part.same_terms.0 ∙ i.terms.0, part.same_terms.1 ∙ i.terms.1);
       cut = subst (AnyIsCut c.args.self.now c.compact_part.new.self) (elim c.if-is_cut.branch [
         | then-is_cut w ↦ or-yes c.in-Ok.is_cut c.loop-home.has_cut c.if-is_cut.has_cut w.if-is_cut.true w.has_cut-is
         | else-is_cut w ↦ or-no c.in-Ok.is_cut c.loop-home.has_cut c.if-is_cut.has_cut w.if-is_cut.false w.has_cut-is

@@ -8,4 +8,4 @@ pub of-requires : goal.of-requires
 of-requires g c =
     let items = c.self.inside.shards.items in
     let views = map (λ shard. shard.part.partition) items in
-    subst (AreLeft views) (length-map items (λ shard. shard.part.partition)) (rest-left views c.self.inside.clock c.self.invariant)
+    subst (AreLeft views) (length-map items (λ shard. shard.part.partition)) (rest-left views c.self.inside.clock c.self.invariant.0)

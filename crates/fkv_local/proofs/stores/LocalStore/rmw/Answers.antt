@@ -3,6 +3,7 @@ use Rattle.std.proofs.lemmas.Option.{slice_get_read}
 use Rattle.std.proofs.lemmas.Result.{IfErr-weaker}
 use Rattle.fkv_functions.proofs.KeyOrder.{key_order}
 use Rattle.fkv_operations.specs.declared.operations.KeyedOp.TheVariants.{Rmw}
+use Rattle.fkv_local.proofs.CauseLemmas.{home-numbered, numbered-set}
 use Rattle.fkv_local.proofs.StoreLemmas.{inside-home, home-idle, home-past, home-own, home-rests, home-runs, home-refusal, parts-is, terms-are}
 use Rattle.fkv_local.proofs.stores.LocalStore.rmw.Goals as goal
 
@@ -13,7 +14,7 @@ update-requires-clause-idle g c =
     let old = c.index_mut-shard.result.now in
     let within = inside-home (λ shard. shard.part.partition) g.F.Functions.code items c.self.inside.clock c.args.self.now.parts (parts-is c.self.view_is) home c.home-home.ensures.within in
     let here = slice_get_read items (length items) home old refl within c.index_mut-shard.ensures.value in
-    home-idle (λ shard. shard.part.partition) g.F.Functions.code items c.self.inside.clock c.args.self.now.parts (parts-is c.self.view_is) home old c.self.invariant here
+    home-idle (λ shard. shard.part.partition) g.F.Functions.code items c.self.inside.clock c.args.self.now.parts (parts-is c.self.view_is) home old c.self.invariant.0 here
 
 pub update-requires-clause-past : goal.update-requires-clause-past
 update-requires-clause-past g c =
@@ -22,7 +23,7 @@ update-requires-clause-past g c =
     let old = c.index_mut-shard.result.now in
     let within = inside-home (λ shard. shard.part.partition) g.F.Functions.code items c.self.inside.clock c.args.self.now.parts (parts-is c.self.view_is) home c.home-home.ensures.within in
     let here = slice_get_read items (length items) home old refl within c.index_mut-shard.ensures.value in
-    home-past (λ shard. shard.part.partition) g.F.Functions.code items c.self.inside.clock c.args.self.now.parts (parts-is c.self.view_is) home old c.self.invariant here
+    home-past (λ shard. shard.part.partition) g.F.Functions.code items c.self.inside.clock c.args.self.now.parts (parts-is c.self.view_is) home old c.self.invariant.0 here
 
 pub update-requires-clause-own : goal.update-requires-clause-own
 update-requires-clause-own g c =
@@ -31,7 +32,7 @@ update-requires-clause-own g c =
     let old = c.index_mut-shard.result.now in
     let within = inside-home (λ shard. shard.part.partition) g.F.Functions.code items c.self.inside.clock c.args.self.now.parts (parts-is c.self.view_is) home c.home-home.ensures.within in
     let here = slice_get_read items (length items) home old refl within c.index_mut-shard.ensures.value in
-    home-own (λ shard. shard.part.partition) g.F.Functions.code items c.self.inside.clock c.args.self.now.parts (parts-is c.self.view_is) home old c.self.invariant here c.args.key.now c.home-home.ensures.value
+    home-own (λ shard. shard.part.partition) g.F.Functions.code items c.self.inside.clock c.args.self.now.parts (parts-is c.self.view_is) home old c.self.invariant.0 here c.args.key.now c.home-home.ensures.value
 
 pub invariant_of-self : goal.invariant_of-self
 invariant_of-self g c =
@@ -41,8 +42,10 @@ invariant_of-self g c =
     let within = inside-home (λ shard. shard.part.partition) g.F.Functions.code items c.self.inside.clock c.args.self.now.parts (parts-is c.self.view_is) home c.home-home.ensures.within in
     let here = slice_get_read items (length items) home old refl within c.index_mut-shard.ensures.value in
     let stays = c.update.ensures.runs in
-    let passed = c.update.ensures.passed in
-    home-rests (λ shard. shard.part.partition) g.F.Functions.code items c.self.inside.clock c.args.self.now.parts (parts-is c.self.view_is) home old c.self.invariant here c.update.new.shard c.update.new.clock stays.number stays.count stays.idle passed.past passed.later
+    let passed = c.update.ensures.passed in (
+      home-rests (λ shard. shard.part.partition) g.F.Functions.code items c.self.inside.clock c.args.self.now.parts (parts-is c.self.view_is) home old c.self.invariant.0 here c.update.new.shard c.update.new.clock stays.number stays.count stays.idle passed.past passed.later,
+      numbered-set (λ shard. shard.part.writer) g.D.Writer.PageWriter.next items c.self.inside.clock home old c.self.invariant.1 here c.update.new.shard c.update.new.clock c.update.ensures.numbered passed.later,
+    )
 
 pub returns-clause-runs : goal.returns-clause-runs
 returns-clause-runs g c =
@@ -53,7 +56,7 @@ returns-clause-runs g c =
     let here = slice_get_read items (length items) home old refl within c.index_mut-shard.ensures.value in
     let ord = g.met.F.Key.Ord in
     let order = key_order g.F.Key.PartialEq.eq g.F.Key.Ord.cmp ord.matches_eq g.met.F.Key.FixedKey.exact ord.total in
-    home-runs (λ shard. shard.part.partition) g.F.Functions.code items c.self.inside.clock c.args.self.now.parts (parts-is c.self.view_is) home old c.self.invariant here c.update.new.shard c.update.new.clock c.args.key.now c.home-home.ensures.value g.D.Receipt.Receipt.keeps g.F.Key.Ord.cmp order g.F.Functions.meaning (Rmw c.args.key.now c.args.input.now) c.update.result refl c.update.ensures.runs
+    home-runs (λ shard. shard.part.partition) g.F.Functions.code items c.self.inside.clock c.args.self.now.parts (parts-is c.self.view_is) home old c.self.invariant.0 here c.update.new.shard c.update.new.clock c.args.key.now c.home-home.ensures.value g.D.Receipt.Receipt.keeps g.F.Key.Ord.cmp order g.F.Functions.meaning (Rmw c.args.key.now c.args.input.now) c.update.result refl c.update.ensures.runs
 
 pub returns-clause-told : goal.returns-clause-told
 returns-clause-told g c =
@@ -66,3 +69,12 @@ returns-clause-told g c =
 
 pub returns-clause-same_terms : goal.returns-clause-same_terms
 returns-clause-same_terms g c = terms-are c.self.view_is
+
+pub update-requires-clause-numbered : goal.update-requires-clause-numbered
+update-requires-clause-numbered g c =
+    let items = c.self.inside.shards.items in
+    let home = c.home-home.result in
+    let old = c.index_mut-shard.result.now in
+    let within = inside-home (λ shard. shard.part.partition) g.F.Functions.code items c.self.inside.clock c.args.self.now.parts (parts-is c.self.view_is) home c.home-home.ensures.within in
+    let here = slice_get_read items (length items) home old refl within c.index_mut-shard.ensures.value in
+    home-numbered (λ shard. shard.part.writer) g.D.Writer.PageWriter.next items c.self.inside.clock home old c.self.invariant.1 here

@@ -1,5 +1,7 @@
-use Rattle.std.proofs.Common.{◌≡◌, ◌∙◌, Some, refl, sym, ap}
-use Rattle.std.proofs.lemmas.List.{length-map}
+use Rattle.std.proofs.Common.{◌≡◌, ◌∙◌, ◌<◌, Some, length, slice_index, rules, refl, sym, ap}
+use Rattle.std.proofs.lemmas.List.{length-map, get_or-set_same}
+use Rattle.fkv_locked.specs.Owns.{told_after}
+use Rattle.fkv_store.proofs.CountLemmas.{none-counted, told-at, strange-plain, roomless-plain, unrefreshed-plain, unentered-plain}
 use Rattle.fkv_operations.specs.After.{key_of}
 use Rattle.fkv_partition.specs.CoreViews.{partition_of}
 use Rattle.fkv_store.proofs.passes.Pass.run_as.Goals as goal
@@ -16,9 +18,16 @@ returns-clause-ok g c =
         record {
           op_is = refl;
           answer_is = sym c.take-answer.ensures.answer;
-          fresh = rw (← home, ← c.self.view_is, ← c.in-Ok-make_room.ensures.told, ← c.told_at-known.ensures) c.in-Ok-run_in.ensures.fresh;
+          fresh =
+              let within : c.home-partition.result < length c.self.inside.told.items = search rules in
+              rw (← home, ← c.self.view_is, told-at c.self.inside.told.items c.home-partition.result c.index-known.result.now within c.index-known.ensures) c.in-Ok-run_in.ensures.fresh;
           own_is = λ k. rw (← home, c.take-answer.ensures.takes.own_is k, c.in-Ok-make_room.ensures.entries, ← c.self.view_is) refl;
-          told_is = rw (← home, c.take-answer.ensures.takes.told_is, c.in-Ok-make_room.ensures.told, ← c.self.view_is) refl;
+          told_is =
+              let long : length c.make_room.new.self.told ≡ length c.self.inside.told.items = ap length c.in-Ok-make_room.ensures.told ∙ (c.self.invariant.1 ∙ sym c.self.invariant.0) in
+              let within : c.home-partition.result < length c.make_room.new.self.told = search rules in
+              let at : c.told_at.result ≡ told_after c.in-Ok-run_in.finished =
+              c.told_at.ensures ∙ (ap (λ ts. slice_index ts c.home-partition.result) c.take-answer.ensures.takes.told_is ∙ get_or-set_same _ _ _ 0 within) in
+              rw (← home, at, ← c.self.view_is) refl;
           share_is = rw (c.take-answer.ensures.takes.share_is, c.in-Ok-make_room.ensures.same.0, ← c.self.view_is) refl;
           last_is = c.take-answer.ensures.takes.last_is ∙ ap Some (sym c.take-answer.ensures.answer);
           store_is = rw (← c.self.view_is) refl;
@@ -28,3 +37,37 @@ returns-clause-ok g c =
         },
       ),
     )
+
+pub returns-clause-steady : goal.returns-clause-steady
+returns-clause-steady g c =
+    let home : c.home-partition.result ≡ partition_of c.args.store.now.count (g.F.Functions.code (key_of c.args.op)) =
+    c.home-partition.ensures.value
+    ∙ ap (λ k. partition_of c.args.store.now.count (g.F.Functions.code k)) c.key.ensures in
+    rw (← home, ← c.self.view_is) c.in-Ok-run_in.ensures.steady
+
+pub returns-in-Err-run_in-clause-counted : goal.returns-in-Err-run_in-clause-counted
+returns-in-Err-run_in-clause-counted g c =
+    let home : c.home-partition.result ≡ partition_of c.args.store.now.count (g.F.Functions.code (key_of c.args.op)) =
+    c.home-partition.ensures.value
+    ∙ ap (λ k. partition_of c.args.store.now.count (g.F.Functions.code k)) c.key.ensures in
+    rw (← home, ← c.self.view_is) c.in-Err-run_in.ensures.counted
+
+pub returns-in-Err-clause-counted : goal.returns-in-Err-clause-counted
+returns-in-Err-clause-counted g c =
+    let missed : c.none-self-inside.result.missed ≡ 0 = ap (λ t. t.missed) c.none-self-inside.ensures in
+    rw (← c.self.view_is) (none-counted g.D.Receipt.Receipt.keeps _ _ _ c.in-Err.refused missed (strange-plain c.args.store.now c.args.self.now c.in-Err.refused c.in-Err.ensures.refused))
+
+pub returns-in-Err-make_room-clause-counted : goal.returns-in-Err-make_room-clause-counted
+returns-in-Err-make_room-clause-counted g c =
+    let missed : c.none-self-inside.result.missed ≡ 0 = ap (λ t. t.missed) c.none-self-inside.ensures in
+    rw (← c.self.view_is) (none-counted g.D.Receipt.Receipt.keeps _ _ _ c.in-Err-make_room.refused missed (roomless-plain _ c.in-Err-make_room.ensures.only))
+
+pub returns-in-Err-refresh_at_times-clause-counted : goal.returns-in-Err-refresh_at_times-clause-counted
+returns-in-Err-refresh_at_times-clause-counted g c =
+    let missed : c.none-self-inside.result.missed ≡ 0 = ap (λ t. t.missed) c.none-self-inside.ensures in
+    rw (← c.self.view_is) (none-counted g.D.Receipt.Receipt.keeps _ _ _ c.in-Err-refresh_at_times.refused missed (unrefreshed-plain _ c.in-Err-refresh_at_times.ensures.only))
+
+pub returns-in-Err-session_in-clause-counted : goal.returns-in-Err-session_in-clause-counted
+returns-in-Err-session_in-clause-counted g c =
+    let missed : c.none-self-inside.result.missed ≡ 0 = ap (λ t. t.missed) c.none-self-inside.ensures in
+    rw (← c.self.view_is) (none-counted g.D.Receipt.Receipt.keeps _ _ _ c.in-Err-session_in.refused missed (unentered-plain _ c.in-Err-session_in.ensures.only))

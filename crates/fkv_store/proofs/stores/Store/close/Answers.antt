@@ -1,7 +1,9 @@
-use Rattle.std.proofs.Common.{Err, length, inl, inr, sym, ap, ◌∙◌}
+use Rattle.std.proofs.Common.{Err, length, map, inl, inr, sym, ap, ◌∙◌}
 use Rattle.std.proofs.lemmas.List.{length-map}
 use Rattle.fkv_functions.specs.declared.refusals.Refused.TheVariants as refused
+use Rattle.fkv_closing.specs.Refusing.{IsUnclosed}
 use Rattle.fkv_store.proofs.ClosingLemmas.{unclosed, ending_closing, same_refusal}
+use Rattle.fkv_store.proofs.LeftLemmas.{unclosed_by}
 use Rattle.fkv_store.proofs.stores.Store.close.Goals as goal
 
 pub returns-in-Ok-close_parts-clause-closed : goal.returns-in-Ok-close_parts-clause-closed
@@ -39,3 +41,13 @@ pub returns-clause-worn : goal.returns-clause-worn
 returns-clause-worn g c own over =
     inl (same_refusal c.close_parts.result c.in-Err-close_parts.refused refused.Worn c.in-Err-close_parts.is
     (c.close_parts.ensures.worn (inl (rw (c.as_slice.ensures.value, c.in-Ok.ensures.shares) over))))
+
+pub returns-in-Err-clause-refused : goal.returns-in-Err-clause-refused
+returns-in-Err-clause-refused g c own = inl (c.in-Err.ensures.known own)
+
+pub returns-clause-refused : goal.returns-clause-refused
+returns-clause-refused g c own =
+    inr (unclosed_by (λ part. part.partition) (λ part. part.history.items) (λ part. part.book)
+    g.F.Key.Ord.cmp g.F.Functions.meaning g.H.Recorder.keeps g.D.Receipt.Receipt.keeps _ c.in-Ok.left.parts.items c.in-Ok.ensures.parts c.in-Ok.ensures.ended
+    (map (λ pass. pass.own) c.args.passes.items) (map (λ pass. pass.share) c.args.passes.items) c.in-Err-close_parts.refused _ _
+    (rw (c.as_slice.ensures.value, c.in-Ok.ensures.shares, c.in-Ok.ensures.owns) at c.in-Err-close_parts.ensures.refused))

@@ -5,6 +5,7 @@ use Rattle.fkv_closing.specs.Lists.{lists_of}
 use Rattle.fkv_closing.specs.Closing.{AreMerged}
 use Rattle.fkv_store.specs.Stores.{AreReaders}
 use Rattle.fkv_store.proofs.ClosingLemmas.{unsettled, same_refusal}
+use Rattle.fkv_store.proofs.LeftLemmas.{unsettled_by}
 use Rattle.fkv_store.proofs.stores.Store.close_unlisted.Goals as goal
 
 pub returns-in-Err-clause-foreign : goal.returns-in-Err-clause-foreign
@@ -45,3 +46,13 @@ returns-in-Ok-take_apart-clause-len g c =
     ∙ (ap length c.in-Ok-take_apart.ensures.histories
     ∙ (length-map c.in-Ok-close_unlisted.settled.parts.items (λ part. part.history.items)
     ∙ (ap (λ v. length v.items) c.in-Ok-close_unlisted.ensures.parts ∙ c.in-Ok.ensures.parts)))
+
+pub returns-in-Err-clause-refused : goal.returns-in-Err-clause-refused
+returns-in-Err-clause-refused g c own = inl (c.in-Err.ensures.known own)
+
+pub returns-in-Err-close_unlisted-clause-refused : goal.returns-in-Err-close_unlisted-clause-refused
+returns-in-Err-close_unlisted-clause-refused g c own =
+    inr (unsettled_by (λ part. part.partition) (λ part. part.history.items) (λ part. part.book)
+    g.F.Key.Ord.cmp g.F.Functions.meaning g.H.Recorder.keeps g.D.Receipt.Receipt.keeps _ c.in-Ok.left.parts.items c.in-Ok.ensures.parts c.in-Ok.ensures.ended
+    (map (λ pass. pass.own) c.args.passes.items) (map (λ pass. pass.share) c.args.passes.items) c.in-Err-close_unlisted.refused
+    (rw (← c.in-Ok.ensures.owns, ← c.in-Ok.ensures.shares, ← c.as_slice.ensures.value) c.in-Err-close_unlisted.ensures.refused))
