@@ -13,3 +13,4 @@ pub mod MergeLemmas
 mod WaitLemmas
 mod RoomLemmas
 mod CauseLemmas
+mod ReadLemmas

@@ -24,40 +24,61 @@ use Rattle.fkv_partition.specs.Views.{PartitionView, at_moment}
 use Rattle.fkv_local.specs.Moving.{IsSameLog, IsWritten, IsOnward, StaysSettled}
 use Rattle.fkv_regions.specs.declared.offsets.Offsets.{Offsets}
 
-module _ {K V I : Type 0} where
+module _ {K V I : Type 0} {keeps : Bool} where
   -- ---- the log stays
-  pub log-same : {v : PartitionView K V I} → IsSameLog v v
-  log-same = record { page_bits = refl; tail = refl; frames = refl }
+  pub log-same : {v : PartitionView K V I} → IsSameLog keeps v v
+  log-same = record { page_bits = refl; tail = refl; frames = refl; partition_bits = refl; bucket_bits = refl; entries = λ k. refl }
 
-  pub log-as : {v w : PartitionView K V I} → w ≡ v → IsSameLog v w
-  log-as {v} {w} same = subst (IsSameLog v) (sym same) log-same
+  pub log-as : {v w : PartitionView K V I} → w ≡ v → IsSameLog keeps v w
+  log-as {v} {w} same = subst (IsSameLog keeps v) (sym same) log-same
 
-  pub log-then : {u v w : PartitionView K V I} → IsSameLog u v → IsSameLog v w → IsSameLog u w
-  log-then s t = record { page_bits = t.page_bits ∙ s.page_bits; tail = t.tail ∙ s.tail; frames = t.frames ∙ s.frames }
+  pub log-then : {u v w : PartitionView K V I} → IsSameLog keeps u v → IsSameLog keeps v w → IsSameLog keeps u w
+  log-then s t = record {
+    page_bits = t.page_bits ∙ s.page_bits;
+    tail = t.tail ∙ s.tail;
+    frames = t.frames ∙ s.frames;
+    partition_bits = t.partition_bits ∙ s.partition_bits;
+    bucket_bits = t.bucket_bits ∙ s.bucket_bits;
+    entries = λ k. t.entries k ∙ s.entries k;
+  }
 
-  log-moved : {keeps : Bool} {regions : RegionsView} {v w : PartitionView K V I} {now : ℕ} → MovesTo keeps regions v.core w.core now → IsSameLog v w
+  log-moved : {regions : RegionsView} {v w : PartitionView K V I} {now : ℕ} → MovesTo keeps regions v.core w.core now → IsSameLog keeps v w
   log-moved m = record {
     page_bits = ap (λ (r : RecordsView K V). r.page_bits) m.moves.is;
     tail = ap (λ (r : RecordsView K V). r.tail) m.moves.is;
     frames = ap (λ (r : RecordsView K V). r.frames) m.moves.is;
+    partition_bits = ap (λ (r : RecordsView K V). r.partition_bits) m.moves.is;
+    bucket_bits = ap (λ (r : RecordsView K V). r.bucket_bits) m.moves.is;
+    entries = m.moves.entries;
   }
 
-  log-core : {v w : PartitionView K V I} → w.core ≡ v.core → IsSameLog v w
-  log-core same = record {
-    page_bits = ap (λ (c : CoreView K V I). c.records.page_bits) same;
-    tail = ap (λ (c : CoreView K V I). c.records.tail) same;
-    frames = ap (λ (c : CoreView K V I). c.records.frames) same;
+  -- on any device, where only the words of the index and the receipts may be others
+  log-of : {v w : PartitionView K V I} → (r : RecordsView K V) → w.core.records ≡ r → IsSameLog keeps v (record w { core = record w.core { records = r } }) → IsSameLog keeps v w
+  log-of r is h = record {
+    page_bits = ap (λ (r : RecordsView K V). r.page_bits) is ∙ h.page_bits;
+    tail = ap (λ (r : RecordsView K V). r.tail) is ∙ h.tail;
+    frames = ap (λ (r : RecordsView K V). r.frames) is ∙ h.frames;
+    partition_bits = ap (λ (r : RecordsView K V). r.partition_bits) is ∙ h.partition_bits;
+    bucket_bits = ap (λ (r : RecordsView K V). r.bucket_bits) is ∙ h.bucket_bits;
+    entries = λ k. ap (λ (r : RecordsView K V). r.entries) is ∙ h.entries k;
   }
+
+  log-core : {v w : PartitionView K V I} → w.core ≡ v.core → IsSameLog keeps v w
+  log-core {v} same = log-of v.core.records (ap (λ (c : CoreView K V I). c.records) same) log-same
+
+  -- the words of the index play no part in it
+  pub log-words : {v w : PartitionView K V I} → w.core.records ≡ record v.core.records { words = w.core.records.words } → IsSameLog keeps v w
+  log-words {v} {w} is = log-of (record v.core.records { words = w.core.records.words }) is log-same
 
 module _ {K V I : Type 0} {keeps : Bool} where
   regions-to : {regions : RegionsView} {v w : CoreView K V I} {now : ℕ} → MovesTo keeps regions v w now → w.records.regions ≡ regions
   regions-to m = ap (λ (r : RecordsView K V). r.regions) m.moves.is
 
   -- ---- the session is refreshed
-  pub refresh-log : {v w : PartitionView K V I} {slot now : ℕ} {r : Result _ Refused} → Refreshes keeps v w slot now r → IsSameLog v w
+  pub refresh-log : {v w : PartitionView K V I} {slot now : ℕ} {r : Result _ Refused} → Refreshes keeps v w slot now r → IsSameLog keeps v w
   refresh-log h = by h.does
     where
-      by : {v w : PartitionView K V I} {slot now : ℕ} {r : Result _ Refused} → looking.Refreshes keeps v.core w.core slot now r → IsSameLog v w
+      by : {v w : PartitionView K V I} {slot now : ℕ} {r : Result _ Refused} → looking.Refreshes keeps v.core w.core slot now r → IsSameLog keeps v w
       by (looking.Refreshes.unknown a same t) = log-core same
       by (looking.Refreshes.refreshes a m t) = log-moved m
 
@@ -69,10 +90,10 @@ module _ {K V I : Type 0} {keeps : Bool} where
       by entered (looking.Refreshes.refreshes a m t) = regions-to m
 
   -- ---- ReadOnly moves, and the session is refreshed
-  pub shift-log : {v w : PartitionView K V I} {page now : ℕ} {r : Result _ Refused} → Shifts keeps v w page now r → IsSameLog v w
+  pub shift-log : {v w : PartitionView K V I} {page now : ℕ} {r : Result _ Refused} → Shifts keeps v w page now r → IsSameLog keeps v w
   shift-log h = by h.does
     where
-      by : {v w : PartitionView K V I} {page now : ℕ} {r : Result _ Refused} → looking.Shifts keeps v.core w.core page now r → IsSameLog v w
+      by : {v w : PartitionView K V I} {page now : ℕ} {r : Result _ Refused} → looking.Shifts keeps v.core w.core page now r → IsSameLog keeps v w
       by (looking.Shifts.not_due a same t) = log-core same
       by (looking.Shifts.full a b same t) = log-core same
       by (looking.Shifts.shifts a b m t) = log-moved m
@@ -105,10 +126,10 @@ module _ {K V I : Type 0} {keeps : Bool} where
       omega arith
 
   -- ---- Head moves, and the session is refreshed
-  pub evict-log : {v w : PartitionView K V I} {page now : ℕ} {r : Result _ Refused} → Evicts keeps v w page now r → IsSameLog v w
+  pub evict-log : {v w : PartitionView K V I} {page now : ℕ} {r : Result _ Refused} → Evicts keeps v w page now r → IsSameLog keeps v w
   evict-log h = by h.does
     where
-      by : {v w : PartitionView K V I} {page now : ℕ} {r : Result _ Refused} → looking.Evicts keeps v.core w.core page now r → IsSameLog v w
+      by : {v w : PartitionView K V I} {page now : ℕ} {r : Result _ Refused} → looking.Evicts keeps v.core w.core page now r → IsSameLog keeps v w
       by (looking.Evicts.not_due a same t) = log-core same
       by (looking.Evicts.full a b same t) = log-core same
       by (looking.Evicts.evicts a b m t) = log-moved m
@@ -145,12 +166,10 @@ module _ {K V I : Type 0} where
   record IsFlushed (v w : CoreView K V I) : Type 0 where
     offsets : w.records.regions.offsets ≡ v.records.regions.offsets
     settled : IsSettled v.records.regions → IsSettled w.records.regions
-    page_bits : w.records.page_bits ≡ v.records.page_bits
-    tail : w.records.tail ≡ v.records.tail
-    frames : w.records.frames ≡ v.records.frames
+    log : (keeps : Bool) → (c : ℕ) → IsSameLog keeps (record { core = v; cleared = c }) (record { core = w; cleared = c })
 
   flushed-same : {v : CoreView K V I} → IsFlushed v v
-  flushed-same = record { offsets = refl; settled = λ h. h; page_bits = refl; tail = refl; frames = refl }
+  flushed-same = record { offsets = refl; settled = λ h. h; log = λ keeps c. log-same }
 
   flushed-as : {v w : CoreView K V I} → w ≡ v → IsFlushed v w
   flushed-as {v} same = subst (IsFlushed v) (sym same) flushed-same
@@ -161,13 +180,18 @@ module _ {K V I : Type 0} where
   core-flushed {v} {w} (flushing.Flushes.keeps a is t) = subst (IsFlushed v) (sym is) (record {
     offsets = refl;
     settled = flush-settles v.records.regions (v.records.regions.flushed + 1);
-    page_bits = refl;
-    tail = refl;
-    frames = refl;
+    log = λ keeps c. record { page_bits = refl; tail = refl; frames = refl; partition_bits = refl; bucket_bits = refl; entries = λ k. refl };
   })
 
-  pub flush-log : {v w : PartitionView K V I} {s : Standing} {bytes : List ℕ} {now : ℕ} {r : Result _ Refused} → Flushes v w s bytes now r → IsSameLog v w
-  flush-log h = let f = core-flushed h.does in record { page_bits = f.page_bits; tail = f.tail; frames = f.frames }
+  pub flush-log : {keeps : Bool} {v w : PartitionView K V I} {s : Standing} {bytes : List ℕ} {now : ℕ} {r : Result _ Refused} → Flushes v w s bytes now r → IsSameLog keeps v w
+  flush-log {keeps} h = let f = (core-flushed h.does).log keeps 0 in record {
+    page_bits = f.page_bits;
+    tail = f.tail;
+    frames = f.frames;
+    partition_bits = f.partition_bits;
+    bucket_bits = f.bucket_bits;
+    entries = f.entries;
+  }
 
   pub flush-offsets : {v w : PartitionView K V I} {s : Standing} {bytes : List ℕ} {now : ℕ} {r : Result _ Refused} → Flushes v w s bytes now r → w.core.records.regions.offsets ≡ v.core.records.regions.offsets
   flush-offsets h = (core-flushed h.does).offsets
@@ -175,8 +199,8 @@ module _ {K V I : Type 0} where
   pub flush-settled : {v w : PartitionView K V I} {s : Standing} {bytes : List ℕ} {now : ℕ} {r : Result _ Refused} → Flushes v w s bytes now r → StaysSettled v w
   flush-settled h = (core-flushed h.does).settled
 
-  pub take-log : {v w : PartitionView K V I} {now : ℕ} → w ≡ at_moment v now → IsSameLog v w
-  take-log {v} {w} {now} is = subst (IsSameLog v) (sym is) (record { page_bits = refl; tail = refl; frames = refl })
+  pub take-log : {keeps : Bool} {v w : PartitionView K V I} {now : ℕ} → w ≡ at_moment v now → IsSameLog keeps v w
+  take-log {keeps} {v} {w} {now} is = subst (IsSameLog keeps v) (sym is) (record { page_bits = refl; tail = refl; frames = refl; partition_bits = refl; bucket_bits = refl; entries = λ k. refl })
 
   pub take-offsets : (v w : PartitionView K V I) {now : ℕ} → w ≡ at_moment v now → w.core.records.regions.offsets ≡ v.core.records.regions.offsets
   take-offsets v w is = ap (λ (u : PartitionView K V I). u.core.records.regions.offsets) is
@@ -218,14 +242,14 @@ roomy w frames tail some bits count at settled evicted full =
     omega (arith, count, at)
 
 -- pages moved on: `v` before, `u` once ReadOnly moved, `t` once pages are written, and `w` at the end
-pub tidy-roomy : {K V I : Type 0} (v u t w : PartitionView K V I) (frames tail frozen_page kept : ℕ)
+pub tidy-roomy : {K V I : Type 0} {keeps : Bool} (v u t w : PartitionView K V I) (frames tail frozen_page kept : ℕ)
     → 0 < frames → frames ≡ v.core.records.frames → tail ≡ page_at v.core.records.page_bits v.core.records.tail
     → frozen_page ≡ tail - (frames / 2 - 1) → kept ≡ tail - (frames - 2) → v.core.records.regions.bits ≡ v.core.records.page_bits
     → (IsSettled v.core.records.regions → frozen_page ≤ page_at v.core.records.regions.bits v.core.records.tail → start_at v.core.records.regions.bits frozen_page ≤ u.core.records.regions.offsets.read_only)
-    → StaysSettled v u → IsSameLog v u → IsOnward v u
-    → IsWritten t → StaysSettled u t → IsSameLog u t → IsOnward u t → t.core.records.regions.offsets ≡ u.core.records.regions.offsets
+    → StaysSettled v u → IsSameLog keeps v u → IsOnward v u
+    → IsWritten t → StaysSettled u t → IsSameLog keeps u t → IsOnward u t → t.core.records.regions.offsets ≡ u.core.records.regions.offsets
     → (IsSettled t.core.records.regions → kept ≤ t.core.records.regions.flushed → start_at t.core.records.regions.bits kept ≤ w.core.records.regions.offsets.head)
-    → StaysSettled t w → IsSameLog t w → IsOnward t w
+    → StaysSettled t w → IsSameLog keeps t w → IsOnward t w
     → IsSettled v.core.records.regions → IsFull w.core.records → ⊥
 tidy-roomy v u t w frames tail frozen_page kept some count at is_frozen is_kept bits frozen settles log on written settles_t log_t on_t offsets evicted settles_w log_w on_w settled full =
     let settled_t = settles_t (settles settled) in

@@ -1,5 +1,5 @@
 -- What a store is after one of its partitions has run an operation.
-use Rattle.std.proofs.Common.{◌≡◌, ◌≢◌, Bool, true, false, ℕ, zero, suc, ◌+◌, ◌<◌, ◌≤◌, ◌^◌, ◌||◌, inl, inr, List, [], ◌∷◌, length, map, Option, Some, None, Result, Ok, Err, IsTrue, IfOk, OnOk, nat_lt, option_map, slice_get, slice_set, refl, sym, ◌∙◌, ap, subst, arith}
+use Rattle.std.proofs.Common.{◌≡◌, ◌≢◌, Bool, true, false, ℕ, zero, suc, ◌+◌, ◌*◌, ◌<◌, ◌≤◌, ◌^◌, ◌||◌, inl, inr, List, [], ◌∷◌, length, map, Option, Some, None, Result, Ok, Err, IsTrue, IfOk, OnOk, nat_lt, option_map, slice_get, slice_set, refl, sym, ◌∙◌, ap, subst, arith}
 use Rattle.std.proofs.lemmas.Bool.{cases_lt}
 use Rattle.std.proofs.lemmas.Bool.Decides.{nat_tests}
 use Rattle.std.proofs.lemmas.List.{length-set}
@@ -24,7 +24,8 @@ use Rattle.fkv_local.specs.Resting.{IsIdle, StaysIdle, AreNew, AreAtRest}
 use Rattle.fkv_local.specs.Storing.{StoreView, IsRun, IsUpdateRun, Runs, Updates}
 use Rattle.fkv_local.specs.Failures.{Failures, failures_of}
 use Rattle.fkv_local.specs.Clearing.{WasCut, IsGivenBack, IsAllCut, IsCutAt, AnyIsCut, begin_at}
-use Rattle.fkv_local.specs.Refusing.{IsWorkRefusal, IsRefusal, IsRefusedBy, IsUncompactedAt, HasEnds, FailedAsBefore, StaysAt}
+use Rattle.fkv_local.specs.Refusing.{IsWorkRefusal, IsRefusal, IsRefusedBy, IsUncompactedAt, HasEnds, FailedAsBefore, StaysAt, home_of}
+use Rattle.fkv_local.specs.Reading.{records_of, ReadsFew}
 use Rattle.fkv_local.proofs.PartLemmas.{view-get, view-length, view-set}
 
 module _ {K V I : Type 0} where
@@ -199,6 +200,24 @@ module _ {K V I W P S : Type 0} (view : S → PartitionView K V I) (writer : S �
           others = λ p apart. others-stay p (λ same. apart (same ∙ sym own));
           refused = subst (λ (s : StoreView K V I W P). IsRefusedBy keeps merges s.keeps_log writes reads op (view y).core.records.tail then (writer x) (reader x) (writer y) (reader y) e) is h;
         }
+
+    -- how many pages it reads
+    pub home-loads : (code : K → ℕ) (op : KeyedOp K V I) (k : K) → home ≡ partition_of (length self.parts) (code k) → k ≡ key_of op
+        → reads (reader y) ≤ reads (reader x) + 2 * records_of code (view x).core.records (key_of op)
+        → ReadsFew code reads self (of_items view writer reader (slice_set items home y) config keeps_log then) op
+    home-loads code op k at key few = record {
+      here = λ part r r_now p q s.
+          (let was : view x ≡ part = same_Some (view x) part (sym (subst (λ (t : StoreView K V I W P). slice_get t.parts home ≡ Some (view x)) is (view-get view items home x here)) ∙ sym (ap (slice_get self.parts) own) ∙ p) in
+          let read : reader x ≡ r = same_Some (reader x) r (sym ends-were.1 ∙ sym (ap (slice_get self.readers) own) ∙ q) in
+          let read_now : reader y ≡ r_now = same_Some (reader y) r_now (sym ends-are.1 ∙ sym (ap (slice_get (map reader (slice_set items home y))) own) ∙ s) in
+          subst (λ (v : PartitionView K V I). reads r_now ≤ reads r + 2 * records_of code v.core.records (key_of op)) was
+          (subst (λ a. reads r_now ≤ reads a + 2 * records_of code (view x).core.records (key_of op)) read
+          (subst (λ a. reads a ≤ reads (reader x) + 2 * records_of code (view x).core.records (key_of op)) read_now few)));
+      others = λ p apart. (others-stay p (λ same. apart (same ∙ sym own))).reader;
+    }
+      where
+        own : home_of code self op ≡ home
+        own = ap (λ q. partition_of (length self.parts) (code q)) (sym key) ∙ sym at
 
     -- why a log is not compacted
     pub home-uncompacted : {keeps : Bool} (e : Refused) → IsWorkRefusal keeps (view y).core.records.tail then (failures_of writes reads (writer x) (reader x)) (failures_of writes reads (writer y) (reader y)) e

@@ -5,4 +5,5 @@ pub mod Storing
 pub mod Clearing
 pub mod Causing
 pub mod Refusing
+pub mod Reading
 pub mod Listing

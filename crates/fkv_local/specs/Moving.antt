@@ -32,11 +32,15 @@ pub record IsOnward {K V I : Type 0} (old new : PartitionView K V I) : Type 0 wh
   pub head : old.core.records.regions.offsets.head ≤ new.core.records.regions.offsets.head
   pub cleared : old.cleared ≤ new.cleared
 
--- the log has the size, the tail and the frames that it had
-pub record IsSameLog {K V I : Type 0} (old new : PartitionView K V I) : Type 0 where
+-- the log has the size, the tail and the frames that it had, its index the same buckets, and, on a device that keeps, the log the
+-- same records
+pub record IsSameLog {K V I : Type 0} (keeps : Bool) (old new : PartitionView K V I) : Type 0 where
   pub page_bits : new.core.records.page_bits ≡ old.core.records.page_bits
   pub tail : new.core.records.tail ≡ old.core.records.tail
   pub frames : new.core.records.frames ≡ old.core.records.frames
+  pub partition_bits : new.core.records.partition_bits ≡ old.core.records.partition_bits
+  pub bucket_bits : new.core.records.bucket_bits ≡ old.core.records.bucket_bits
+  pub entries : IsTrue keeps → new.core.records.entries ≡ old.core.records.entries
 
 -- each page below that of SafeReadOnly is written
 abbrev pub IsWritten : {K V I : Type 0} → PartitionView K V I → Type 0

@@ -1,5 +1,5 @@
 //! One operation of one partition, driven to its end.
-ghost use Rattle.std.specs.Prelude.{◌≡◌, ◌≢◌, ◌<◌, ◌≤◌, ◌+◌, ◌-◌, ◌^◌, ℕ, None, Ok, true, false, IsTrue, IfOk, IfErr, IfSome, OnOk, OnErr};
+ghost use Rattle.std.specs.Prelude.{◌≡◌, ◌≢◌, ◌<◌, ◌≤◌, ◌+◌, ◌-◌, ◌*◌, ◌^◌, ℕ, None, Ok, true, false, IsTrue, IfOk, IfErr, IfSome, OnOk, OnErr};
 ghost use Rattle.fkv_operations.specs.After.{key_of};
 ghost use Rattle.fkv_operations.specs.declared.operations.KeyedOp.TheVariants.{Read, Rmw};
 ghost use Rattle.fkv_operations.specs.declared.operations.Answer.TheVariants.{Value};
@@ -7,11 +7,12 @@ ghost use Rattle.fkv_lookups.specs.RecordsViews.{IsFull};
 ghost use Rattle.fkv_partition.specs.CoreViews.{partition_of};
 ghost use Rattle.fkv_partition.specs.Events.{IsPassedOn};
 ghost use Rattle.fkv_alone.specs.Ending.{Ends};
-ghost use Rattle.fkv_alone.specs.Bound.{may_load};
+ghost use Rattle.fkv_alone.specs.Bound.{may_load, loads_of, NoneClaims};
 ghost use Rattle.fkv_alone.specs.Causes.{CanFailToRead, CanFailToWrite};
 ghost use Rattle.fkv_local.specs.Causing.{IsCausedBy};
 ghost use Rattle.fkv_local.specs.Resting.{IsIdle, StaysIdle};
-ghost use Rattle.fkv_local.specs.Moving.{IsPassed, IsMoveRefusal};
+ghost use Rattle.fkv_local.specs.Moving.{IsPassed, IsMoveRefusal, IsSameLog};
+ghost use Rattle.fkv_local.specs.Reading.{records_of};
 ghost use Rattle.fkv_local.specs.Failures.{failures_of, IsBeside};
 ghost use Rattle.fkv_local.specs.Storing.{Runs};
 ghost use Rattle.fkv_local.specs.Refusing.{IsStopped, IsRefusedBy};
@@ -43,6 +44,8 @@ fn once<F: Mergeable, D: Disk, P: PageReader<Receipt = D::Receipt>>(
     ensures ends { Ends D.Receipt.keeps F.Key.cmp F.parts.joined F.meaning F.code op part.old.partition part.new.partition 0
         (2 ^ 64 - 1) clock.old clock.new (P.failures reader.old) (P.failures reader.new) result }
     ensures unread { may_load op ≡ false → reader.new ≡ reader.old }
+    ensures loads { IsTrue D.Receipt.keeps → NoneClaims part.old.partition.core
+        → P.reads reader.new ≤ P.reads reader.old + loads_of F.code part.old.partition.core.records op }
     ensures caused { P.failures reader.new ≢ P.failures reader.old → CanFailToRead D.Receipt.stands P.can_fail }
     ensures rest { IsPassedOn part.old.partition part.new.partition }
     ensures passed { IsPassed part.new.partition.core.moment clock.old clock.new }
@@ -86,6 +89,9 @@ fn try_by_events<F: Mergeable, D: Disk, P: PageReader<Receipt = D::Receipt>>(
     ensures stays { IfOk result (λ told. told ≡ None
         → StaysIdle D.Receipt.keeps F.Key.cmp part.old.partition part.new.partition) }
     ensures full { IfOk result (λ told. told ≡ None → IsFull part.old.partition.core.records) }
+    ensures same_log { IfOk result (λ told. told ≡ None → IsSameLog D.Receipt.keeps part.old.partition part.new.partition) }
+    ensures loads { IsTrue D.Receipt.keeps → P.reads reader.new
+        ≤ P.reads reader.old + records_of F.code part.old.partition.core.records (key_of op) }
     ensures steady { OnOk result (P.failures reader.new ≡ P.failures reader.old) }
     ensures left { OnErr result (StaysIdle D.Receipt.keeps F.Key.cmp part.old.partition part.new.partition) }
     ensures passed { IsPassed part.new.partition.core.moment clock.old clock.new }
@@ -99,6 +105,8 @@ fn try_by_events<F: Mergeable, D: Disk, P: PageReader<Receipt = D::Receipt>>(
         (failures_of D.Writer.failures P.failures part.old.writer reader.old)
         (failures_of D.Writer.failures P.failures part.new.writer reader.new)) }
 {
+    // which says that no operation waits to confirm an entry
+    part.partition.known();
     let told = match once(functions, part, reader, op, clock) {
         Ok(told) => told,
         Err(refused) => return Err(refused),
@@ -128,6 +136,9 @@ pub fn run_by_events<F: Mergeable, D: Disk, P: PageReader<Receipt = D::Receipt>>
     requires numbered { D.Writer.next part.old.writer ≤ clock.old }
     requires begun { 0 < clock.old }
     ensures runs { Runs D.Receipt.keeps F.Key.cmp F.meaning part.old.partition part.new.partition op result }
+    // one for each record of the class, and once more where it begins anew
+    ensures loads { IsTrue D.Receipt.keeps → P.reads reader.new
+        ≤ P.reads reader.old + 2 * records_of F.code part.old.partition.core.records (key_of op) }
     ensures passed { IsPassed part.new.partition.core.moment clock.old clock.new }
     ensures numbered { D.Writer.next part.new.writer ≤ clock.new }
     ensures caused { IsTrue D.Receipt.keeps → IfErr result
@@ -212,6 +223,8 @@ pub fn tidy_at_times<F: Mergeable, D: Disk>(
         (IsCausedBy (CanFailToWrite D.Writer.next D.Writer.can_fail) (CanFailToRead D.Receipt.stands D.Reader.can_fail)) }
     ensures same_reader { OnErr result (shard.new.reader ≡ shard.old.reader) }
     ensures unread { IsTrue terms.now.keeps_log → shard.new.reader ≡ shard.old.reader }
+    ensures same_log { IsTrue terms.now.keeps_log
+        → IsSameLog D.Receipt.keeps shard.old.part.partition shard.new.part.partition }
     ensures beside { OnOk result (IsBeside terms.now.keeps_log
         (failures_of D.Writer.failures D.Reader.failures shard.old.part.writer shard.old.reader)
         (failures_of D.Writer.failures D.Reader.failures shard.new.part.writer shard.new.reader)) }
@@ -243,6 +256,8 @@ fn tidy_where_grown<F: Mergeable, D: Disk>(
         (IsCausedBy (CanFailToWrite D.Writer.next D.Writer.can_fail) (CanFailToRead D.Receipt.stands D.Reader.can_fail)) }
     ensures same_reader { OnErr result (shard.new.reader ≡ shard.old.reader) }
     ensures unread { IsTrue terms.now.keeps_log → shard.new.reader ≡ shard.old.reader }
+    ensures same_log { IsTrue terms.now.keeps_log
+        → IsSameLog D.Receipt.keeps shard.old.part.partition shard.new.part.partition }
     ensures beside { OnOk result (IsBeside terms.now.keeps_log
         (failures_of D.Writer.failures D.Reader.failures shard.old.part.writer shard.old.reader)
         (failures_of D.Writer.failures D.Reader.failures shard.new.part.writer shard.new.reader)) }
@@ -276,6 +291,8 @@ pub fn operate<F: Mergeable, D: Disk>(
     requires begun { 0 < clock.old }
     ensures runs { Runs D.Receipt.keeps F.Key.cmp F.meaning shard.old.part.partition shard.new.part.partition op result }
     ensures unread { may_load op ≡ false → IsTrue terms.now.keeps_log → shard.new.reader ≡ shard.old.reader }
+    ensures loads { IsTrue D.Receipt.keeps → IsTrue terms.now.keeps_log → D.Reader.reads shard.new.reader
+        ≤ D.Reader.reads shard.old.reader + 2 * records_of F.code shard.old.part.partition.core.records (key_of op) }
     ensures passed { IsPassed shard.new.part.partition.core.moment clock.old clock.new }
     ensures numbered { D.Writer.next shard.new.part.writer ≤ clock.new }
     ensures caused { IsTrue D.Receipt.keeps → IfErr result
@@ -307,6 +324,8 @@ fn operate_by_events<F: Mergeable, D: Disk>(
     requires begun { 0 < clock.old }
     ensures runs { Runs D.Receipt.keeps F.Key.cmp F.meaning shard.old.part.partition shard.new.part.partition op result }
     ensures unread { may_load op ≡ false → IsTrue terms.now.keeps_log → shard.new.reader ≡ shard.old.reader }
+    ensures loads { IsTrue D.Receipt.keeps → IsTrue terms.now.keeps_log → D.Reader.reads shard.new.reader
+        ≤ D.Reader.reads shard.old.reader + 2 * records_of F.code shard.old.part.partition.core.records (key_of op) }
     ensures passed { IsPassed shard.new.part.partition.core.moment clock.old clock.new }
     ensures numbered { D.Writer.next shard.new.part.writer ≤ clock.new }
     ensures caused { IsTrue D.Receipt.keeps → IfErr result
@@ -339,6 +358,8 @@ pub fn read<F: Mergeable, D: Disk>(
     requires begun { 0 < clock.old }
     ensures runs { Runs D.Receipt.keeps F.Key.cmp F.meaning shard.old.part.partition shard.new.part.partition
         (Read key.now input.now) result }
+    ensures loads { IsTrue D.Receipt.keeps → IsTrue terms.now.keeps_log → D.Reader.reads shard.new.reader
+        ≤ D.Reader.reads shard.old.reader + 2 * records_of F.code shard.old.part.partition.core.records key.now }
     ensures passed { IsPassed shard.new.part.partition.core.moment clock.old clock.new }
     ensures numbered { D.Writer.next shard.new.part.writer ≤ clock.new }
     ensures caused { IsTrue D.Receipt.keeps → IfErr result
@@ -381,6 +402,8 @@ pub fn update<F: Mergeable, D: Disk>(
     requires begun { 0 < clock.old }
     ensures runs { Runs D.Receipt.keeps F.Key.cmp F.meaning shard.old.part.partition shard.new.part.partition
         (Rmw key.now input.now) result }
+    ensures loads { IsTrue D.Receipt.keeps → IsTrue terms.now.keeps_log → D.Reader.reads shard.new.reader
+        ≤ D.Reader.reads shard.old.reader + 2 * records_of F.code shard.old.part.partition.core.records key.now }
     ensures passed { IsPassed shard.new.part.partition.core.moment clock.old clock.new }
     ensures numbered { D.Writer.next shard.new.part.writer ≤ clock.new }
     ensures caused { IsTrue D.Receipt.keeps → IfErr result

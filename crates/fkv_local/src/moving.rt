@@ -28,7 +28,7 @@ fn refresh<F: Mergeable, R: Receipt>(partition: &mut Partition<F, R>, now: u64)
     ensures tidied { IsTidied R.keeps F.Key.cmp partition.old partition.new }
     ensures onward { IsOnward partition.old partition.new }
     ensures refreshed { partition.new.core.records.regions ≡ refreshed partition.old.core.records.regions 0 }
-    ensures same_log { IsSameLog partition.old partition.new }
+    ensures same_log { IsSameLog R.keeps partition.old partition.new }
     ensures moment { partition.new.core.moment ≤ now }
 {
     partition.known();
@@ -50,7 +50,7 @@ fn freeze<F: Mergeable, R: Receipt>(
         → page ≤ page_at partition.old.core.records.regions.bits partition.old.core.records.tail
         → start_at partition.old.core.records.regions.bits page
         ≤ partition.new.core.records.regions.offsets.read_only) }
-    ensures same_log { IsSameLog partition.old partition.new }
+    ensures same_log { IsSameLog R.keeps partition.old partition.new }
     ensures passed { IsPassed partition.new.core.moment clock.old clock.new }
     ensures told { IfErr result (λ e. (e ≡ Refused.Worn) × (2 ^ 64 ≤ clock.new + 2)) }
 {
@@ -79,7 +79,7 @@ fn evict<F: Mergeable, R: Receipt>(
         → page ≤ partition.old.core.records.regions.flushed
         → start_at partition.old.core.records.regions.bits page
         ≤ partition.new.core.records.regions.offsets.head) }
-    ensures same_log { IsSameLog partition.old partition.new }
+    ensures same_log { IsSameLog R.keeps partition.old partition.new }
     ensures passed { IsPassed partition.new.core.moment clock.old clock.new }
     ensures told { IfErr result (λ e. (e ≡ Refused.Worn) × (2 ^ 64 ≤ clock.new + 2)) }
 {
@@ -109,7 +109,7 @@ fn flush<F: Mergeable, D: Disk>(
     ensures numbered { D.Writer.next part.new.writer ≤ clock.new }
     ensures caused { IsTrue D.Receipt.keeps → IfErr result
         (IsCausedBy (CanFailToWrite D.Writer.next D.Writer.can_fail) (CanFailToRead D.Receipt.stands D.Reader.can_fail)) }
-    ensures same_log { IsSameLog part.old.partition part.new.partition }
+    ensures same_log { IsSameLog D.Receipt.keeps part.old.partition part.new.partition }
     ensures same_offsets { part.new.partition.core.records.regions.offsets ≡ part.old.partition.core.records.regions.offsets }
     ensures later { OnOk result (clock.old < clock.new) }
     ensures written { IfOk result (λ did. did ≡ false → IsWritten part.new.partition) }
@@ -156,7 +156,7 @@ fn flush_all<F: Mergeable, D: Disk>(
     ensures tidied { IsTidied D.Receipt.keeps F.Key.cmp part.old.partition part.new.partition }
     ensures onward { IsOnward part.old.partition part.new.partition }
     ensures settled { StaysSettled part.old.partition part.new.partition }
-    ensures same_log { IsSameLog part.old.partition part.new.partition }
+    ensures same_log { IsSameLog D.Receipt.keeps part.old.partition part.new.partition }
     ensures same_offsets { part.new.partition.core.records.regions.offsets ≡ part.old.partition.core.records.regions.offsets }
     ensures written { OnOk result (IsWritten part.new.partition) }
     ensures passed { IsPassed part.new.partition.core.moment clock.old clock.new }
@@ -204,6 +204,7 @@ pub fn tidy<F: Mergeable, D: Disk>(
     ensures settled { StaysSettled part.old.partition part.new.partition }
     ensures roomy { OnOk result (IsSettled part.old.partition.core.records.regions
         → IsFull part.new.partition.core.records → ⊥) }
+    ensures same_log { IsSameLog D.Receipt.keeps part.old.partition part.new.partition }
     ensures passed { IsPassed part.new.partition.core.moment clock.old clock.new }
     ensures numbered { D.Writer.next part.new.writer ≤ clock.new }
     ensures caused { IsTrue D.Receipt.keeps → IfErr result

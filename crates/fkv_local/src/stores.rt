@@ -14,6 +14,7 @@ ghost use Rattle.fkv_alone.specs.Causes.{CanFailToRead, CanFailToWrite};
 ghost use Rattle.fkv_local.specs.Resting.{IsMadeBy};
 ghost use Rattle.fkv_local.specs.Causing.{IsCausedBy};
 ghost use Rattle.fkv_local.specs.Clearing.{IsCutAt, AnyIsCut, IsAllCut, IsGivenBack, IsAllGivenBack, begin_at};
+ghost use Rattle.fkv_local.specs.Reading.{ReadsFew};
 ghost use Rattle.fkv_local.specs.Refusing.{IsRefusal, IsUncompacted, IsUncompactedAt, FailedAsBefore, StaysAt};
 ghost use Rattle.fkv_local.specs.Listing.{IsUnlisted, lists_of, left};
 
@@ -135,6 +136,7 @@ impl<F: Mergeable, D: Disk> LocalStore<F, D> {
         ensures caused { IsTrue D.Receipt.keeps → IfErr result
             (IsCausedBy (CanFailToWrite D.Writer.next D.Writer.can_fail) (CanFailToRead D.Receipt.stands D.Reader.can_fail)) }
         ensures unread { may_load op ≡ false → IsTrue self.old.keeps_log → self.new.readers ≡ self.old.readers }
+        ensures loads { IsTrue D.Receipt.keeps → IsTrue self.old.keeps_log → ReadsFew F.code D.Reader.reads self.old self.new op }
         ensures same_terms { SameTerms self.old self.new }
     {
         let home = self.home(&op.key());
@@ -154,6 +156,8 @@ impl<F: Mergeable, D: Disk> LocalStore<F, D> {
             F.code D.Writer.failures D.Reader.failures self.old self.new (Rmw key.now input.now)) }
         ensures caused { IsTrue D.Receipt.keeps → IfErr result
             (IsCausedBy (CanFailToWrite D.Writer.next D.Writer.can_fail) (CanFailToRead D.Receipt.stands D.Reader.can_fail)) }
+        ensures loads { IsTrue D.Receipt.keeps → IsTrue self.old.keeps_log
+            → ReadsFew {V = F.Value} F.code D.Reader.reads self.old self.new (Rmw key.now input.now) }
         ensures same_terms { SameTerms self.old self.new }
     {
         let home = self.home(key);
@@ -196,6 +200,8 @@ impl<F: Mergeable, D: Disk> LocalStore<F, D> {
             F.code D.Writer.failures D.Reader.failures self.old self.new (Read key.now input.now)) }
         ensures caused { IsTrue D.Receipt.keeps → IfErr result
             (IsCausedBy (CanFailToWrite D.Writer.next D.Writer.can_fail) (CanFailToRead D.Receipt.stands D.Reader.can_fail)) }
+        ensures loads { IsTrue D.Receipt.keeps → IsTrue self.old.keeps_log
+            → ReadsFew {V = F.Value} F.code D.Reader.reads self.old self.new (Read key.now input.now) }
         ensures same_terms { SameTerms self.old self.new }
     {
         let home = self.home(key);

@@ -193,6 +193,7 @@ impl<F: Mergeable, D: Disk, H: Recorder<F>> Pass<F, D, H> {
         ensures only { IfErr result (λ why. IsStrange store.now self.old why
             ⊎ IsUnrun F.MERGES op (slice_index self.old.told (partition_of store.now.count (F.code (key_of op)))) why) }
         ensures stalled { IfErr result (λ why. why ≡ Refused.Stalled → self.new.turned ≡ store.now.turns) }
+        ensures within { OnOk result (self.new.turned ≤ store.now.turns) }
         ensures unchanged { OnErr result
             (self.new ≡ record self.old { turned = self.new.turned; missed = self.new.missed; reads = self.new.reads }) }
         ensures steady { OnOk result (AreSteady (partition_of store.now.count (F.code (key_of op)))
@@ -228,6 +229,7 @@ impl<F: Mergeable, D: Disk, H: Recorder<F>> Pass<F, D, H> {
         ensures only { IfErr result (λ why. IsStrange store.now self.old why
             ⊎ IsStopped (slice_index self.old.told (partition_of store.now.count (F.code key))) why) }
         ensures stalled { IfErr result (λ why. why ≡ Refused.Stalled → self.new.turned ≡ store.now.turns) }
+        ensures within { OnOk result (self.new.turned ≤ store.now.turns) }
         ensures unchanged { OnErr result
             (self.new ≡ record self.old { turned = self.new.turned; missed = self.new.missed; reads = self.new.reads }) }
         ensures steady { OnOk result (AreSteady (partition_of store.now.count (F.code key))
@@ -262,6 +264,7 @@ impl<F: Mergeable, D: Disk, H: Recorder<F>> Pass<F, D, H> {
         ensures only { IfErr result (λ why. IsStrange store.now self.old why
             ⊎ IsUnrun F.MERGES op (slice_index self.old.told (partition_of store.now.count (F.code (key_of op)))) why) }
         ensures stalled { IfErr result (λ why. why ≡ Refused.Stalled → self.new.turned ≡ store.now.turns) }
+        ensures within { OnOk result (self.new.turned ≤ store.now.turns) }
         ensures unchanged { OnErr result
             (self.new ≡ record self.old { turned = self.new.turned; missed = self.new.missed; reads = self.new.reads }) }
         ensures steady { OnOk result (AreSteady (partition_of store.now.count (F.code (key_of op)))

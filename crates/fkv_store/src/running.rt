@@ -222,6 +222,7 @@ fn run_on<F: Mergeable, D: Disk, H: Recorder<F>, G: Gate>(
     ensures read { IsTrue reads → IfOk result IsSome }
     ensures only { IfErr result (IsStopped issued.now.told) }
     ensures stalled { IfErr result (λ why. why ≡ Refused.Stalled → turned.new.count ≡ store.now.turns) }
+    ensures within { OnOk result (turned.new.count ≤ store.now.turns) }
     ensures steady { OnOk result (D.Reader.failures reader.new ≡ D.Reader.failures reader.old + turned.new.missed) }
     ensures counted { IfErr result
         (IsCounted D.Receipt.keeps (D.Reader.failures reader.old) (D.Reader.failures reader.new) turned.new.missed) }
@@ -317,6 +318,7 @@ fn run_out<F: Mergeable, D: Disk, H: Recorder<F>, G: Gate>(
     ensures read { IsTrue reads → IfOk result IsSome }
     ensures only { IfErr result (IsStopped run.now.known) }
     ensures stalled { IfErr result (λ why. why ≡ Refused.Stalled → turned.new.count ≡ store.now.turns) }
+    ensures within { OnOk result (turned.new.count ≤ store.now.turns) }
     ensures steady { OnOk result (D.Reader.failures reader.new ≡ D.Reader.failures reader.old + turned.new.missed) }
     ensures counted { IfErr result
         (IsCounted D.Receipt.keeps (D.Reader.failures reader.old) (D.Reader.failures reader.new) turned.new.missed) }
@@ -359,6 +361,7 @@ fn run_reading<F: Mergeable, D: Disk, H: Recorder<F>, G: Gate>(
     ensures of { IfOk result (IsEntryOf op run.now.known) }
     ensures only { IfErr result (IsStopped run.now.known) }
     ensures stalled { IfErr result (λ why. why ≡ Refused.Stalled → turned.new.count ≡ store.now.turns) }
+    ensures within { OnOk result (turned.new.count ≤ store.now.turns) }
     ensures steady { OnOk result (D.Reader.failures reader.new ≡ D.Reader.failures reader.old + turned.new.missed) }
     ensures counted { IfErr result
         (IsCounted D.Receipt.keeps (D.Reader.failures reader.old) (D.Reader.failures reader.new) turned.new.missed) }
@@ -397,7 +400,7 @@ pub(crate) fn run_in<F: Mergeable, D: Disk, H: Recorder<F>, G: Gate>(
     requires within { run.now.at.partition < store.now.count }
     requires sessions { length run.now.sessions.now ≡ store.now.count }
     requires readers { length readers.old.items ≡ store.now.count }
-    requires none { turned.old.missed ≡ 0 }
+    requires fresh { turned.old ≡ record { count = 0; missed = 0 } }
     ensures readers { length readers.new.items ≡ length readers.old.items }
     ensures op { IfOk result (λ e. IsRunAs loads op e.op) }
     ensures fresh { IfOk result (λ e. run.now.known ≤ e.at) }
@@ -405,6 +408,7 @@ pub(crate) fn run_in<F: Mergeable, D: Disk, H: Recorder<F>, G: Gate>(
     ensures merging { OnOk result (is_merge op ≡ true → F.MERGES ≡ true) }
     ensures only { IfErr result (IsUnrun F.MERGES op run.now.known) }
     ensures stalled { IfErr result (λ why. why ≡ Refused.Stalled → turned.new.count ≡ store.now.turns) }
+    ensures within { OnOk result (turned.new.count ≤ store.now.turns) }
     ensures steady { OnOk result (AreSteady run.now.at.partition (map D.Reader.failures readers.old.items)
         (map D.Reader.failures readers.new.items) turned.new.missed) }
     ensures counted { IfErr result (AreCounted D.Receipt.keeps run.now.at.partition
@@ -433,7 +437,7 @@ fn run_by_turns<F: Mergeable, D: Disk, H: Recorder<F>, G: Gate>(
     requires within { run.now.at.partition < store.now.count }
     requires sessions { length run.now.sessions.now ≡ store.now.count }
     requires readers { length readers.old.items ≡ store.now.count }
-    requires none { turned.old.missed ≡ 0 }
+    requires fresh { turned.old ≡ record { count = 0; missed = 0 } }
     ensures readers { length readers.new.items ≡ length readers.old.items }
     ensures op { IfOk result (λ e. IsRunAs loads op e.op) }
     ensures fresh { IfOk result (λ e. run.now.known ≤ e.at) }
@@ -441,6 +445,7 @@ fn run_by_turns<F: Mergeable, D: Disk, H: Recorder<F>, G: Gate>(
     ensures merging { OnOk result (is_merge op ≡ true → F.MERGES ≡ true) }
     ensures only { IfErr result (IsUnrun F.MERGES op run.now.known) }
     ensures stalled { IfErr result (λ why. why ≡ Refused.Stalled → turned.new.count ≡ store.now.turns) }
+    ensures within { OnOk result (turned.new.count ≤ store.now.turns) }
     ensures steady { OnOk result (AreSteady run.now.at.partition (map D.Reader.failures readers.old.items)
         (map D.Reader.failures readers.new.items) turned.new.missed) }
     ensures counted { IfErr result (AreCounted D.Receipt.keeps run.now.at.partition

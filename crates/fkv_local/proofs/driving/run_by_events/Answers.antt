@@ -1,6 +1,9 @@
-use Rattle.std.proofs.Common.{Ok, refl, ap, ◌∙◌}
+use Rattle.std.proofs.Common.{Ok, refl, ap, ◌∙◌, arith}
+use Rattle.fkv_operations.specs.After.{key_of}
 use Rattle.fkv_local.proofs.ClearLemmas.{stays-then}
 use Rattle.fkv_local.proofs.DriveLemmas.{left-runs, move-stopped, runs-since, stays-tidied, stopped-from}
+use Rattle.fkv_local.proofs.ReadLemmas.{records-same}
+use Rattle.fkv_local.proofs.RoomLemmas.{log-then}
 use Rattle.fkv_local.proofs.driving.run_by_events.Goals as goal
 
 pub returns-in-Err-clause-told : goal.returns-in-Err-clause-told
@@ -26,3 +29,26 @@ pub returns-in-Err-second-clause-told : goal.returns-in-Err-second-clause-told
 returns-in-Err-second-clause-told g c =
     let writes = c.in-Ok.ensures.steady ∙ ap g.D.Writer.PageWriter.failures c.try_by_events-first.ensures.same_writer in
     stopped-from writes c.in-Ok-None.ensures.steady c.in-Err-second.ensures.told
+
+pub returns-in-Ok-Some-clause-loads : goal.returns-in-Ok-Some-clause-loads
+returns-in-Ok-Some-clause-loads g c = λ kept. let first = c.try_by_events-first.ensures.loads kept in omega arith
+
+pub returns-in-Err-clause-loads : goal.returns-in-Err-clause-loads
+returns-in-Err-clause-loads g c = λ kept. let first = c.try_by_events-first.ensures.loads kept in omega arith
+
+pub returns-in-Err-tidy-clause-loads : goal.returns-in-Err-tidy-clause-loads
+returns-in-Err-tidy-clause-loads g c = λ kept. let first = c.try_by_events-first.ensures.loads kept in omega arith
+
+pub returns-in-Ok-Some-second-clause-loads : goal.returns-in-Ok-Some-second-clause-loads
+returns-in-Ok-Some-second-clause-loads g c = λ kept.
+    let first = c.try_by_events-first.ensures.loads kept in
+    let second = c.try_by_events-second.ensures.loads kept in
+    let same = records-same g.F.Functions.code (log-then (c.in-Ok-None.ensures.same_log c.in-Ok-None.field-0-is) c.tidy.ensures.same_log) kept (key_of c.args.op) in
+    omega arith
+
+pub returns-in-Err-second-clause-loads : goal.returns-in-Err-second-clause-loads
+returns-in-Err-second-clause-loads g c = λ kept.
+    let first = c.try_by_events-first.ensures.loads kept in
+    let second = c.try_by_events-second.ensures.loads kept in
+    let same = records-same g.F.Functions.code (log-then (c.in-Ok-None.ensures.same_log c.in-Ok-None.field-0-is) c.tidy.ensures.same_log) kept (key_of c.args.op) in
+    omega arith

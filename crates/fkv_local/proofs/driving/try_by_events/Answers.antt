@@ -1,7 +1,8 @@
-use Rattle.std.proofs.Common.{ap}
+use Rattle.std.proofs.Common.{ap, arith}
 use Rattle.fkv_local.proofs.CauseLemmas.{stopped-caused}
 use Rattle.fkv_local.proofs.ClearLemmas.{stays-same}
-use Rattle.fkv_local.proofs.DriveLemmas.{done-runs, err-left, steady-waits, waits-room, wait-given_up}
+use Rattle.fkv_local.proofs.DriveLemmas.{done-runs, err-left, steady-waits, waits-room, wait-log, wait-given_up}
+use Rattle.fkv_local.proofs.ReadLemmas.{loads-in, none-claims}
 use Rattle.fkv_local.proofs.driving.try_by_events.Goals as goal
 
 pub returns-in-Err-clause-left : goal.returns-in-Err-clause-left
@@ -27,3 +28,24 @@ returns-in-Err-clause-caused g c = λ kept.
     let writes = ap g.D.Writer.PageWriter.failures c.in-Err.ensures.same_writer in
     stopped-caused _ _ kept (err-left {keeps = g.D.Receipt.Receipt.keeps} {cmp = g.F.Key.Ord.cmp} (stays-same c.requires.idle) c.requires.own c.in-Err.ensures.rest c.requires.begun c.in-Err.ensures.small c.in-Err.ensures.merges writes c.in-Err.ensures.ends).why
     (λ other. absurd (other writes)) c.in-Err.ensures.caused
+
+pub returns-in-Err-clause-loads : goal.returns-in-Err-clause-loads
+returns-in-Err-clause-loads g c = λ kept.
+    let most = c.once.ensures.loads kept (none-claims c.args.part.now.partition c.known.ensures.core c.requires.idle) in
+    let all = loads-in g.F.Functions.code c.args.part.now.partition.core.records c.args.op in
+    omega arith
+
+pub returns-in-Done-clause-loads : goal.returns-in-Done-clause-loads
+returns-in-Done-clause-loads g c = λ kept.
+    let most = c.once.ensures.loads kept (none-claims c.args.part.now.partition c.known.ensures.core c.requires.idle) in
+    let all = loads-in g.F.Functions.code c.args.part.now.partition.core.records c.args.op in
+    omega arith
+
+pub returns-in-Waits-clause-loads : goal.returns-in-Waits-clause-loads
+returns-in-Waits-clause-loads g c = λ kept.
+    let most = c.once.ensures.loads kept (none-claims c.args.part.now.partition c.known.ensures.core c.requires.idle) in
+    let all = loads-in g.F.Functions.code c.args.part.now.partition.core.records c.args.op in
+    omega arith
+
+pub returns-in-Waits-clause-same_log : goal.returns-in-Waits-clause-same_log
+returns-in-Waits-clause-same_log g c = λ _. wait-log {cmp = g.F.Key.Ord.cmp} (stays-same c.requires.idle) c.requires.own c.in-Ok.ensures.rest c.requires.begun c.in-Ok.ensures.small (rw c.in-Waits.is at c.in-Ok.ensures.ends) c.give_up_untimed-given_up.ensures.effect

@@ -1,6 +1,6 @@
 use Rattle.std.proofs.Common.{◌∙◌, ap}
 use Rattle.fkv_records.specs.Places.{page_at}
-use Rattle.fkv_local.proofs.RoomLemmas.{tidy-roomy}
+use Rattle.fkv_local.proofs.RoomLemmas.{tidy-roomy, log-then}
 use Rattle.fkv_local.proofs.StoreLemmas.{OnOk-weaker}
 use Rattle.fkv_local.proofs.moving.tidy.Goals as goal
 
@@ -14,3 +14,12 @@ returns-clause-roomy g c = OnOk-weaker c.evict.result (λ evicted settled full.
     c.in-Ok.ensures.frozen c.freeze.ensures.settled c.freeze.ensures.same_log c.freeze.ensures.onward
     c.in-Ok-flush_all.ensures.written c.flush_all.ensures.settled c.flush_all.ensures.same_log c.flush_all.ensures.onward c.flush_all.ensures.same_offsets
     evicted c.evict.ensures.settled c.evict.ensures.same_log c.evict.ensures.onward settled full) c.evict.ensures.evicted
+
+pub returns-in-Err-clause-same_log : goal.returns-in-Err-clause-same_log
+returns-in-Err-clause-same_log g c = c.freeze.ensures.same_log
+
+pub returns-in-Err-flush_all-clause-same_log : goal.returns-in-Err-flush_all-clause-same_log
+returns-in-Err-flush_all-clause-same_log g c = log-then c.freeze.ensures.same_log c.flush_all.ensures.same_log
+
+pub returns-clause-same_log : goal.returns-clause-same_log
+returns-clause-same_log g c = log-then c.freeze.ensures.same_log (log-then c.flush_all.ensures.same_log c.evict.ensures.same_log)

@@ -1,10 +1,10 @@
-use Rattle.std.proofs.Common.{length, refl}
+use Rattle.std.proofs.Common.{length, refl, IsTrue, subst}
 use Rattle.std.proofs.lemmas.Option.{slice_get_read}
 use Rattle.std.proofs.lemmas.Result.{IfErr-weaker}
 use Rattle.fkv_functions.proofs.KeyOrder.{key_order}
 use Rattle.fkv_operations.specs.declared.operations.KeyedOp.TheVariants.{Read}
 use Rattle.fkv_local.proofs.CauseLemmas.{home-numbered, numbered-set}
-use Rattle.fkv_local.proofs.StoreLemmas.{inside-home, home-idle, home-past, home-own, home-rests, home-runs, home-refusal, parts-is, terms-are}
+use Rattle.fkv_local.proofs.StoreLemmas.{inside-home, home-idle, home-past, home-own, home-rests, home-runs, home-refusal, home-loads, keeps-is, parts-is, terms-are}
 use Rattle.fkv_local.proofs.stores.LocalStore.read.Goals as goal
 
 pub read-requires-clause-idle : goal.read-requires-clause-idle
@@ -78,3 +78,13 @@ read-requires-clause-numbered g c =
     let within = inside-home (λ shard. shard.part.partition) g.F.Functions.code items c.self.inside.clock c.args.self.now.parts (parts-is c.self.view_is) home c.home-home.ensures.within in
     let here = slice_get_read items (length items) home old refl within c.index_mut-shard.ensures.value in
     home-numbered (λ shard. shard.part.writer) g.D.Writer.PageWriter.next items c.self.inside.clock home old c.self.invariant.1 here
+
+pub returns-clause-loads : goal.returns-clause-loads
+returns-clause-loads g c = λ kept log.
+    let items = c.self.inside.shards.items in
+    let home = c.home-home.result in
+    let old = c.index_mut-shard.result.now in
+    let within = inside-home (λ shard. shard.part.partition) g.F.Functions.code items c.self.inside.clock c.args.self.now.parts (parts-is c.self.view_is) home c.home-home.ensures.within in
+    let here = slice_get_read items (length items) home old refl within c.index_mut-shard.ensures.value in
+    home-loads (λ shard. shard.part.partition) (λ shard. shard.part.writer) (λ shard. shard.reader) items c.self.view_is home old c.read.new.shard here c.read.new.clock g.D.Writer.PageWriter.failures g.D.Reader.PageReader.reads g.F.Functions.code (Read c.args.key.now c.args.input.now) c.args.key.now c.home-home.ensures.value refl
+    (c.read.ensures.loads kept (subst IsTrue (sym (keeps-is c.self.view_is)) log))

@@ -5,7 +5,7 @@ use Rattle.fkv_functions.proofs.KeyOrder.{key_order}
 use Rattle.fkv_partition.specs.CoreViews.{partition_of}
 use Rattle.fkv_local.proofs.CauseLemmas.{home-numbered, numbered-set}
 use Rattle.fkv_local.proofs.PartLemmas.{view-same}
-use Rattle.fkv_local.proofs.StoreLemmas.{inside-home, home-idle, home-past, home-own, home-rests, home-runs, home-refusal, parts-is, terms-are, readers-is, keeps-is}
+use Rattle.fkv_local.proofs.StoreLemmas.{inside-home, home-idle, home-past, home-own, home-rests, home-runs, home-refusal, home-loads, parts-is, terms-are, readers-is, keeps-is}
 use Rattle.fkv_local.proofs.stores.LocalStore.run.Goals as goal
 
 pub operate-requires-clause-idle : goal.operate-requires-clause-idle
@@ -90,3 +90,13 @@ returns-clause-unread g c = λ may kept.
     view-same (λ shard. shard.reader) items home old c.operate.new.shard here
     (c.operate.ensures.unread may (subst IsTrue (sym (keeps-is c.self.view_is)) kept))
     ∙ readers-is c.self.view_is
+
+pub returns-clause-loads : goal.returns-clause-loads
+returns-clause-loads g c = λ kept log.
+    let items = c.self.inside.shards.items in
+    let home = c.home-home.result in
+    let old = c.index_mut-shard.result.now in
+    let within = inside-home (λ shard. shard.part.partition) g.F.Functions.code items c.self.inside.clock c.args.self.now.parts (parts-is c.self.view_is) home c.home-home.ensures.within in
+    let here = slice_get_read items (length items) home old refl within c.index_mut-shard.ensures.value in
+    home-loads (λ shard. shard.part.partition) (λ shard. shard.part.writer) (λ shard. shard.reader) items c.self.view_is home old c.operate.new.shard here c.operate.new.clock g.D.Writer.PageWriter.failures g.D.Reader.PageReader.reads g.F.Functions.code c.args.op c.key.result c.home-home.ensures.value c.key.ensures
+    (c.operate.ensures.loads kept (subst IsTrue (sym (keeps-is c.self.view_is)) log))
