@@ -1,13 +1,16 @@
 -- What a feed in blocks has left.
-use Rattle.std.proofs.Common.{◌≡◌, ◌+◌, ◌-◌, ◌≤◌, ◌⊎◌, inl, inr, ℕ, List, [], ◌∷◌, ◌++◌, Option, Some, None, refl, sym, ap, subst, ◌∙◌, arith, length, take, drop, take_all, length-drop, length-append, append-nil, drop-drop, zero, suc, Bool, true, false, cond, get_or, IsTrue}
-use Rattle.std.specs.Prelude.{option_map}
+use Rattle.std.proofs.Common.{◌≡◌, ◌+◌, ◌-◌, ◌^◌, ◌≤◌, ◌⊎◌, inl, inr, Result, Err, ℕ, List, [], ◌∷◌, ◌++◌, Option, Some, None, refl, sym, ap, subst, ◌∙◌, arith, length, take, drop, take_all, length-drop, length-append, append-nil, drop-drop, zero, suc, Bool, true, false, cond, get_or, IsTrue}
+use Rattle.std.specs.Prelude.{option_map, slice_index}
 use Rattle.std.specs.Io.KnownBytes.{IsAtEnd, Keeps, prepend_known}
 use Rattle.std.proofs.lemmas.List.{take-append-le}
 use Rattle.fkv_blocks.specs.Cutting.{IsBetween, IsCut, block_of, state_after}
 use Rattle.csv.specs.Reading.{is_bom, strip_bom}
 use Rattle.csv.specs.declared.parser.State.TheVariants as st
 use Rattle.fkv_blocks.proofs.CutLemmas.{cut_more}
-use Rattle.fkv_blocks.specs.Left.{EndsAt, HasLeft, IsBlockOf, Stands}
+use Rattle.fkv_functions.specs.declared.refusals.Refused.{Refused}
+use Rattle.fkv_functions.specs.declared.refusals.Refused.TheVariants.{NoMemory, Unreadable}
+use Rattle.fkv_streams.specs.Counting.{CountsOnly, one_more}
+use Rattle.fkv_blocks.specs.Left.{BlocksView, EndsAt, HasFailed, HasLeft, IsBlockOf, IsNext, IsUntaken, IsWide, Stands, number_of}
 
 pub left_kept : (text : Option (List ℕ)) (at : ℕ) (a b : Option (List ℕ)) → HasLeft text at a → Keeps a b → HasLeft text at b
 left_kept None at a b h k = tt
@@ -66,47 +69,105 @@ left_last (Some t) at held (Some rest) h e =
       omega (arith, long, size, h.1.0),
     )
 
-pub has_left : (failed over : Bool) (text : Option (List ℕ)) (at : ℕ) (left : Option (List ℕ)) → Stands failed over text at left → failed ≡ false → over ≡ false
-    → HasLeft text at left
-has_left failed true text at left s f o = absurd (cc)
-has_left failed false text at left s f o = s f
+-- ---- a feed in blocks, from one call to the next
+module _ (text : Option (List ℕ)) (at : ℕ) (held : List ℕ) (left : Option (List ℕ)) where
+  pub on_going : (over : Bool) (stopped : Option Refused) → Stands text over stopped at held left → over ≡ false → stopped ≡ None → HasLeft text at (prepend_known held left)
+  on_going true stopped s o n = absurd (cc)
+  on_going false None s o n = s
+  on_going false (Some why) s o n = absurd (cc)
 
--- behind a block that was cut
-pub stands_next : (text : Option (List ℕ)) (at : ℕ) (held : List ℕ) (rem : Option (List ℕ)) (n high : ℕ) (kept : List ℕ) → HasLeft text at (prepend_known held rem)
-    → IsCut held n
-    → high ≡ at + n
-    → kept ≡ drop n held
-    → Stands false false text high (prepend_known kept rem)
-stands_next text at held rem n high kept h c is rest e = rw (is, rest) (left_next text at held rem n h c)
+  pub has_front : (over : Bool) (stopped : Option Refused) → Stands text over stopped at held left → over ≡ false → (rest : Option (List ℕ)) × HasLeft text at (prepend_known held rest)
+  has_front true stopped s o = absurd (cc)
+  has_front false None s o = (left, s)
+  has_front false (Some why) s o = s
 
--- and behind the last
-pub stands_last : (text : Option (List ℕ)) (at : ℕ) (held : List ℕ) (rem left : Option (List ℕ)) (high : ℕ) → HasLeft text at (prepend_known held rem)
-    → IsAtEnd rem
-    → high ≡ at + length held
-    → Stands false true text high left
-stands_last text at held rem left high h e is same = rw is (left_last text at held rem h e).1
+  -- more of it is read
+  pub reads_on : (over : Bool) (stopped : Option Refused) (more : List ℕ) (then : Option (List ℕ)) → Stands text over stopped at held left → over ≡ false → stopped ≡ None → Keeps (prepend_known held left) (prepend_known more then) → Stands text over stopped at more then
+  reads_on true stopped more then s o n k = absurd (cc)
+  reads_on false None more then s o n k = left_kept text at (prepend_known held left) (prepend_known more then) s k
+  reads_on false (Some why) more then s o n k = absurd (cc)
 
--- ---- by what a cut answered: how many bytes the block has, and whether it is the last
-module _ (text : Option (List ℕ)) (at high : ℕ) (held kept : List ℕ) (rem : Option (List ℕ)) (n : ℕ × Bool) (left : HasLeft text at (prepend_known held rem)) (is : high ≡ at + n.0) where
-  pub next_by : (k : ℕ) → n ≡ (k, false) → IsCut held k → kept ≡ drop n.0 held → Stands false n.1 text high (prepend_known kept rem)
-  next_by k e c rest = rw e (stands_next text at held rem k high kept left c (rw e at is) (rw e at rest))
+  -- or its stream fails
+  pub stops : (over : Bool) (stopped : Option Refused) (why : Refused) (more : List ℕ) (then : Option (List ℕ)) → Stands text over stopped at held left → over ≡ false → stopped ≡ None → (rest : Option (List ℕ)) → Keeps (prepend_known held left) (prepend_known more rest) → Stands text over (Some why) at more then
+  stops true stopped why more then s o n rest k = absurd (cc)
+  stops false None why more then s o n rest k = (rest, left_kept text at (prepend_known held left) (prepend_known more rest) s k)
+  stops false (Some w) why more then s o n rest k = absurd (cc)
 
-  pub last_by : (k : ℕ) → n ≡ (k, true) → k ≡ length held → IsAtEnd rem → (o : Option (List ℕ)) → Stands false n.1 text high o
-  last_by k e long end o = rw e (stands_last text at held rem o high left end ((rw e at is) ∙ ap (λ m. at + m) long))
+  module _ (size : ℕ) where
+    last_is : HasLeft text at (prepend_known held left) → size ≡ length held → IsAtEnd left → IsBlockOf text held at (at + size) × EndsAt text (at + size)
+    last_is h long end = rw long (left_last text at held left h end)
 
-  module _ (block : List ℕ) (taken : block ≡ take n.0 held) where
-    pub block_by : (k : ℕ) → n ≡ (k, false) → IsCut held k → IsBlockOf text block at high
-    block_by k e c =
-        let size : high ≡ at + k = rw e at is in
-        let front : block ≡ take k held = rw e at taken in
-        rw (size, front) (left_block text at held rem k left c)
+    -- a block of it is handed out
+    pub block_by : (over : Bool) (stopped : Option Refused) (b : BlocksView) (last : Bool) (high : ℕ) (block : List ℕ) → Stands text over stopped at held left → over ≡ false → IsNext b size last → b.held ≡ held → b.stopped ≡ stopped → b.left ≡ left → high ≡ at + size → block ≡ take size held → IsBlockOf text block at high
+    block_by over stopped b true high block s o n h t l is taken =
+        let long : size ≡ length held = n.0 ∙ ap length h in
+        let all : block ≡ held = taken ∙ take_all size held (omega (arith, long)) in
+        rw (is, all) (last_is (on_going over stopped s o (sym t ∙ n.1)) long (subst IsAtEnd l n.2)).0
+    block_by over stopped b false high block s o n h t l is taken =
+        let front = has_front over stopped s o in
+        rw (is, taken) (left_block text at held front.0 size front.1 (subst (λ xs. IsCut xs size) h n.1))
 
-    pub end_by : (k : ℕ) → n ≡ (k, true) → k ≡ length held → IsAtEnd rem → IsBlockOf text block at high
-    end_by k e long end =
-        let size : high ≡ at + k = rw e at is in
-        let front : block ≡ take k held = rw e at taken in
-        let all : take k held ≡ held = take_all k held (omega (arith, long)) in
-        rw (size, long, front, all) (left_last text at held rem left end).0
+    pub stands_by : (over : Bool) (stopped : Option Refused) (b : BlocksView) (last : Bool) (high : ℕ) (kept : List ℕ) → Stands text over stopped at held left → over ≡ false → IsNext b size last → b.held ≡ held → b.stopped ≡ stopped → b.left ≡ left → high ≡ at + size → kept ≡ drop size held → Stands text last stopped high kept left
+    stands_by over stopped b true high kept s o n h t l is rest = rw is (last_is (on_going over stopped s o (sym t ∙ n.1)) (n.0 ∙ ap length h) (subst IsAtEnd l n.2)).1
+    stands_by over stopped b false high kept s o n h t l is rest = by over stopped s o
+      where
+        cut : IsCut held size
+        cut = subst (λ xs. IsCut xs size) h n.1
+
+        by : (over : Bool) (stopped : Option Refused) → Stands text over stopped at held left → over ≡ false → Stands text false stopped high kept left
+        by true stopped s o = absurd (cc)
+        by false None s o = rw (is, rest) (left_next text at held left size s cut)
+        by false (Some why) s o = (s.0, rw (is, rest) (left_next text at held s.0 size s.1 cut))
+
+    pub next_within : (b : BlocksView) (last : Bool) → IsNext b size last → b.held ≡ held → size ≤ length held
+    next_within b true n h = omega (arith, n.0, ap length h)
+    next_within b false n h = (subst (λ xs. IsCut xs size) h n.1).0
+
+    pub next_last : (b : BlocksView) (last : Bool) → IsNext b size last → size ≡ 0 → last ≡ true
+    next_last b true n e = refl
+    next_last b false n e = absurd (omega (arith, n.0, e))
+
+    wide_known : (rest : Option (List ℕ)) → HasLeft text at (prepend_known held rest) → size ≤ length held → 2 ^ 64 ≤ at + size → IsWide text
+    wide_known rest h low more = by text rest h
+      where
+        by : (o : Option (List ℕ)) (rest : Option (List ℕ)) → HasLeft o at (prepend_known held rest) → IsWide o
+        by None rest h = tt
+        by (Some t) None h = absurd h
+        by (Some t) (Some r) h =
+            let behind : length (held ++ r) ≡ length (drop at t) = ap length h.0 in
+            omega (arith, behind, length-append held r, length-drop at t, h.1.0, low)
+
+    -- it is too wide
+    pub wide_by : (over : Bool) (stopped : Option Refused) → Stands text over stopped at held left → over ≡ false → size ≤ length held → 2 ^ 64 ≤ at + size → IsWide text
+    wide_by over stopped s o low more = let front = has_front over stopped s o in wide_known front.0 front.1 low more
+
+-- ---- how often its stream failed
+pub stop_counted : {T : Type 0} (place before now then : ℕ) (stopped : Option Refused) (refused told : Refused) (r : Result T Refused) → HasFailed place before now stopped → stopped ≡ None → r ≡ Err refused → CountsOnly (Unreadable 1) r now then
+    → (refused ≡ NoMemory) ⊎ (refused ≡ Unreadable 1)
+    → (refused ≡ NoMemory → told ≡ NoMemory)
+    → (refused ≡ Unreadable 1 → told ≡ Unreadable (number_of place))
+    → HasFailed place before then (Some told)
+stop_counted place before now then (Some why) refused told r h n is counts only memory failed = absurd (cc)
+stop_counted {T} place before now then None refused told r h n is counts (inl e) memory failed =
+    let other : r ≡ Err (Unreadable 1) → ⊥ = λ q. cc in
+    subst (λ w. HasFailed place before then (Some w)) (sym (memory e)) (counts.steady other ∙ h)
+stop_counted place before now then None refused told r h n is counts (inr e) memory failed =
+    subst (λ w. HasFailed place before then (Some w)) (sym (failed e)) (refl, counts.counted (is ∙ ap Err e) ∙ ap one_more h)
+
+pub untaken_by : (feeds : List (Option (List ℕ))) (counts : List ℕ) (place now : ℕ) (why : Refused) → HasFailed place (slice_index counts place) now (Some why) → IsUntaken feeds counts place now why
+untaken_by feeds counts place now NoMemory h = IsUntaken.memory refl
+untaken_by feeds counts place now (Unreadable n) h = IsUntaken.failed (ap Unreadable h.0) h.1
+untaken_by feeds counts place now other h = absurd h
+
+-- before its first block
+pub begins : (known left : Option (List ℕ)) → Keeps (option_map strip_bom known) left → HasLeft (option_map strip_bom known) 0 left
+begins None left k = tt
+begins (Some t) None k = absurd k
+begins (Some t) (Some l) k = (k, (omega arith, refl))
+
+pub begins_nowhere : (text : Option (List ℕ)) → HasLeft text 0 (prepend_known [] text)
+begins_nowhere None = tt
+begins_nowhere (Some t) = (refl, (omega arith, refl))
 
 -- ---- a byte order mark
 pub strip_at : (l : List ℕ) → 3 ≤ length l → strip_bom l ≡ cond (is_bom (get_or l 0 0) (get_or l 1 0) (get_or l 2 0)) (drop 3 l) l

@@ -1,226 +1,230 @@
 //! A feed that is cut into blocks of whole records.
 //!
-//! What lies under a lock is known by its type alone. So the type says which feed it is (`Origin`): what is left of it, and where it
-//! ended, is a fact of each value.
-ghost use Rattle.std.specs.Prelude.{◌≡◌, ◌<◌, ◌≤◌, ℕ, List, [], Option, None, Some, true, false, length, take, drop, option_map, vec_len, IfOk, IfSome, IfNone, OnErr, OnOk, IsTrue};
-ghost use Rattle.std.specs.Io.KnownBytes.{IsAtEnd, Keeps, prepend_known};
-ghost use Rattle.csv.specs.Reading.{is_bom, strip_bom};
-ghost use Rattle.fkv_blocks.specs.Cutting.{IsCut};
-ghost use Rattle.fkv_blocks.specs.Left.{EndsAt, HasLeft, IsBlockOf, Stands};
+//! What lies under a lock is known by its type alone. So the type says which feeds there are (`Origin`), and a value which of them it
+//! is: what is left of it, where it ended, and whether its stream failed, is a fact of each value.
+ghost use Rattle.std.specs.Prelude.{◌≡◌, ◌≤◌, ◌+◌, ◌-◌, ◌^◌, ℕ, List, [], Option, None, Some, false, true, length, slice_index, slice_index_or, IfOk, IfErr, IfSome, IfNone, OnErr, IsSome};
+ghost use Rattle.fkv_streams.specs.Counting.{one_more};
+ghost use Rattle.fkv_blocks.specs.Left.{EndsAt, HasFailed, IsBlockOf, IsNext, IsUntaken, IsWide, number_of, text_at};
 
 use crate::cutting::record_end;
+use crate::filling::{begun, next_cut, split};
 use fkv_functions::Refused;
 use fkv_streams::Source;
 use std::alloc::Global;
 use std::marker::{Brand, Model, PhantomData};
-use std::mem;
 use std::sync::{Mutex, Wait};
 
-/// Which feed it is.
+/// Which feeds there are.
 pub trait Origin {
-    /// Its bytes, where they are known.
-    ghost bytes: { Option (List ℕ) };
+    /// The bytes of each, where they are known.
+    ghost feeds: { List (Option (List ℕ)) };
+
+    /// How often the stream of each had failed before it was read.
+    ghost counts: { List ℕ };
 }
 
 impl Origin for Brand {
-    ghost bytes = { None };
+    ghost feeds = { [] };
+
+    ghost counts = { [] };
 }
 
-/// Where a block lies in its feed.
+/// Where a block lies: the place of its feed, counted from 0, and where it begins and ends there, behind a byte order mark.
 #[derive(Clone, Copy, PartialEq, Eq, Debug)]
 pub struct Place {
+    pub feed: usize,
     pub low: u64,
     pub high: u64,
 }
 
-/// Reads on until so many bytes are held, or to the end, and tells whether it came to the end.
-fn fill<S: Source>(source: &mut S, held: &mut Vec<u8>, size: usize) -> Result<bool, Refused>
-    ensures keeps { OnOk result (Keeps (prepend_known held.old.items (S.remaining source.old)) (prepend_known held.new.items (S.remaining source.new))) }
-    ensures over { IfOk result (λ over. IsTrue over → IsAtEnd (S.remaining source.new)) }
-    ensures full { IfOk result (λ over. over ≡ false → size ≤ vec_len held.new) }
-{
-    let mut buffer = [0u8; 8192];
-    while held.len() < size {
-        let read = match source.read(&mut buffer) {
-            Ok(0) => return Ok(true),
-            Ok(read) => read,
-            Err(refused) => return Err(refused),
-        };
-        let Ok(()) = held.extend_from_slice(&buffer[..read]) else {
-            return Err(Refused::NoMemory);
-        };
-    }
-    Ok(false)
+/// How many of the bytes that are held make the next block, and whether it is the last.
+#[derive(Clone, Copy, PartialEq, Eq, Debug)]
+struct Cut {
+    size: usize,
+    is_last: bool,
 }
 
-/// How many bytes are held at least before a block is cut.
-const SIZE: usize = 262_144;
-
-/// Reads on until what is held has the end of a record in it, behind which it may be cut, or to the end of all: then there is no such
-/// place.
-fn next_cut<S: Source>(source: &mut S, held: &mut Vec<u8>) -> Result<Option<usize>, Refused>
-    ensures keeps { OnOk result (Keeps (prepend_known held.old.items (S.remaining source.old)) (prepend_known held.new.items (S.remaining source.new))) }
-    ensures cut { IfOk result (λ found. IfSome found (λ n. (0 < n) × IsCut held.new.items n)) }
-    ensures end { IfOk result (λ found. IfNone found (IsAtEnd (S.remaining source.new))) }
+/// Why a feed is read no more, by its number, counted from 1.
+fn named(refused: Refused, place: usize) -> Refused
+    ensures memory { refused ≡ Refused.NoMemory → result ≡ Refused.NoMemory }
+    ensures failed { refused ≡ Refused.Unreadable 1 → result ≡ Refused.Unreadable (number_of place) }
 {
-    let mut size = SIZE;
-    for _doubling in 0..40 {
-        match fill(source, held, size) {
-            Ok(true) => return Ok(None),
-            Ok(false) => {}
-            Err(refused) => return Err(refused),
-        }
-        match record_end(held.as_slice()) {
-            Some(n) => return Ok(Some(n)),
-            None => {}
-        }
-        size = size.saturating_mul(2);
+    match refused {
+        Refused::Unreadable { .. } => Refused::Unreadable {
+            number: number(place),
+        },
+        other => other,
     }
-    Err(Refused::NoMemory)
 }
 
-/// Hands over the first n bytes that are held.
-fn split(held: &mut Vec<u8>, block: &mut Vec<u8>, n: usize) -> Result<(), Refused>
-    requires { n ≤ vec_len held.old }
-    ensures block { OnOk result (block.new.items ≡ take n held.old.items) }
-    ensures held { OnOk result (held.new.items ≡ drop n held.old.items) }
+/// The number of a feed, counted from 1.
+pub fn number(place: usize) -> u64
+    ensures { result ≡ number_of place }
 {
-    block.clear();
-    let Ok(()) = block.extend_from_slice(&held[n..]) else {
-        return Err(Refused::NoMemory);
-    };
-    mem::swap(held, block);
-    block.truncate(n);
-    Ok(())
-}
-
-/// Whether these bytes are a byte order mark.
-fn is_mark(a: u8, b: u8, c: u8) -> bool
-    ensures { result ≡ is_bom a b c }
-{
-    a == 0xEF && b == 0xBB && c == 0xBF
-}
-
-/// What stands behind a byte order mark, if there is one.
-fn behind_mark(bytes: &[u8]) -> &[u8]
-    ensures { result.now ≡ strip_bom bytes.now }
-{
-    if bytes.len() < 3 {
-        return bytes;
-    }
-    if is_mark(bytes[0], bytes[1], bytes[2]) {
-        return &bytes[3..];
-    }
-    bytes
-}
-
-/// The first bytes of a source, without a byte order mark: three at least, or all.
-fn begun<S: Source>(alloc: Global, source: &mut S) -> Result<Vec<u8>, Refused>
-    ensures { IfOk result (λ held. Keeps (option_map strip_bom (S.remaining source.old)) (prepend_known held.items (S.remaining source.new))) }
-{
-    let mut front = Vec::new(alloc);
-    match fill(source, &mut front, 3) {
-        Ok(_over) => {}
-        Err(refused) => return Err(refused),
-    }
-    let mut held = Vec::new(alloc);
-    let Ok(()) = held.extend_from_slice(behind_mark(front.as_slice())) else {
-        return Err(Refused::NoMemory);
-    };
-    Ok(held)
+    (place as u64).saturating_add(1)
 }
 
 /// A feed in blocks, as far as it was read.
 #[derive(Drop)]
 pub struct Blocks<S: Source, B: Origin> {
     source: S,
+    place: usize,
+    /// How many bytes are held at least before a block is cut.
+    size: usize,
     held: Vec<u8>,
     at: u64,
     over: bool,
-    failed: bool,
+    stopped: Option<Refused>,
     of: PhantomData<B>,
 }
 
 impl<S: Source, B: Origin> Model for Blocks<S, B> {
-    ghost use Rattle.std.specs.Prelude.{Bool, ℕ, option_map};
-    ghost use Rattle.std.specs.Io.KnownBytes.{prepend_known};
-    ghost use Rattle.csv.specs.Reading.{strip_bom};
-    ghost use Rattle.fkv_blocks.specs.Left.{Stands};
+    ghost use Rattle.fkv_blocks.specs.Left.{BlocksView, IsOneOf};
 
-    ghost Value = { Bool × Bool × ℕ };
+    ghost Value = { BlocksView };
 
-    ghost view = { λ b. (b.failed, b.over, b.at) };
+    ghost view = { λ b. record {
+      place = b.place;
+      at = b.at;
+      over = b.over;
+      stopped = b.stopped;
+      held = b.held.items;
+      left = S.remaining b.source;
+      failures = S.failures b.source;
+    } };
 
-    ghost invariant = { λ b. Stands b.failed b.over (option_map strip_bom B.bytes) b.at (prepend_known b.held.items (S.remaining b.source)) };
+    ghost invariant = { λ b. IsOneOf B.feeds B.counts (record {
+      place = b.place;
+      at = b.at;
+      over = b.over;
+      stopped = b.stopped;
+      held = b.held.items;
+      left = S.remaining b.source;
+      failures = S.failures b.source;
+    }) };
 }
 
 impl<S: Source, B: Origin> Blocks<S, B> {
-    /// A feed before its first block. Where its first bytes are not read it has failed, and has none.
-    pub fn begin(alloc: Global, source: S) -> Blocks<S, B>
-        requires { S.remaining source ≡ B.bytes }
+    /// The feed at a place before its first block, of blocks of so many bytes at least. A byte order mark at its front is dropped. Where
+    /// its first bytes are not read, that is told as its first block is taken.
+    pub fn begin(alloc: Global, source: S, place: usize, size: usize) -> Blocks<S, B>
+        requires bytes { S.remaining source ≡ slice_index_or B.feeds place None }
+        requires counted { S.failures source ≡ slice_index B.counts place }
+        ensures place { result.place ≡ place }
     {
         let mut source = source;
-        let (held, failed) = match begun(alloc, &mut source) {
-            Ok(held) => (held, false),
-            Err(_) => (Vec::new(alloc), true),
+        let (held, stopped) = match begun(alloc, &mut source) {
+            Ok(held) => (held, None),
+            Err(refused) => (Vec::new(alloc), Some(named(refused, place))),
         };
         Blocks {
             source,
+            place,
+            size,
             held,
             at: 0,
             over: false,
-            failed,
+            stopped,
             of: PhantomData,
         }
     }
 
-    /// Hands over the next block, and tells where it lies; none where the feed is over.
-    ///
-    /// # Errors
-    ///
-    /// As the stream is refused, `Unreadable` beyond 2^64 bytes, and `NoMemory`. Then there is no block any more.
-    pub fn take(&mut self, block: &mut Vec<u8>) -> Result<Option<Place>, Refused>
-        ensures given { IfOk result (λ found. IfSome found
-            (λ p. IsBlockOf (option_map strip_bom B.bytes) block.new.items p.low p.high)) }
-        ensures over { IfOk result (λ found. IfNone found ((self.new.0 ≡ false) × (self.new.1 ≡ true))) }
+    /// Where the next block ends among the bytes that are held, which are read on for it. Once no more is read, what is held is still cut.
+    /// Refused by what stopped the reading, once no whole record is held.
+    fn next(&mut self) -> Result<Cut, Refused>
+        requires { self.old.over ≡ false }
+        ensures ok { IfOk result (λ cut. IsNext self.new cut.size cut.is_last) }
+        ensures stays { self.new ≡ record self.old {
+          stopped = self.new.stopped;
+          held = self.new.held;
+          left = self.new.left;
+          failures = self.new.failures;
+        } }
+        ensures told { IfErr result (λ why. HasFailed self.new.place (slice_index B.counts self.new.place) self.new.failures (Some why)) }
     {
-        if self.failed {
-            return Err(Refused::Unreadable { number: 1 });
+        if self.stopped.is_none() {
+            match next_cut(&mut self.source, &mut self.held, self.size) {
+                Ok(Some(size)) => return Ok(Cut {
+                    size,
+                    is_last: false,
+                }),
+                Ok(None) => return Ok(Cut {
+                    size: self.held.len(),
+                    is_last: true,
+                }),
+                Err(refused) => self.stopped = Some(named(refused, self.place)),
+            }
         }
-        if self.over {
-            return Ok(None);
+        match (record_end(self.held.as_slice()), self.stopped) {
+            (Some(size), _) => Ok(Cut {
+                size,
+                is_last: false,
+            }),
+            (None, Some(refused)) => Err(refused),
+            (None, None) => unreachable!(),
         }
-        self.failed = true;
-        let cut = match next_cut(&mut self.source, &mut self.held) {
-            Ok(cut) => cut,
-            Err(refused) => return Err(refused),
-        };
-        let (n, over) = match cut {
-            Some(n) => (n, false),
-            None => (self.held.len(), true),
-        };
+    }
+
+    /// Hands out so many of the bytes that are held, and tells where they lie; none where there are none and the feed is over.
+    fn hand_out(&mut self, cut: Cut, block: &mut Vec<u8>) -> Result<Option<Place>, Refused>
+        requires on { self.old.over ≡ false }
+        requires next { IsNext self.old cut.size cut.is_last }
+        ensures given { IfOk result (λ found. IfSome found (λ p. (p.feed ≡ self.old.place)
+            × IsBlockOf (text_at B.feeds p.feed) block.new.items p.low p.high)) }
+        ensures over { IfOk result (λ found. IfNone found (self.new.over ≡ true)) }
+        ensures told { IfErr result (IsUntaken B.feeds B.counts self.new.place self.new.failures) }
+        ensures place { self.new.place ≡ self.old.place }
+    {
         let low = self.at;
-        let Some(high) = low.checked_add(n as u64) else {
-            return Err(Refused::Unreadable { number: 1 });
+        let Some(high) = low.checked_add(cut.size as u64) else {
+            return Err(Refused::Unreadable {
+                number: number(self.place),
+            });
         };
-        match split(&mut self.held, block, n) {
+        match split(&mut self.held, block, cut.size) {
             Ok(()) => {}
             Err(refused) => return Err(refused),
         }
         self.at = high;
-        self.over = over;
-        self.failed = false;
-        if n == 0 {
+        self.over = cut.is_last;
+        if cut.size == 0 {
             return Ok(None);
         }
-        Ok(Some(Place { low, high }))
+        Ok(Some(Place {
+            feed: self.place,
+            low,
+            high,
+        }))
+    }
+
+    /// Hands out the next block, and tells where it lies; none where the feed is over. Where its stream fails, the whole records that
+    /// were read by then are handed out first.
+    ///
+    /// # Errors
+    ///
+    /// `NoMemory`; `Unreadable` with the feed's number where its stream failed, or where it has 2^64 bytes or more.
+    pub fn take(&mut self, block: &mut Vec<u8>) -> Result<Option<Place>, Refused>
+        ensures given { IfOk result (λ found. IfSome found (λ p. (p.feed ≡ self.old.place)
+            × IsBlockOf (text_at B.feeds p.feed) block.new.items p.low p.high)) }
+        ensures over { IfOk result (λ found. IfNone found (self.new.over ≡ true)) }
+        ensures told { IfErr result (IsUntaken B.feeds B.counts self.new.place self.new.failures) }
+        ensures place { self.new.place ≡ self.old.place }
+    {
+        if self.over {
+            return Ok(None);
+        }
+        let cut = match self.next() {
+            Ok(cut) => cut,
+            Err(refused) => return Err(refused),
+        };
+        self.hand_out(cut, block)
     }
 
     /// Where a feed that is over ended.
     pub fn end(&self) -> Option<u64>
-        ensures { IfSome result (EndsAt (option_map strip_bom B.bytes)) }
+        ensures { IfSome result (EndsAt (text_at B.feeds self.now.place)) }
     {
-        if self.failed || !self.over {
+        if !self.over {
             return None;
         }
         Some(self.at)
@@ -237,8 +241,9 @@ pub fn take_block<S: Source, B: Origin>(
     blocks: &Mutex<Blocks<S, B>>,
     block: &mut Vec<u8>,
 ) -> Result<Option<Place>, Refused>
-    ensures { IfOk result (λ found. IfSome found
-        (λ p. IsBlockOf (option_map strip_bom B.bytes) block.new.items p.low p.high)) }
+    ensures given { IfOk result (λ found. IfSome found
+        (λ p. IsBlockOf (text_at B.feeds p.feed) block.new.items p.low p.high)) }
+    ensures told { IfErr result (λ why. (place failures : ℕ) × IsUntaken B.feeds B.counts place failures why) }
 {
     blocks.lock(rt).take(block)
 }

@@ -8,6 +8,7 @@
 pub mod blocks;
 pub mod bytes;
 pub mod cutting;
+mod filling;
 pub mod laws;
 pub mod reading;
 pub mod spans;
@@ -15,4 +16,5 @@ pub mod spans;
 pub use blocks::{Blocks, Origin, Place, take_block};
 pub use bytes::BlockSource;
 pub use cutting::record_end;
-pub use spans::{Span, chains};
+pub use reading::read_blocks;
+pub use spans::{Span, Ticket, chains};

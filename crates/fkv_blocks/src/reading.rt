@@ -1,14 +1,14 @@
 //! Reading blocks into what takes their rows.
-ghost use Rattle.std.specs.Prelude.{◌≡◌, ◌⊎◌, ◌++◌, [], ℤ, List, length, option_map, flat_map, IfOk, IfErr, OnOk};
+ghost use Rattle.std.specs.Prelude.{◌≡◌, ◌⊎◌, ◌++◌, ℕ, ℤ, List, length, flat_map, IfOk, IfErr};
 ghost use Rattle.std.specs.List.{AllZip};
-ghost use Rattle.csv.specs.Reading.{strip_bom};
 ghost use Rattle.fkv_functions.specs.declared.names.Name.{Name};
 ghost use Rattle.fkv_feed_rows.specs.Feeds.{AreRowsOf};
-ghost use Rattle.fkv_blocks.specs.Shares.{AreRowsAt, TellsBlock};
+ghost use Rattle.fkv_blocks.specs.Left.{IsUntaken};
+ghost use Rattle.fkv_blocks.specs.Shares.{AreRowsIn, IsBadBlock, TellsBlock};
 
-use crate::blocks::{Blocks, Origin, Place, take_block};
+use crate::blocks::{Blocks, Origin, Place, number, take_block};
 use crate::bytes::BlockSource;
-use crate::spans::Span;
+use crate::spans::{Span, Ticket};
 use fkv_feed_rows::{RowSink, read_feed};
 use fkv_functions::Refused;
 use fkv_streams::Source;
@@ -38,35 +38,37 @@ fn read_block<K: RowSink>(
 ///
 /// # Errors
 ///
-/// As a block is taken, as it is read, with the row's number in its block, and `NoMemory`.
+/// As a block is taken; `BadRow` with the feed's number, and the row's number in its block; `Unreadable` with the feed's number where a
+/// block has more records than `limit`; as the sink refuses a row; and `NoMemory`.
 pub fn read_blocks<S: Source, B: Origin, K: RowSink>(
     rt: &impl Wait,
     alloc: Global,
     feed: &Mutex<Blocks<S, B>>,
-    number: u64,
     limit: u64,
     sink: &mut K,
-) -> Result<Vec<Span>, Refused>
+) -> Result<Vec<Ticket>, Refused>
     requires { (rows : List (Name × ℤ)) × K.stands sink.old rows }
-    ensures ok { IfOk result (λ spans. (before : List (Name × ℤ)) → K.stands sink.old before
-        → (parts : List (List (Name × ℤ))) × AllZip (AreRowsAt (option_map strip_bom B.bytes)) spans.items parts
+    ensures ok { IfOk result (λ tickets. (before : List (Name × ℤ)) → K.stands sink.old before
+        → (parts : List (List (Name × ℤ))) × AllZip (AreRowsIn B.feeds) tickets.items parts
         × K.stands sink.new (before ++ flat_map (λ part. part) parts)) }
+    ensures told { IfErr result (λ e. (e ≡ Refused.NoMemory) ⊎ K.fault e ⊎ IsBadBlock B.feeds limit e
+        ⊎ ((place failures : ℕ) × IsUntaken B.feeds B.counts place failures e)) }
 {
-    let mut spans = Vec::new(alloc);
+    let mut tickets = Vec::new(alloc);
     let mut block = Vec::new(alloc);
     for _ in rt.forever() {
         let place = match take_block(rt, feed, &mut block) {
             Ok(Some(place)) => place,
-            Ok(None) => return Ok(spans),
+            Ok(None) => return Ok(tickets),
             Err(refused) => return Err(refused),
         };
-        let records = match read_block(alloc, block.as_slice(), number, limit, sink) {
+        let Place { feed, low, high } = place;
+        let records = match read_block(alloc, block.as_slice(), number(feed), limit, sink) {
             Ok(records) => records,
             Err(refused) => return Err(refused),
         };
-        let Place { low, high } = place;
         let span = Span { low, high, records };
-        let Ok(()) = spans.push(span) else {
+        let Ok(()) = tickets.push(Ticket { feed, span }) else {
             return Err(Refused::NoMemory);
         };
     }

@@ -10,6 +10,13 @@ pub struct Span {
     pub records: u64,
 }
 
+/// A block of a feed that was read: the place of the feed, counted from 0, and what was read of it.
+#[derive(Clone, Copy, PartialEq, Eq, Debug)]
+pub struct Ticket {
+    pub feed: usize,
+    pub span: Span,
+}
+
 /// Whether these lie one behind another, from the start up to this place.
 pub fn chains(spans: &[Span], high: u64) -> bool
     ensures { IsTrue result ↔ Chains 0 spans.now high }
