@@ -1,0 +1,6 @@
+pub mod StepLemmas
+pub mod CutLemmas
+pub mod ScanLemmas
+pub mod SpanLemmas
+pub mod LeftLemmas
+pub mod ShareLemmas

@@ -1,0 +1,5 @@
+pub mod Cutting
+pub mod Standing
+pub mod Spans
+pub mod Left
+pub mod Shares

@@ -1,0 +1,5 @@
+//! Tests of blocks, as rows.
+#![tactic(auto)]
+
+#[cfg(test)]
+mod cuts;
