@@ -36,7 +36,7 @@ use Rattle.fkv_lookups.specs.RecordsViews.{RecordsView, IsFull}
 use Rattle.fkv_local.specs.Moving.{IsTidied, IsSameLog, StaysSettled, IsMoveRefusal}
 use Rattle.fkv_local.proofs.RoomLemmas.{log-then, log-words}
 use Rattle.fkv_local.specs.Storing.{Runs}
-use Rattle.fkv_local.specs.Failures.{Failures, failures_of, IsBeside}
+use Rattle.fkv_local.specs.Failures.{failures_of, IsBeside}
 use Rattle.fkv_local.specs.Refusing.{IsWorkRefusal, IsStopped, IsRefusedBy}
 use Rattle.fkv_local.proofs.WorkLemmas.{both, same-both, move-work, worn-work}
 
@@ -195,13 +195,13 @@ pub record IsLeft {K V I : Type 0} (keeps merges : Bool) (cmp : K → K → Orde
   pub why : IsStopped keeps merges op w.core.records.tail clock (both writes reads) (both writes_now reads_now) e
 
 -- of the records of an operation that is given up the words of the index alone may be others
-words-as : {K V : Type 0} {v w x : RecordsView K V} → w ≡ x → x ≡ record v { words = x.words } → w ≡ record v { words = w.words }
-words-as {K} {V} {v} e h = subst (λ (r : RecordsView K V). r ≡ record v { words = r.words }) (sym e) h
+words-as : {K V : Type 0} (v : RecordsView K V) {w x : RecordsView K V} → w ≡ x → x ≡ record v { words = x.words } → w ≡ record v { words = w.words }
+words-as {K} {V} v e h = subst (λ (r : RecordsView K V). r ≡ record v { words = r.words }) (sym e) h
 
 given-words : {K V I : Type 0} {v w : CoreView K V I} {slot c now : ℕ} {r : Result (Unit {0}) Refused} → GivesUp v w slot c now r → w.records ≡ record v.records { words = w.records.words }
-given-words {K} {V} {I} (GivesUp.unknown n s q) = words-as (ap (λ (x : CoreView K V I). x.records) s) refl
-given-words {K} {V} {I} (GivesUp.gives_up x a b d q) = words-as (ap (λ (x : CoreView K V I). x.records) d) refl
-given-words {K} {V} {I} (GivesUp.cancels x p a b d q) = words-as (ap (λ (x : CoreView K V I). x.records) d) refl
+given-words {K} {V} {I} {v} (GivesUp.unknown n s q) = words-as v.records (ap (λ (x : CoreView K V I). x.records) s) refl
+given-words {K} {V} {I} {v} (GivesUp.gives_up x a b d q) = words-as v.records (ap (λ (x : CoreView K V I). x.records) d) refl
+given-words {K} {V} {I} {v} (GivesUp.cancels x p a b d q) = words-as v.records (ap (λ (x : CoreView K V I). x.records) d) refl
 
 -- the words of the index play no part in it
 full-before : {K V : Type 0} (v w : RecordsView K V) → w ≡ record v { words = w.words } → IsFull w → IsFull v
@@ -290,7 +290,7 @@ module _ {K V I O R : Type 0} {keeps : Bool} {cmp : K → K → Ordering} {join 
 
     -- and leaves the log as it was
     pub wait-log : {why : Wait} {x : PartitionView K V I} {m : ℕ} {r : Result (Unit {0}) Refused} → Ends {O = O} {R = R} keeps cmp join f code op v w 0 (2 ^ 64 - 1) start end before after_ (Ok (Waits why)) → GivesUp w.core x.core 0 0 m r → IsSameLog keeps v x
-    wait-log ends gives = log-then (log-words (waited ends).open_is.records) (log-words (given-words gives))
+    wait-log {why} {x} ends gives = log-then {v = w} (log-words {v = v} {w = w} (waited ends).open_is.records) (log-words {v = w} {w = x} (given-words gives))
 
     pub wait-given_up : {why : Wait} {x : PartitionView K V I} {m : ℕ} {r : Result (Unit {0}) Refused} → Ends {O = O} {R = R} keeps cmp join f code op v w 0 (2 ^ 64 - 1) start end before after_ (Ok (Waits why)) → GivesUp w.core x.core 0 0 m r → OnOk r (IsGiveUp w.core x.core 0 0 m) → IsPassedOn w x → StaysIdle keeps cmp u x
     wait-given_up {why} {x} {m} {r} ends gives event passed =

@@ -1,7 +1,6 @@
 -- Lists of live pairs, a partition at a time, and the readers that they need.
-use Rattle.std.proofs.Common.{◌≡◌, ◌≢◌, ◌<◌, ◌+◌, ◌-◌, ℕ, zero, suc, Bool, inl, inr, List, [], ◌∷◌, length, map, take, drop, Option, Some, None, slice_get, slice_set, refl, sym, ◌∙◌, ap, subst, arith}
+use Rattle.std.proofs.Common.{◌≡◌, ◌≢◌, ◌+◌, ◌-◌, ℕ, zero, suc, Bool, List, [], ◌∷◌, length, map, take, drop, Some, None, slice_get, slice_set, refl, sym, ◌∙◌, ap, subst, arith}
 use Rattle.std.proofs.lemmas.List.{take-map, take-set, length-map, length-set}
-use Rattle.std.proofs.lemmas.Option.{slice_get_within}
 use Rattle.std.specs.declared.cmp.Ordering.{Ordering}
 use Rattle.fkv_functions.specs.Plain.{PlainMap}
 use Rattle.fkv_functions.specs.declared.refusals.Refused.{Refused}
@@ -11,7 +10,7 @@ use Rattle.fkv_records.specs.Places.{page_at}
 use Rattle.fkv_partition.specs.CoreViews.{partition_of, live_of}
 use Rattle.fkv_partition.specs.Unions.{live_at}
 use Rattle.fkv_partition.specs.Views.{PartitionView}
-use Rattle.fkv_local.specs.Listing.{ListsView, AreLeft, IsNextList, IsUnlistedAt, behind_next, left}
+use Rattle.fkv_local.specs.Listing.{ListsView, AreLeft, IsNextList, IsUnlistedAt, behind_next}
 use Rattle.fkv_local.specs.Resting.{AreAtRest}
 use Rattle.fkv_local.proofs.PartLemmas.{view-get, view-set, view-same}
 

@@ -1,20 +1,18 @@
 -- Pages keep their size, and neither Head nor what is cleared falls; so what had left memory is given back.
-use Rattle.std.proofs.Common.{◌≡◌, ◌<◌, ◌≤◌, ◌^◌, ◌*◌, ◌/◌, Bool, ℕ, List, Some, None, Result, Ok, Err, OnOk, OnErr, IfOk, IfErr, inl, inr, ◌⊎◌, min, refl, sym, ◌∙◌, ap, subst, arith}
+use Rattle.std.proofs.Common.{◌≡◌, ◌<◌, ◌≤◌, ◌^◌, Bool, ℕ, List, Some, None, Result, Ok, Err, OnOk, OnErr, IfOk, IfErr, inl, inr, ◌⊎◌, min, refl, sym, ◌∙◌, ap, subst, arith}
 use Rattle.std.proofs.Math.Nat.{le-div_iff_mul-le, le-min, min-le_left, min-le_right}
 use Rattle.std.proofs.lemmas.Bool.{cases_lt}
 use Rattle.std.proofs.lemmas.Nat.{pow_pos}
 use Rattle.std.specs.declared.cmp.Ordering.{Ordering}
 use Rattle.fkv_functions.specs.declared.refusals.Refused.{Refused}
-use Rattle.fkv_functions.specs.declared.refusals.Refused.TheVariants.{NotDue}
 use Rattle.fkv_records.specs.Places.{page_at, start_at}
 use Rattle.fkv_device.specs.Standing.{Standing}
-use Rattle.fkv_regions.specs.declared.offsets.Offsets.{Offsets}
 use Rattle.fkv_regions.specs.RegionsView.{RegionsView, refreshed, with_read_only, with_head, IsHeadDue}
 use Rattle.fkv_epoch.specs.Due.{due}
 use Rattle.fkv_epoch.specs.declared.actions.Action.TheVariants.{Safe, Closed}
 use Rattle.fkv_epoch.specs.Moves.{renewed, bumped}
 use Rattle.fkv_regions.proofs.OffsetLemmas.{head-ran, start-below, starts-rise}
-use Rattle.fkv_lookups.specs.RecordsViews.{RecordsView, IsTruncationDue}
+use Rattle.fkv_lookups.specs.RecordsViews.{RecordsView}
 use Rattle.fkv_partition.specs.CoreViews.{CoreView, MovesTo}
 use Rattle.fkv_partition.specs.CoreLooking as looking
 use Rattle.fkv_partition.specs.CoreFlushing as flushing

@@ -1,5 +1,5 @@
 -- Once pages have moved on, there is room for a record.
-use Rattle.std.proofs.Common.{◌≡◌, ◌<◌, ◌≤◌, ◌+◌, ◌-◌, ◌*◌, ◌/◌, ◌^◌, inl, inr, Bool, true, false, ℕ, List, [], Result, Ok, Err, OnOk, length, refl, sym, ◌∙◌, ap, subst, arith}
+use Rattle.std.proofs.Common.{◌≡◌, ◌<◌, ◌≤◌, ◌+◌, ◌-◌, ◌*◌, ◌/◌, ◌^◌, inl, inr, Bool, true, false, ℕ, List, [], Result, length, refl, sym, ◌∙◌, ap, subst, arith}
 use Rattle.std.proofs.Math.Nat.{le-div_iff_mul-le, div-mul-le_self}
 use Rattle.std.proofs.lemmas.Bool.{cases_lt}
 use Rattle.std.proofs.lemmas.Nat.{pow_pos}
@@ -7,7 +7,6 @@ use Rattle.fkv_functions.specs.declared.refusals.Refused.{Refused}
 use Rattle.fkv_records.specs.Places.{page_at, start_at}
 use Rattle.fkv_epoch.specs.Due.{due}
 use Rattle.fkv_epoch.specs.declared.actions.Action.TheVariants.{Safe, Closed}
-use Rattle.fkv_epoch.specs.declared.actions.Waiting.{Waiting}
 use Rattle.fkv_epoch.specs.Moves.{renewed, bumped}
 use Rattle.fkv_regions.specs.RegionsView.{RegionsView, refreshed, with_read_only, with_head}
 use Rattle.fkv_regions.specs.Settled.{IsSettled}
@@ -52,23 +51,26 @@ module _ {K V I : Type 0} {keeps : Bool} where
     entries = m.moves.entries;
   }
 
-  -- on any device, where only the words of the index and the receipts may be others
-  log-of : {v w : PartitionView K V I} → (r : RecordsView K V) → w.core.records ≡ r → IsSameLog keeps v (record w { core = record w.core { records = r } }) → IsSameLog keeps v w
-  log-of r is h = record {
-    page_bits = ap (λ (r : RecordsView K V). r.page_bits) is ∙ h.page_bits;
-    tail = ap (λ (r : RecordsView K V). r.tail) is ∙ h.tail;
-    frames = ap (λ (r : RecordsView K V). r.frames) is ∙ h.frames;
-    partition_bits = ap (λ (r : RecordsView K V). r.partition_bits) is ∙ h.partition_bits;
-    bucket_bits = ap (λ (r : RecordsView K V). r.bucket_bits) is ∙ h.bucket_bits;
-    entries = λ k. ap (λ (r : RecordsView K V). r.entries) is ∙ h.entries k;
-  }
-
   log-core : {v w : PartitionView K V I} → w.core ≡ v.core → IsSameLog keeps v w
-  log-core {v} same = log-of v.core.records (ap (λ (c : CoreView K V I). c.records) same) log-same
+  log-core same = record {
+    page_bits = ap (λ (c : CoreView K V I). c.records.page_bits) same;
+    tail = ap (λ (c : CoreView K V I). c.records.tail) same;
+    frames = ap (λ (c : CoreView K V I). c.records.frames) same;
+    partition_bits = ap (λ (c : CoreView K V I). c.records.partition_bits) same;
+    bucket_bits = ap (λ (c : CoreView K V I). c.records.bucket_bits) same;
+    entries = λ k. ap (λ (c : CoreView K V I). c.records.entries) same;
+  }
 
   -- the words of the index play no part in it
   pub log-words : {v w : PartitionView K V I} → w.core.records ≡ record v.core.records { words = w.core.records.words } → IsSameLog keeps v w
-  log-words {v} {w} is = log-of (record v.core.records { words = w.core.records.words }) is log-same
+  log-words is = record {
+    page_bits = ap (λ (r : RecordsView K V). r.page_bits) is;
+    tail = ap (λ (r : RecordsView K V). r.tail) is;
+    frames = ap (λ (r : RecordsView K V). r.frames) is;
+    partition_bits = ap (λ (r : RecordsView K V). r.partition_bits) is;
+    bucket_bits = ap (λ (r : RecordsView K V). r.bucket_bits) is;
+    entries = λ k. ap (λ (r : RecordsView K V). r.entries) is;
+  }
 
 module _ {K V I : Type 0} {keeps : Bool} where
   regions-to : {regions : RegionsView} {v w : CoreView K V I} {now : ℕ} → MovesTo keeps regions v w now → w.records.regions ≡ regions

@@ -1,5 +1,5 @@
 -- A session that has seen all waits for room alone.
-use Rattle.std.proofs.Common.{◌≡◌, ◌≢◌, Bool, true, false, cond, ℕ, Option, Some, None, nat_lt, refl, sym, ap, subst}
+use Rattle.std.proofs.Common.{◌≡◌, Bool, true, false, cond, ℕ, Option, Some, None, nat_lt, refl, subst}
 use Rattle.std.specs.declared.cmp.Ordering.{Ordering}
 use Rattle.fkv_functions.specs.Meanings.{Meanings}
 use Rattle.fkv_texts.specs.declared.entries.ChainPosition.{ChainPosition}
@@ -8,10 +8,9 @@ use Rattle.fkv_regions.specs.declared.offsets.View.{View}
 use Rattle.fkv_regions.specs.Offsets.{region_of}
 use Rattle.fkv_operations.specs.declared.operations.KeyedOp.{KeyedOp}
 use Rattle.fkv_operations.specs.declared.operations.KeyedOp.TheVariants.{Read, Upsert, Rmw, Delete, Merge}
-use Rattle.fkv_lookups.specs.RecordsViews.{RecordsView, IsFull}
-use Rattle.fkv_lookups.specs.Decisions.{met_in, met_last, met_on, met_by, replaced, parted, merged, decision}
-use Rattle.fkv_lookups.specs.Meeting.{met_from, met_at}
-use Rattle.fkv_lookups.specs.declared.chain_results.ChainResult.{ChainResult}
+use Rattle.fkv_lookups.specs.RecordsViews.{IsFull}
+use Rattle.fkv_lookups.specs.Decisions.{met_in, met_last, met_on, replaced, parted, merged, decision}
+use Rattle.fkv_lookups.specs.Meeting.{met_from}
 use Rattle.fkv_lookups.specs.declared.decisions.LookupResult.{LookupResult}
 use Rattle.fkv_lookups.specs.declared.decisions.LookupResult.TheVariants.{NoEntry, NoValue, ReadOnly, Fuzzy, Mutable, OnDisk}
 use Rattle.fkv_lookups.specs.declared.decisions.Decision.{Decision}

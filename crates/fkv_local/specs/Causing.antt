@@ -1,5 +1,5 @@
 -- Which refusals a device has to be able to cause.
-use Rattle.std.specs.Prelude.{◌≡◌, ◌⊎◌, ℕ, Bool, true, false, ⊤}
+use Rattle.std.specs.Prelude.{◌≡◌, ◌⊎◌, Bool, true, false, ⊤}
 use Rattle.fkv_functions.specs.declared.refusals.Refused.{Refused}
 use Rattle.fkv_functions.specs.declared.refusals.Refused.TheVariants.{NoMemory, Worn, NoMerge, Device, Damaged}
 use Rattle.fkv_operations.specs.After.{is_merge}

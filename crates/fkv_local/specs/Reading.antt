@@ -1,6 +1,5 @@
 -- How many pages an operation reads.
 use Rattle.std.specs.Prelude.{◌≡◌, ◌≢◌, ◌≤◌, ◌+◌, ◌*◌, ℕ, Some, length, filter, slice_get}
-use Rattle.fkv_texts.specs.declared.entries.Entry.{Entry}
 use Rattle.fkv_operations.specs.Classes.{same_class}
 use Rattle.fkv_operations.specs.After.{key_of}
 use Rattle.fkv_operations.specs.declared.operations.KeyedOp.{KeyedOp}

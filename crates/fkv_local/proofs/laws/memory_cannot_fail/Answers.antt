@@ -1,4 +1,4 @@
-use Rattle.std.proofs.Common.{◌≡◌, ◌+◌, ◌<◌, ◌^◌, refl, arith}
+use Rattle.std.proofs.Common.{refl, arith}
 use Rattle.fkv_local.proofs.laws.memory_cannot_fail.Goals as goal
 
 pub returns-clause-writes : goal.returns-clause-writes

@@ -1,4 +1,4 @@
-use Rattle.std.proofs.Common.{map, sym, subst, ◌∙◌, ◌≤◌, arith}
+use Rattle.std.proofs.Common.{map, sym, subst, ◌∙◌, arith}
 use Rattle.fkv_local.specs.Resting.{AreAtRest}
 use Rattle.fkv_local.proofs.CauseLemmas.{numbered-later}
 use Rattle.fkv_local.proofs.StoreLemmas.{new-empty, new-rests}

@@ -1,4 +1,4 @@
-use Rattle.std.proofs.Common.{length, refl, IsTrue, subst}
+use Rattle.std.proofs.Common.{length, refl, sym, IsTrue, subst}
 use Rattle.std.proofs.lemmas.Option.{slice_get_read}
 use Rattle.std.proofs.lemmas.Result.{IfErr-weaker}
 use Rattle.fkv_functions.proofs.KeyOrder.{key_order}
