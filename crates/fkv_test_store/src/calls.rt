@@ -4,11 +4,11 @@ use fkv_functions::{Name, Refused, SumFns};
 use fkv_histories::Recorder;
 use fkv_operations::{Answer, KeyedOp};
 use fkv_partition::Config;
-use fkv_store::{Gate, KEEPER, Open, Pass, Place, Store};
+use fkv_store::{Events, Gate, KEEPER, Open, Pass, Place, Store};
 use std::alloc::Global;
 use std::rt::Clock;
 use std::sync::Wait;
-use std::sync::atomic::{AtomicU64, Ordering};
+use std::sync::atomic::{AtomicBool, AtomicU64, Ordering};
 use std::test::Fail;
 
 /// One partition, 256 buckets, pages of 256 bytes and two frames.
@@ -52,6 +52,18 @@ impl Gate for Counted {
     }
 }
 
+/// A gate that tells a compaction to stop when it is going to read a page.
+#[derive(Drop)]
+struct Stops(AtomicBool);
+
+impl Gate for Stops {
+    fn pass(&self, _worker: u32, place: Place) {
+        if place == Place::Load {
+            self.0.store(true, Ordering::SeqCst);
+        }
+    }
+}
+
 /// One call. The first number is that of a pass.
 #[derive(Clone, Copy)]
 pub enum Call {
@@ -68,6 +80,8 @@ pub enum Call {
     Tidy(usize),
     /// Relocates and truncates this partition.
     Compact(usize),
+    /// The same, but it is told to stop when it reads its first page.
+    Stop(usize),
     /// How often a page was read for an operation so far.
     Loads,
 }
@@ -173,8 +187,16 @@ impl<D: Disk, H: Recorder<SumFns>> Called<D, H> {
                 Err(refused) => Told::Refused(refused),
             },
             Call::Compact(partition) => done_told(self.store.compact(rt, partition, &Open)),
+            Call::Stop(partition) => done_told(self.stop(rt, partition)),
             _ => Told::Count(self.counted.loads.load(Ordering::SeqCst)),
         }
+    }
+
+    fn stop(&self, rt: &impl Wait, partition: usize) -> Result<(), Refused> {
+        let stops = Stops(AtomicBool::new(false));
+        let mut events = Events::none();
+        self.store
+            .compact_until(rt, partition, &stops, &mut events, &stops.0)
     }
 
     /// How often its passes held the lock of a partition for an operation.

@@ -1,5 +1,5 @@
 //! A device that fails once, behind a store that callers share.
-use crate::calls::{Call, Called, Row, SMALL, Told};
+use crate::calls::{Call, Called, IMPATIENT, Row, SMALL, Told};
 use fkv_device::{Disk, MemoryDevice};
 use fkv_functions::{Refused, SumFns};
 use fkv_histories::{Audited, Plain, Recorder};
@@ -54,10 +54,55 @@ fn read_fails() -> [Row; 9] {
     ]
 }
 
+/// An operation that waits for a frame tells that its page could not be written; the next one has it written.
+fn waiting_write_fails() -> [Row; 9] {
+    [
+        stored(Call::Upsert(0, b'a', 1)),
+        stored(Call::Upsert(0, b'b', 1)),
+        stored(Call::Upsert(0, b'c', 1)),
+        stored(Call::Upsert(0, b'd', 1)),
+        stored(Call::Upsert(0, b'e', 1)),
+        stored(Call::Upsert(0, b'f', 1)),
+        stored(Call::Upsert(0, b'g', 1)),
+        (
+            Call::Upsert(0, b'h', 1),
+            Told::Refused(Refused::Device { code: 2, page: 0 }),
+        ),
+        stored(Call::Upsert(0, b'h', 1)),
+    ]
+}
+
+/// A compaction that can't read a page leaves no session behind: an operation that needs a frame waits for nobody.
+fn compaction_fails() -> [Row; 17] {
+    [
+        stored(Call::Upsert(0, b'a', 10)),
+        stored(Call::Upsert(0, b'b', 1)),
+        stored(Call::Upsert(0, b'c', 1)),
+        (Call::Tidy(0), Told::Count(64)),
+        (Call::Refresh(0), Told::Ok),
+        (Call::Tidy(0), Told::Count(256)),
+        (Call::Refresh(0), Told::Ok),
+        (
+            Call::Compact(0),
+            Told::Refused(Refused::Device { code: 3, page: 0 }),
+        ),
+        stored(Call::Upsert(0, b'd', 1)),
+        stored(Call::Upsert(0, b'e', 1)),
+        stored(Call::Upsert(0, b'f', 1)),
+        stored(Call::Upsert(0, b'g', 1)),
+        stored(Call::Upsert(0, b'h', 1)),
+        stored(Call::Upsert(0, b'i', 1)),
+        stored(Call::Upsert(0, b'j', 1)),
+        stored(Call::Upsert(0, b'k', 1)),
+        stored(Call::Upsert(0, b'l', 1)),
+    ]
+}
+
 /// The number of the first row that tells something else, where the device fails after so many pages.
 fn first_other<H: Recorder<SumFns>>(
     rt: &(impl Wait + Clock),
     alloc: Global,
+    config: &Config,
     writes: u64,
     reads: u64,
     rows: &[Row],
@@ -65,25 +110,31 @@ fn first_other<H: Recorder<SumFns>>(
     let mut device = UnsureDevice::new(alloc);
     device.writes = writes;
     device.reads = reads;
-    let mut called = Called::<UnsureDevice, H>::new(rt, alloc, &SMALL, device)?;
+    let mut called = Called::<UnsureDevice, H>::new(rt, alloc, config, device)?;
     Ok(called.first_other(rt, alloc, rows))
 }
 
 #[test]
 fn a_write_that_fails(rt: HostRuntime) -> Result<(), Fail> {
-    let audited = first_other::<Audited<SumFns>>(&rt, rt.alloc(), 0, 9, &write_fails())?;
+    let audited = first_other::<Audited<SumFns>>(&rt, rt.alloc(), &SMALL, 0, 9, &write_fails())?;
     assert!(rt; audited == None, "row {audited:?}");
-    let plain = first_other::<Plain>(&rt, rt.alloc(), 0, 9, &write_fails())?;
+    let plain = first_other::<Plain>(&rt, rt.alloc(), &SMALL, 0, 9, &write_fails())?;
     assert!(rt; plain == None, "row {plain:?}");
+    let rows = waiting_write_fails();
+    let waits = first_other::<Plain>(&rt, rt.alloc(), &SMALL, 0, 9, &rows)?;
+    assert!(rt; waits == None, "row {waits:?}");
     Ok(())
 }
 
 #[test]
 fn a_read_that_fails(rt: HostRuntime) -> Result<(), Fail> {
-    let audited = first_other::<Audited<SumFns>>(&rt, rt.alloc(), 9, 0, &read_fails())?;
+    let audited = first_other::<Audited<SumFns>>(&rt, rt.alloc(), &SMALL, 9, 0, &read_fails())?;
     assert!(rt; audited == None, "row {audited:?}");
-    let plain = first_other::<Plain>(&rt, rt.alloc(), 9, 0, &read_fails())?;
+    let plain = first_other::<Plain>(&rt, rt.alloc(), &SMALL, 9, 0, &read_fails())?;
     assert!(rt; plain == None, "row {plain:?}");
+    let rows = compaction_fails();
+    let compacts = first_other::<Plain>(&rt, rt.alloc(), &IMPATIENT, 9, 0, &rows)?;
+    assert!(rt; compacts == None, "row {compacts:?}");
     Ok(())
 }
 

@@ -108,6 +108,32 @@ fn merges_beside_a_device(rt: HostRuntime) -> Result<(), Fail> {
     Ok(())
 }
 
+/// A value that can't be changed in place any more is updated in memory: a later read needs no page of what stood before.
+fn read_only() -> [Row; 13] {
+    [
+        stored(Call::Upsert(0, b'a', 1)),
+        stored(Call::Upsert(0, b'b', 1)),
+        stored(Call::Upsert(0, b'c', 1)),
+        stored(Call::Upsert(0, b'd', 1)),
+        stored(Call::Upsert(0, b'e', 1)),
+        stored(Call::Upsert(0, b'f', 1)),
+        (Call::Tidy(0), Told::Count(64)),
+        (Call::Refresh(0), Told::Ok),
+        (Call::UpdateOrMerge(0, b'a', 5), Told::Ok),
+        (Call::Tidy(0), Told::Count(256)),
+        (Call::Refresh(0), Told::Ok),
+        value(Call::Read(0, b'a'), 6),
+        (Call::Loads, Told::Count(0)),
+    ]
+}
+
+#[test]
+fn updates_of_what_is_read_only(rt: HostRuntime) -> Result<(), Fail> {
+    let end = (Some(6), 6, 8);
+    assert!(rt; come_to(&rt, rt.alloc(), &SMALL, &read_only(), end)?);
+    Ok(())
+}
+
 /// A merge never waits for the session of another pass, where an update does.
 fn fuzzy() -> [Row; 10] {
     [
@@ -131,7 +157,8 @@ fn merges_wait_for_no_session(rt: HostRuntime) -> Result<(), Fail> {
     Ok(())
 }
 
-/// What a store of functions that don't merge comes to: a merge is refused, and an update that may be one is an update.
+/// What a store of functions that don't merge comes to: a merge is refused, and an update that may be one is an update, also of a key
+/// whose page left memory.
 fn capped<H: Recorder<CappedSumFns>>(rt: &(impl Wait + Clock), alloc: Global) -> Result<u64, Fail> {
     let device = MemoryDevice::new(alloc);
     let store = Store::<CappedSumFns, MemoryDevice, H>::open(alloc, &SMALL, CappedSumFns, device)?;
@@ -140,9 +167,15 @@ fn capped<H: Recorder<CappedSumFns>>(rt: &(impl Wait + Clock), alloc: Global) ->
     };
     let mut pass = store.pass(rt, alloc, 0)?;
     pass.update_or_merge(rt, alloc, &store, key, 3, &Open)?;
+    for letter in b'b'..b'm' {
+        if let Some(other) = Name::new(&[letter]) {
+            let _stored = pass.run(rt, alloc, &store, KeyedOp::Upsert(other, 1), &Open)?;
+        }
+    }
+    pass.update_or_merge(rt, alloc, &store, key, 4, &Open)?;
     let merged = pass.run(rt, alloc, &store, KeyedOp::Merge(key, 4), &Open);
     let read = pass.run(rt, alloc, &store, KeyedOp::Read(key, 0), &Open);
-    if merged != Err(Refused::NoMerge) || read != Ok(Answer::Value(3)) {
+    if merged != Err(Refused::NoMerge) || read != Ok(Answer::Value(7)) {
         return Ok(1);
     }
     Ok(store.close(alloc, vec![in alloc; pass]?)?.finished)
@@ -150,7 +183,7 @@ fn capped<H: Recorder<CappedSumFns>>(rt: &(impl Wait + Clock), alloc: Global) ->
 
 #[test]
 fn functions_that_do_not_merge(rt: HostRuntime) -> Result<(), Fail> {
-    assert!(rt; capped::<Audited<CappedSumFns>>(&rt, rt.alloc())? == 2);
-    assert!(rt; capped::<Plain>(&rt, rt.alloc())? == 2);
+    assert!(rt; capped::<Audited<CappedSumFns>>(&rt, rt.alloc())? == 14);
+    assert!(rt; capped::<Plain>(&rt, rt.alloc())? == 14);
     Ok(())
 }

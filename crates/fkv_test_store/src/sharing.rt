@@ -80,8 +80,9 @@ fn stalled(rt: HostRuntime) -> Result<(), Fail> {
     Ok(())
 }
 
-/// A value that left its frame is read from the device, until it is relocated, as all that left theirs are.
-fn evicted() -> [Row; 15] {
+/// A value that left its frame is read from the device, until it is relocated, as all that left theirs are. A compaction that is
+/// told to stop relocates nothing more.
+fn evicted() -> [Row; 18] {
     [
         stored(Call::Upsert(0, b'a', 10)),
         stored(Call::Upsert(0, b'b', 1)),
@@ -92,12 +93,15 @@ fn evicted() -> [Row; 15] {
         (Call::Refresh(0), Told::Ok),
         value(Call::Read(0, b'a'), 10),
         (Call::Loads, Told::Count(1)),
+        (Call::Stop(0), Told::Ok),
+        value(Call::Read(0, b'a'), 10),
+        (Call::Loads, Told::Count(2)),
         (Call::Compact(0), Told::Ok),
         value(Call::Read(0, b'a'), 10),
         value(Call::Read(0, b'b'), 1),
         value(Call::Read(0, b'c'), 1),
         (Call::Compact(0), Told::Ok),
-        (Call::Loads, Told::Count(1)),
+        (Call::Loads, Told::Count(2)),
     ]
 }
 

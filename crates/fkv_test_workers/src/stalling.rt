@@ -1,6 +1,6 @@
 //! No run stalls: many workers over few frames, and compactions that are slow, take too long or fail; and which fault comes first.
 use crate::tables::{LETTERS, SMALL, summed_by, summed_over};
-use fkv_device::MemoryDevice;
+use fkv_device::{Disk, MemoryDevice};
 use fkv_feeds::RowMode;
 use fkv_functions::{Name, Refused, SumFns};
 use fkv_histories::{Audited, Plain, Recorder};
@@ -334,5 +334,116 @@ fn rows_before_a_bad_row(rt: HostRuntime) -> Result<(), Fail> {
     device.reads = 0;
     let failed = summed_over::<Plain, _, _, _>(&rt, alloc, &feeds, 1, &SMALL, device, &Open);
     assert!(rt; failed == Err(Refused::Device { code: 3, page: 0 }));
+    Ok(())
+}
+
+/// A device that counts the readers of pages that it opens: one for each worker and each partition, and one for each compaction.
+#[derive(Drop)]
+struct OpeningDevice<'a, D: Disk> {
+    device: D,
+    opened: &'a AtomicU64,
+}
+
+impl<'a, D: Disk> Disk for OpeningDevice<'a, D> {
+    type Receipt = D::Receipt;
+
+    type Writer = D::Writer;
+
+    type Reader = D::Reader;
+
+    ghost failures = { λ d. D.failures d.device };
+
+    fn writer(&mut self, partition: u64) -> Result<D::Writer, Refused> {
+        self.device.writer(partition)
+    }
+
+    fn reader(&mut self, partition: u64) -> Result<D::Reader, Refused> {
+        self.opened.fetch_add(1, Ordering::SeqCst);
+        self.device.reader(partition)
+    }
+}
+
+/// Before which operations worker 0 is held until so many readers were opened: the first one is its own.
+const PACES: [(u64, u64); 2] = [(400, 2), (900, 3)];
+
+/// How often the keeper holds the partition before the last operations.
+const KEPT: u64 = 400;
+
+/// Holds worker 0 until its partition was compacted, and at the end until the keeper has made many turns.
+#[derive(Drop)]
+struct Paced<'a> {
+    begun: AtomicU64,
+    holds: AtomicU64,
+    opened: &'a AtomicU64,
+    missed: AtomicBool,
+}
+
+impl<'a> Paced<'a> {
+    fn by(opened: &'a AtomicU64) -> Paced<'a> {
+        Paced {
+            begun: AtomicU64::new(0),
+            holds: AtomicU64::new(0),
+            opened,
+            missed: AtomicBool::new(false),
+        }
+    }
+
+    /// Holds whoever comes until a number has come so far.
+    fn hold(&self, number: &AtomicU64, goal: u64) {
+        for _ in 0..LOOKS {
+            if number.load(Ordering::SeqCst) >= goal {
+                return;
+            }
+            thread::yield_now();
+        }
+        self.missed.store(true, Ordering::SeqCst);
+    }
+
+    /// Worker 0 begins an operation.
+    fn begins(&self) {
+        let begun = self.begun.fetch_add(1, Ordering::SeqCst);
+        for (place, readers) in PACES {
+            if begun == place {
+                self.hold(self.opened, readers);
+            }
+        }
+        if begun == 950 {
+            let goal = self.holds.load(Ordering::SeqCst).saturating_add(KEPT);
+            self.hold(&self.holds, goal);
+        }
+    }
+}
+
+impl<'a> Gate for Paced<'a> {
+    fn pass(&self, worker: u32, place: Place) {
+        match (worker, place) {
+            (KEEPER, Place::Locked(_)) => {
+                self.holds.fetch_add(1, Ordering::SeqCst);
+            }
+            (0, Place::Start) => self.begins(),
+            _ => {}
+        }
+    }
+}
+
+/// The keeper compacts again when Head has moved on, and not before: 1,000 rows fill 250 pages, and what is relocated some more.
+#[test]
+fn compactions(rt: HostRuntime) -> Result<(), Fail> {
+    let alloc = rt.alloc();
+    let rows = fifty(alloc, 1_000, 3)?;
+    let feeds = [rows.as_slice()];
+    let opened = AtomicU64::new(0);
+    let device = OpeningDevice {
+        device: MemoryDevice::new(alloc),
+        opened: &opened,
+    };
+    let gate = Paced::by(&opened);
+    let mode = RowMode::Merge;
+    let one = table::<Plain, _, _>(&rt, alloc, &feeds, 1, &SMALL, &Open, RowMode::Update)?;
+    let made = summed_by::<Plain, _, _, _>(&rt, alloc, &feeds, 1, &SMALL, device, &gate, mode)?;
+    assert!(rt; made.as_slice() == one.as_slice());
+    let readers = opened.load(Ordering::SeqCst);
+    assert!(rt; !gate.missed.load(Ordering::SeqCst), "{readers} readers");
+    assert!(rt; readers < 32, "{readers} readers");
     Ok(())
 }
