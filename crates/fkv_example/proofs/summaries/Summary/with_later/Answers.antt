@@ -1,9 +1,0 @@
-use Rattle.std.proofs.Common.{rules}
-use Rattle.fkv_example.specs.Laws.{same_numbers}
-use Rattle.fkv_example.proofs.summaries.Summary.with_later.Goals as goal
-
-pub returns : goal.returns
-returns c =
-    let s = c.known.ensures in
-    let t = c.known-2.ensures in
-    same_numbers _ _ (search rules) (search rules) (search rules) (search rules)
