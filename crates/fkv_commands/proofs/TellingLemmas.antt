@@ -1,5 +1,5 @@
 -- Texts that were told, whole or in part.
-use Rattle.std.proofs.Common.{arith, ◌≡◌, ◌≢◌, ◌⊎◌, ◌++◌, ◌∙◌, inl, inr, refl, sym, append_assoc, ℕ, Bool, List, Option, None, Some, Result, Ok, Err, OnOk, OnErr, length}
+use Rattle.std.proofs.Common.{arith, ◌≡◌, ◌≤◌, ◌*◌, ◌≢◌, ◌⊎◌, ◌++◌, ◌∙◌, inl, inr, refl, sym, append_assoc, ℕ, Bool, List, Option, None, Some, Result, Ok, Err, OnOk, OnErr, length}
 use Rattle.std.proofs.lemmas.List.{append-nil}
 use Rattle.std.proofs.Math.Seq.{take-length}
 use Rattle.std.specs.Io.KnownBytes.{Appends}
@@ -7,7 +7,9 @@ use Rattle.fkv_functions.specs.declared.refusals.Refused.{Refused}
 use Rattle.fkv_functions.specs.declared.refusals.Refused.TheVariants.{Unwritable}
 use Rattle.fkv_streams.specs.Streams.{AppendsPrefix}
 use Rattle.fkv_commands.specs.declared.reporting.Report.{Report}
-use Rattle.fkv_commands.specs.Advice.{advice_text}
+use Rattle.fkv_requests.specs.declared.requests.Shown.{Shown}
+use Rattle.fkv_requests.specs.declared.requests.Shown.TheVariants.{Count, Sum, Max, Summary}
+use Rattle.fkv_commands.specs.Advice.{advice_text, keys_of_a_mebibyte}
 use Rattle.fkv_commands.specs.Reports.{IsTold, report_text}
 
 -- a text that was told whole was told from its front
@@ -33,8 +35,15 @@ pub nothing_written : (a : Option (List ℕ)) (text : List ℕ) → AppendsPrefi
 nothing_written None text = (0, tt)
 nothing_written (Some xs) text = (0, sym (append-nil xs))
 
+-- a MiB has room for a key
+room_of_one : (shown : Shown) (keys : ℕ) → keys ≤ keys * keys_of_a_mebibyte shown
+room_of_one Count keys = omega arith
+room_of_one Sum keys = omega arith
+room_of_one Max keys = omega arith
+room_of_one Summary keys = omega arith
+
 -- a report that is not told
-pub told_nothing : (sized : Bool) (report : Report) (a : Option (List ℕ))
-    → (text : List ℕ) × IsTold sized report text × AppendsPrefix a a text
-told_nothing sized report a =
-    (report_text report ++ advice_text sized report.keys report, (report.keys, omega arith, refl), nothing_written a _)
+pub told_nothing : (shown : Shown) (sized : Bool) (report : Report) (a : Option (List ℕ))
+    → (text : List ℕ) × IsTold shown sized report text × AppendsPrefix a a text
+told_nothing shown sized report a =
+    (report_text report ++ advice_text sized report.keys report, (report.keys, room_of_one shown report.keys, refl), nothing_written a _)

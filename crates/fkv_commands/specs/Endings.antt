@@ -6,7 +6,7 @@ use Rattle.fkv_functions.specs.Meanings.{Meanings}
 use Rattle.fkv_functions.specs.Sets.{counts, sums, maxima}
 use Rattle.fkv_functions.specs.declared.names.Name.{Name}
 use Rattle.fkv_requests.specs.declared.requests.Shown.{Shown}
-use Rattle.fkv_requests.specs.declared.requests.Shown.TheVariants.{Count, Sum, Max}
+use Rattle.fkv_requests.specs.declared.requests.Shown.TheVariants.{Count, Sum, Max, Summary}
 use Rattle.fkv_requests.specs.declared.requests.TableRequest.{TableRequest}
 use Rattle.fkv_requests.specs.Requests.{AsksReplay, AsksTable, MayAskHelp, MayAskVersion, MayBeMistaken, Text}
 use Rattle.std.specs.Io.KnownBytes.{Appends}
@@ -15,6 +15,7 @@ use Rattle.fkv_steps.specs.Printing.{line}
 use Rattle.fkv_steps.specs.Running.{IsOutputOf}
 use Rattle.fkv_feeds.specs.Tables.{IsTableOf}
 use Rattle.fkv_feeds.specs.Writing.{table_text}
+use Rattle.fkv_summaries.specs.Summaries.{summaries, summary_fields}
 use Rattle.fkv_commands.specs.declared.reporting.Report.{Report}
 use Rattle.fkv_commands.specs.Plans.{IsPlanOf, feeds_of}
 use Rattle.fkv_commands.specs.Reports.{IsTold}
@@ -36,19 +37,20 @@ IsKnown table = (map string_bytes table.paths.items ≡ []) ⊎ (table.audit ≡
 abbrev pub IsSpoilt : Option Pages → TableRequest → Type 0
 IsSpoilt pages table = (option_map string_bytes table.folder ≢ None) × IfSome pages HasCollision
 
--- the text of a table of these meanings, of these feeds where that is known, unless it is spoilt
-abbrev pub IsTableBy : {V : Type 0} → Meanings Name V ℤ V → (V → List ℕ) → Option Pages → TableRequest → List (Option (List ℕ)) → List ℕ
-    → Type 0
-IsTableBy {V} f value pages table feeds text =
+-- the text of a table of these meanings, whose values have these fields, of these feeds where that is known, unless it is spoilt
+abbrev pub IsTableBy : {V : Type 0} → Meanings Name V ℤ V → (V → List (List ℕ)) → Option Pages → TableRequest
+    → List (Option (List ℕ)) → List ℕ → Type 0
+IsTableBy {V} f fields pages table feeds text =
     (pairs : List (Name × V))
     × (IsKnown table → IsTableOf f feeds pairs ⊎ IsSpoilt pages table)
-    × (text ≡ table_text (λ v. value v ∷ []) pairs)
+    × (text ≡ table_text fields pairs)
 
 -- the text of the table that is asked for
 abbrev pub IsTableText : Shown → Option Pages → TableRequest → List (Option (List ℕ)) → List ℕ → Type 0
-IsTableText Count pages table feeds text = IsTableBy counts decimal pages table feeds text
-IsTableText Sum pages table feeds text = IsTableBy sums signed_decimal pages table feeds text
-IsTableText Max pages table feeds text = IsTableBy maxima signed_decimal pages table feeds text
+IsTableText Count pages table feeds text = IsTableBy counts (λ v. decimal v ∷ []) pages table feeds text
+IsTableText Sum pages table feeds text = IsTableBy sums (λ v. signed_decimal v ∷ []) pages table feeds text
+IsTableText Max pages table feeds text = IsTableBy maxima (λ v. signed_decimal v ∷ []) pages table feeds text
+IsTableText Summary pages table feeds text = IsTableBy summaries summary_fields pages table feeds text
 
 -- that text was written whole, and nothing else; or a part of it, from its front
 abbrev pub PrintsTable : Option Pages → TableRequest → List (Option (List ℕ)) → Option (List ℕ) → Option (List ℕ) → Type 0
@@ -105,7 +107,7 @@ IsQuiet words told old new =
     ⊎ ((table : TableRequest)
     × AsksTable words table
     × (table.stats ≡ true)
-    × ((report : Report) × (told ≡ Some report) × ((text : List ℕ) × IsTold table.sized report text × AppendsPrefix old new text)))
+    × ((report : Report) × (told ≡ Some report) × ((text : List ℕ) × IsTold table.shown table.sized report text × AppendsPrefix old new text)))
 
 -- what a run of these words ends with: status 0 where help is asked for, or where a replay, a table or the version was
 -- written whole, and then nothing was told but a report that was asked for; status 1 where nothing was written, or the front

@@ -2,7 +2,8 @@
 use Rattle.std.specs.Prelude.{◌≡◌, ◌≤◌, ◌*◌, ℕ, Bool, List, Option, None, Some, [], ◌∷◌, ◌++◌, ◌-◌, ◌/◌, ◌%◌, codes, decimal}
 use Rattle.fkv_steps.specs.Printing.{line}
 use Rattle.fkv_commands.specs.declared.reporting.Report.{Report}
-use Rattle.fkv_commands.specs.Advice.{advice_text}
+use Rattle.fkv_requests.specs.declared.requests.Shown.{Shown}
+use Rattle.fkv_commands.specs.Advice.{advice_text, keys_of_a_mebibyte}
 
 -- a line that names a number
 abbrev pub fact : List ℕ → ℕ → List ℕ
@@ -38,7 +39,10 @@ report_text report =
     ++ fact (codes "bytes on the device") report.seen.bytes_written
     ++ seconds_text report.millis
 
--- what a report tells: its numbers, and where the words name no size, as `sized` says, and more memory is advised, one that has 64
--- bytes for each key in three quarters of it
-abbrev pub IsTold : Bool → Report → List ℕ → Type 0
-IsTold sized report text = (size : ℕ) × (report.keys ≤ size * 12288) × (text ≡ report_text report ++ advice_text sized size report)
+-- what the report of this table tells: its numbers, and where the words name no size, as `sized` says, and more memory is advised,
+-- one that has room for the record of each key in three quarters of it
+abbrev pub IsTold : Shown → Bool → Report → List ℕ → Type 0
+IsTold shown sized report text =
+    (size : ℕ)
+    × (report.keys ≤ size * keys_of_a_mebibyte shown)
+    × (text ≡ report_text report ++ advice_text sized size report)

@@ -1,9 +1,10 @@
 //! What would make a run read fewer pages.
 ghost use Rattle.std.specs.Prelude.{◌≡◌, ◌≤◌, ◌*◌, ◌++◌, ℕ, IfErr, OnOk};
-ghost use Rattle.fkv_commands.specs.Advice.{advice_text, read_back, is_advised};
+ghost use Rattle.fkv_commands.specs.Advice.{advice_text, read_back, is_advised, keys_of_a_mebibyte};
 
 use crate::reporting::Report;
 use fkv_functions::Refused;
+use fkv_requests::Shown;
 use std::io::Write;
 
 /// How many rows read a page back, about: each page that was written is read once for the list of the keys, and a row seldom reads
@@ -23,25 +24,38 @@ fn is_advised(sized: bool, report: &Report) -> bool
     !sized && read_back(report) > report.counts.rows / 10
 }
 
-/// The keys for which three quarters of a MiB have 64 bytes each: no record of the three tables takes more. The last quarter is for
-/// buckets.
+/// The keys for which three quarters of a MiB have 64 bytes each: no record of counts, sums or maxima takes more. The last
+/// quarter is for buckets.
 const KEYS_OF_A_MEBIBYTE: u64 = 12_288;
 
-/// A power of two of MiB that have room for so many keys.
-fn mebibytes_for(keys: u64) -> u64
-    ensures { keys ≤ result * 12288 }
+/// The keys for which they have 80 bytes each, as a record of a summary takes.
+const SUMMARIES_OF_A_MEBIBYTE: u64 = 9_830;
+
+/// A power of two of MiB that have room for the records of so many keys.
+fn mebibytes_for(shown: Shown, keys: u64) -> u64
+    ensures { keys ≤ result * keys_of_a_mebibyte shown }
 {
-    keys.div_ceil(KEYS_OF_A_MEBIBYTE).next_power_of_two()
+    match shown {
+        Shown::Summary => keys.div_ceil(SUMMARIES_OF_A_MEBIBYTE).next_power_of_two(),
+        Shown::Count | Shown::Sum | Shown::Max => {
+            keys.div_ceil(KEYS_OF_A_MEBIBYTE).next_power_of_two()
+        }
+    }
 }
 
 /// Adds how much memory would hold the pages that rows read back, where it is to be advised: where the words name no size, as
 /// `sized` says. Refused: `NoMemory`.
-pub(crate) fn add_advice(sized: bool, report: &Report, text: &mut Vec<u8>) -> Result<(), Refused>
-    ensures ok { OnOk result ((size : ℕ) × (report.now.keys ≤ size * 12288)
+pub(crate) fn add_advice(
+    shown: Shown,
+    sized: bool,
+    report: &Report,
+    text: &mut Vec<u8>,
+) -> Result<(), Refused>
+    ensures ok { OnOk result ((size : ℕ) × (report.now.keys ≤ size * keys_of_a_mebibyte shown)
         × (text.new.items ≡ text.old.items ++ advice_text sized size report.now)) }
     ensures only { IfErr result (λ refused. refused ≡ Refused.NoMemory) }
 {
-    let size = mebibytes_for(report.keys as u64);
+    let size = mebibytes_for(shown, report.keys as u64);
     if !is_advised(sized, report) {
         return Ok(());
     }

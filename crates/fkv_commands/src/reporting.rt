@@ -8,6 +8,7 @@ use crate::advising::add_advice;
 use fkv_feeds::{Counts, Plan, Run};
 use fkv_functions::Refused;
 use fkv_meters::Seen;
+use fkv_requests::Shown;
 use fkv_streams::{Sink, write_out};
 use std::alloc::Global;
 use std::io::{self, Write};
@@ -77,10 +78,10 @@ impl Report {
         }
     }
 
-    /// The text of it, a line a fact, and then advice on memory. Of a run that several workers shared, appended records are not
-    /// counted. Refused: `NoMemory`.
-    fn text(&self, alloc: Global, sized: bool) -> Result<Vec<u8>, Refused>
-        ensures ok { IfOk result (λ text. IsTold sized self.now text.items) }
+    /// The text of it, a line a fact, and then advice on memory for this table. Of a run that several workers shared, appended
+    /// records are not counted. Refused: `NoMemory`.
+    fn text(&self, alloc: Global, shown: Shown, sized: bool) -> Result<Vec<u8>, Refused>
+        ensures ok { IfOk result (λ text. IsTold shown sized self.now text.items) }
         ensures only { IfErr result (λ refused. refused ≡ Refused.NoMemory) }
     {
         let mut text = Vec::new(alloc);
@@ -91,7 +92,7 @@ impl Report {
         add_fact(&mut text, "pages read", self.seen.pages_read)?;
         add_fact(&mut text, "bytes on the device", self.seen.bytes_written)?;
         self.add_seconds(&mut text)?;
-        add_advice(sized, self, &mut text)?;
+        add_advice(shown, sized, self, &mut text)?;
         Ok(text)
     }
 
@@ -128,13 +129,13 @@ impl Report {
         }
     }
 
-    /// Tells it, with advice on memory where the words name no size of it, as `sized` says. Where it can not be told, the table
-    /// stands all the same.
-    pub fn tell<E: Sink>(&self, alloc: Global, sized: bool, faults: &mut E)
-        ensures { (text : List ℕ) × IsTold sized self.now text
+    /// Tells it, with advice on memory for this table where the words name no size of it, as `sized` says. Where it can not be
+    /// told, the table stands all the same.
+    pub fn tell<E: Sink>(&self, alloc: Global, shown: Shown, sized: bool, faults: &mut E)
+        ensures { (text : List ℕ) × IsTold shown sized self.now text
             × AppendsPrefix (E.contents faults.old) (E.contents faults.new) text }
     {
-        if let Ok(text) = self.text(alloc, sized) {
+        if let Ok(text) = self.text(alloc, shown, sized) {
             let _untold = write_out(faults, text.as_slice());
         }
     }

@@ -57,9 +57,9 @@ impl Ended {
 /// Feeds that are named are opened by `opener`.
 ///
 /// `replay`, and no word, run the script that the reader gives and write what it tells. Status 0: it was
-/// done, whatever its lines were refused. `count`, `sum` and `max` write the table of the feeds that they name, or of
-/// the reader, status 0; where a report is asked for it goes to `faults` afterwards, and where progress is, `hook` tells it on
-/// the way. Status 1: it was refused; `fkv_cli: ` and why stand on `faults`, of a table with what [`tell_with_cause`] finds behind it,
+/// done, whatever its lines were refused. `count`, `sum`, `max` and `summary` write the table of the feeds that they name,
+/// or of the reader, status 0; where a report is asked for it goes to `faults` afterwards, and where progress is, `hook` tells it
+/// on the way. Status 1: it was refused; `fkv_cli: ` and why stand on `faults`, of a table with what [`tell_with_cause`] finds behind it,
 /// and nothing was written, or where the writer failed the front of the output. `--help` writes help, and `--version`
 /// the program's name and version, status 0. Words that ask for nothing that the program does: clap's text on `faults`,
 /// status 2.
@@ -142,11 +142,11 @@ fn begin<P: Progress>(table: &TableRequest, hook: &P) {
 /// Tells what a run did, where that is asked for.
 fn report<E: Sink>(alloc: Global, table: &TableRequest, done: &Report, faults: &mut E)
     ensures { (E.contents faults.new ≡ E.contents faults.old) ⊎ ((table.now.stats ≡ true)
-        × ((text : List ℕ) × IsTold table.now.sized done.now text
+        × ((text : List ℕ) × IsTold table.now.shown table.now.sized done.now text
         × AppendsPrefix (E.contents faults.old) (E.contents faults.new) text)) }
 {
     if table.stats {
-        done.tell(alloc, table.sized, faults);
+        done.tell(alloc, table.shown, table.sized, faults);
     }
 }
 

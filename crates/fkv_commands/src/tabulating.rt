@@ -1,11 +1,11 @@
 //! Making tables of feeds, and writing them.
-ghost use Rattle.std.specs.Prelude.{◌≡◌, ◌≢◌, ◌⊎◌, ◌||◌, ◌^◌, ◌<◌, ◌∷◌, [], List, Err, None, true, length, option_map, string_bytes, if◌then◌else◌, IfOk, IfErr, IfSome, IsTrue, OnOk};
+ghost use Rattle.std.specs.Prelude.{◌≡◌, ◌≢◌, ◌⊎◌, ◌||◌, ◌^◌, ◌<◌, List, Err, None, true, length, option_map, string_bytes, if◌then◌else◌, IfOk, IfErr, IfSome, IsTrue, OnOk};
 ghost use Rattle.std.specs.Io.KnownBytes.{Appends};
 ghost use Rattle.fkv_functions.specs.declared.names.Name.{Name};
 ghost use Rattle.fkv_either.specs.Either.{is_absent};
 ghost use Rattle.fkv_streams.specs.Streams.{AppendsPrefix};
 ghost use Rattle.fkv_feeds.specs.Tables.{IsTableOf};
-ghost use Rattle.fkv_feeds.specs.Writing.{table_text};
+ghost use Rattle.fkv_feeds.specs.Writing.{fields_of, table_text};
 ghost use Rattle.fkv_commands.specs.Endings.{IsKnown, IsSpoilt, PrintsTable, PrintsTablePart, feeds_by};
 ghost use Rattle.fkv_commands.specs.Plans.{IsPlanOf};
 
@@ -19,7 +19,7 @@ use fkv_functions::{CountFns, MaxFns, Mergeable, Name, OrderFree, Refused, SumFn
 use fkv_meters::{MeteredDevice, Meters, Progress};
 use fkv_requests::{Shown, TableRequest};
 use fkv_streams::{Sink, Source};
-use itoa::Integer;
+use fkv_summaries::SummaryFns;
 use std::alloc::Global;
 use std::fs::Files;
 use std::marker::Brand;
@@ -186,7 +186,7 @@ fn tabulate_by<
     opener: &O,
 ) -> Result<Report, Refused>
 where
-    F::Value: Integer + Send,
+    F::Value: fkv_feeds::Shown + Send,
     F::Output: Send,
     H::File: PageFile + Send,
     H::Dir: Send,
@@ -195,14 +195,16 @@ where
         × (IsKnown table.now
         → IsTableOf F.meaning (feeds_by (λ path. O.bytes opener.now path) table.now (R.remaining reader.old)) pairs
         ⊎ IsSpoilt H.File.pages table.now)
-        × Appends (W.contents writer.old) (W.contents writer.new) (table_text (λ v. F.Value.text v ∷ []) pairs)) }
+        × Appends (W.contents writer.old) (W.contents writer.new)
+        (table_text (fields_of F.Value.FIELDS F.Value.field_at) pairs)) }
     ensures ran { IfOk result (λ report. IsPlanOf table.now
         (length (feeds_by (λ path. O.bytes opener.now path) table.now (R.remaining reader.old))) report.plan) }
     ensures unwritable { result ≡ Err Refused.Unwritable → (pairs : List (Name × F.Value))
         × (IsKnown table.now
         → IsTableOf F.meaning (feeds_by (λ path. O.bytes opener.now path) table.now (R.remaining reader.old)) pairs
         ⊎ IsSpoilt H.File.pages table.now)
-        × AppendsPrefix (W.contents writer.old) (W.contents writer.new) (table_text (λ v. F.Value.text v ∷ []) pairs) }
+        × AppendsPrefix (W.contents writer.old) (W.contents writer.new)
+        (table_text (fields_of F.Value.FIELDS F.Value.field_at) pairs) }
     ensures nothing { IfErr result (λ e. e ≢ Refused.Unwritable → W.contents writer.new ≡ W.contents writer.old) }
     ensures out { OnOk result (W.is_out writer.new ≡ true) }
     ensures steady { OnOk result ((R.failures reader.new ≡ R.failures reader.old)
@@ -264,6 +266,9 @@ where
         ),
         Shown::Max => tabulate_by::<R, W, _, H, P, O>(
             rt, alloc, table, MaxFns, reader, writer, hook, opener,
+        ),
+        Shown::Summary => tabulate_by::<R, W, _, H, P, O>(
+            rt, alloc, table, SummaryFns, reader, writer, hook, opener,
         ),
     }
 }

@@ -1,1 +1,1 @@
-pub mod Summing
+pub mod Lasting

@@ -1,2 +1,2 @@
-pub mod Summaries
+pub mod LatestInputs
 pub mod Laws

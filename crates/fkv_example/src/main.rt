@@ -1,17 +1,16 @@
-//! The library, used with functions of one's own: per key how many inputs there were, the least and the greatest of them,
-//! and their sum.
+//! The library, used with functions of one's own: per key how many inputs there were, and the last of them.
 //!
-//! `summaries.rt` has the functions and their value. The program first keeps summaries in the store for one thread, which is a plain
+//! `latest_inputs.rt` has the functions and their value. The program first uses them in the store for one thread, which is a plain
 //! map. Then it makes updates and reads by single events, in two sessions that overlap, of one partition whose pages go to a file
 //! (`store.rt`). `docs/library.md` walks through it.
 #![tactic(auto)]
 
+mod latest_inputs;
 mod store;
-mod summaries;
 mod tables;
 
+use crate::latest_inputs::LatestFns;
 use crate::store::{CONFIG, Store, Told};
-use crate::summaries::SummaryFns;
 use crate::tables::tabulate;
 use anyhow::{Context, Result};
 use fkv_device::{Loaded, MemoryDevice};
@@ -25,23 +24,23 @@ use std::{fs, str};
 /// The folder of the pages, below the current one.
 const FOLDER: &str = "fkv_example_pages";
 
-/// Keeps summaries in the store for one thread: prints what each update shows, and the map at the end, keys rising.
-fn summarize<P: Print>(rt: &P, alloc: Global) -> Result<()> {
+/// Keeps the latest inputs in the store for one thread: prints what each update shows, and the map at the end, keys rising.
+fn remember<P: Print>(rt: &P, alloc: Global) -> Result<()> {
     let mut device = MemoryDevice::new(alloc);
-    let mut store = LocalStore::open(alloc, &CONFIG, SummaryFns, &mut device)?;
+    let mut store = LocalStore::open(alloc, &CONFIG, LatestFns, &mut device)?;
     for (name, input) in [
         ("apples", 7i64),
         ("plums", 12),
         ("apples", -2),
         ("plums", 30),
     ] {
-        if let Answer::Value(summary) = store.rmw(&name_of(name)?, &input)? {
-            println!(rt; "{name}: {summary}")?;
+        if let Answer::Value(latest) = store.rmw(&name_of(name)?, &input)? {
+            println!(rt; "{name}: {latest}")?;
         }
     }
     println!(rt; "the map:")?;
-    for (key, summary) in &store.live()? {
-        println!(rt; "{}: {summary}", str::from_utf8(key.bytes())?)?;
+    for (key, latest) in &store.live()? {
+        println!(rt; "{}: {latest}", str::from_utf8(key.bytes())?)?;
     }
     Ok(())
 }
@@ -59,23 +58,23 @@ fn update_by_events<P: Print>(
     store.refresh(first)?;
     let context = store
         .partition
-        .issue(first, Op::Rmw(key, 5), &SummaryFns, store.clock.tick()?)?;
+        .issue(first, Op::Rmw(key, 5), &LatestFns, store.clock.tick()?)?;
     let told = store
         .partition
-        .go(first, context, &SummaryFns, store.clock.tick()?)?;
+        .go(first, context, &LatestFns, store.clock.tick()?)?;
     tell(rt, &key, &told)?;
     store.refresh(second)?;
     store.refresh(first)?;
     let told = store
         .partition
-        .go(first, context, &SummaryFns, store.clock.tick()?)?;
+        .go(first, context, &LatestFns, store.clock.tick()?)?;
     tell(rt, &key, &told)?;
     // the functions are called outside the partition
     if let Progress::NeedsBuild(ask) = told {
-        let built = Built::make(&SummaryFns, ask);
+        let built = Built::make(&LatestFns, ask);
         let told = store
             .partition
-            .install(first, context, built, &SummaryFns, store.clock.tick()?)?;
+            .install(first, context, built, &LatestFns, store.clock.tick()?)?;
         tell(rt, &key, &told)?;
     }
     Ok(())
@@ -100,10 +99,10 @@ fn read_by_events<P: Print>(
 ) -> Result<()> {
     let context = store
         .partition
-        .issue(second, Op::Read(key, 0), &SummaryFns, store.clock.tick()?)?;
+        .issue(second, Op::Read(key, 0), &LatestFns, store.clock.tick()?)?;
     let told = store
         .partition
-        .go(second, context, &SummaryFns, store.clock.tick()?)?;
+        .go(second, context, &LatestFns, store.clock.tick()?)?;
     tell(rt, &key, &told)?;
     if let Progress::NeedsLoad(receipt, _) = told {
         let size = store.partition.page_size();
@@ -113,7 +112,7 @@ fn read_by_events<P: Print>(
         // a refusal that came in place of the page is handed in too: it ends the read
         let told = store
             .partition
-            .load(second, context, came, &SummaryFns, store.clock.tick()?)?;
+            .load(second, context, came, &LatestFns, store.clock.tick()?)?;
         tell(rt, &key, &told)?;
     }
     Ok(())
@@ -122,8 +121,8 @@ fn read_by_events<P: Print>(
 /// Prints what is live, keys rising.
 fn report<P: Print>(rt: &P, store: &mut Store, alloc: Global) -> Result<()> {
     println!(rt; "in the end:")?;
-    for (key, summary) in store.partition.live(&SummaryFns, alloc, &mut store.reader)? {
-        println!(rt; "{}: {summary}", str::from_utf8(key.bytes())?)?;
+    for (key, latest) in store.partition.live(&LatestFns, alloc, &mut store.reader)? {
+        println!(rt; "{}: {latest}", str::from_utf8(key.bytes())?)?;
     }
     Ok(())
 }
@@ -134,11 +133,14 @@ fn run<P: Print>(rt: &P, store: &mut Store, alloc: Global) -> Result<()> {
     let second = store.partition.enter(store.clock.tick()?)?;
     let apples = name_of("apples")?;
     let plums = name_of("plums")?;
+    // three records fill page 0
+    let figs = name_of("figs")?;
     for (slot, key, input) in [
         (first, apples, 7),
         (second, plums, 12),
         (second, apples, -2),
         (first, plums, 30),
+        (first, figs, 4),
     ] {
         tell(rt, &key, &store.update(slot, key, input)?)?;
     }
@@ -153,7 +155,7 @@ fn run<P: Print>(rt: &P, store: &mut Store, alloc: Global) -> Result<()> {
 
 fn main(rt: HostRuntime) -> Result<()> {
     let alloc = rt.alloc();
-    summarize(&rt, alloc)?;
+    remember(&rt, alloc)?;
     println!(rt; "a table of rows:")?;
     tabulate(&rt, alloc)?;
     println!(rt; "by single events:")?;
@@ -173,7 +175,7 @@ fn name_of(text: &str) -> Result<Name> {
 fn tell<P: Print>(rt: &P, key: &Name, told: &Told) -> Result<()> {
     let key = str::from_utf8(key.bytes())?;
     match told {
-        Progress::Done(Answer::Value(summary), _) => println!(rt; "{key}: {summary}")?,
+        Progress::Done(Answer::Value(latest), _) => println!(rt; "{key}: {latest}")?,
         Progress::Done(Answer::Absent, _) => println!(rt; "{key}: no inputs")?,
         Progress::Done(_, _) => println!(rt; "{key}: done")?,
         Progress::Next => println!(rt; "{key}: goes on")?,

@@ -1,7 +1,7 @@
 //! A partition beside its device and its clock.
 ghost use Rattle.std.specs.Prelude.{◌≤◌};
 
-use crate::summaries::SummaryFns;
+use crate::latest_inputs::LatestFns;
 use fkv_alone::run_alone;
 use fkv_device::{Disk, FileDevice, FileReader, FileReceipt, FileWriter, Written};
 use fkv_functions::{Name, Refused};
@@ -10,7 +10,7 @@ use fkv_partition::{Config, Partition, Progress, ProgressOf};
 use std::alloc::Global;
 use std::fs::File;
 
-/// One partition, in pages of 256 bytes. A record of a name and a summary has 80 bytes.
+/// One partition, in pages of 256 bytes. A record of a name and a value of 16 bytes has 56.
 pub const CONFIG: Config = Config {
     id: 1,
     partition_bits: 0,
@@ -24,13 +24,13 @@ pub const CONFIG: Config = Config {
 const LIMIT: u64 = 100;
 
 /// What an event tells of an operation.
-pub type Told = ProgressOf<SummaryFns, FileReceipt<File>>;
+pub type Told = ProgressOf<LatestFns, FileReceipt<File>>;
 
 /// A partition beside its device and its clock. The moments of a partition rise, so each event is made at the clock's next
 /// one.
 #[derive(Drop)]
 pub struct Store {
-    pub partition: Partition<SummaryFns, FileReceipt<File>>,
+    pub partition: Partition<LatestFns, FileReceipt<File>>,
     pub reader: FileReader<File>,
     writer: FileWriter<File>,
     pub clock: Clock,
@@ -62,7 +62,7 @@ impl Store {
             &mut self.partition,
             slot,
             KeyedOp::Rmw(key, input),
-            &SummaryFns,
+            &LatestFns,
             &mut self.reader,
             &mut self.clock,
             LIMIT,

@@ -1,8 +1,8 @@
-//! A table of summaries from rows of CSV.
-ghost use Rattle.fkv_example.specs.Summaries.{summary_field, summary_some};
+//! A table of the latest inputs from rows of CSV.
+ghost use Rattle.fkv_example.specs.LatestInputs.{latest_field, latest_some};
 
+use crate::latest_inputs::{Latest, LatestFns};
 use crate::store::CONFIG;
-use crate::summaries::{Summary, SummaryFns};
 use anyhow::{Context, Result};
 use fkv_device::MemoryDevice;
 use fkv_feeds::{Shown, run_alone, write_table};
@@ -14,33 +14,31 @@ use std::str;
 /// The rows of a feed.
 const ROWS: &[u8] = b"apples,7\nplums,12\napples,-2\nplums,30\n";
 
-impl Shown for Summary {
-    const FIELDS: usize = 4;
+impl Shown for Latest {
+    const FIELDS: usize = 2;
 
-    ghost FIELDS = { 4 };
+    ghost FIELDS = { 2 };
 
-    ghost field_at = { summary_field };
+    ghost field_at = { latest_field };
 
     fn field<'a>(&'a self, place: usize, digits: &'a mut Buffer) -> &'a [u8] {
         let text = match place {
             0 => digits.format(self.count),
-            1 => digits.format(self.least),
-            2 => digits.format(self.greatest),
-            _ => digits.format(self.sum),
+            _ => digits.format(self.last),
         };
         text.as_bytes()
     }
 
-    ghost some = { summary_some };
+    ghost some = { latest_some };
 }
 
-/// Prints the table of these rows: of each key its summary, keys rising.
+/// Prints the table of these rows: of each key how many there are and the last amount, keys rising.
 pub fn tabulate<P: Print>(rt: &P, alloc: Global) -> Result<()> {
     let device = MemoryDevice::new(alloc);
     let run = run_alone(
         alloc,
         &mut CountedReader::new(ROWS),
-        SummaryFns,
+        LatestFns,
         &CONFIG,
         device,
     )?;

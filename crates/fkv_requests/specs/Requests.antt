@@ -15,7 +15,7 @@ use Rattle.fkv_partition.specs.declared.limits.Config.{Config}
 use Rattle.fkv_feed_rows.specs.Amounts.{is_numeral}
 use Rattle.fkv_requests.specs.Memory.{size_of, partition_bits_in, share_of, bucket_bits_in, page_bits_in, frames_in}
 use Rattle.fkv_requests.specs.declared.requests.Shown.{Shown}
-use Rattle.fkv_requests.specs.declared.requests.Shown.TheVariants.{Count, Sum, Max}
+use Rattle.fkv_requests.specs.declared.requests.Shown.TheVariants.{Count, Sum, Max, Summary}
 use Rattle.fkv_requests.specs.declared.requests.TableRequest.{TableRequest}
 use Rattle.fkv_requests.specs.declared.requests.Request.{Request}
 use Rattle.fkv_requests.specs.declared.requests.Request.TheVariants.{Replay, Table, Help, Version, Mistake}
@@ -80,16 +80,18 @@ table_app name = with_rule (numbered_app (told_app (placed_app name))) feeds_rul
 abbrev pub with_version : App → App
 with_version app = record app { top = record app.top { has_version = true } }
 
--- the program has a version, a subcommand without options, and three that make tables
+-- the program has a version, a subcommand without options, and four that make tables
 abbrev pub program : App
 program =
     with_subcommand
     (with_subcommand
     (with_subcommand
+    (with_subcommand
     (with_subcommand (with_version (new_app (codes "fkv_cli"))) (new_app (codes "replay")).top)
     (table_app (codes "count")).top)
     (table_app (codes "sum")).top)
-    (table_app (codes "max")).top
+    (table_app (codes "max")).top)
+    (table_app (codes "summary")).top
 
 -- the table that a subcommand makes, if it makes one
 abbrev pub table_named : Text → Option Shown
@@ -97,6 +99,7 @@ table_named name =
     if bytes_eq name (codes "count") then Some Count
     else if bytes_eq name (codes "sum") then Some Sum
     else if bytes_eq name (codes "max") then Some Max
+    else if bytes_eq name (codes "summary") then Some Summary
     else None
 
 abbrev pub table_in : Option (Text × List Row) → Option Shown

@@ -79,6 +79,8 @@ pub enum Shown {
     Sum,
     /// The greatest.
     Max,
+    /// How many there are, their sum, the least and the greatest.
+    Summary,
 }
 
 /// A table that is asked for.
@@ -303,6 +305,8 @@ fn shown_by(name: &str) -> Option<Shown>
         Some(Shown::Sum)
     } else if name == "max" {
         Some(Shown::Max)
+    } else if name == "summary" {
+        Some(Shown::Summary)
     } else {
         None
     }
@@ -631,9 +635,15 @@ fn command<'a>(alloc: Global) -> Result<Command<'a>, AllocError>
     let count = table(alloc, "count", "Counts the rows of each key")?;
     let sum = table(alloc, "sum", "Adds up the amounts of each key")?;
     let max = table(alloc, "max", "Finds the greatest amount of each key")?;
+    let summary = table(
+        alloc,
+        "summary",
+        "Writes KEY,COUNT,SUM,MIN,MAX for each key",
+    )?;
     named(alloc)
         .subcommand(replay(alloc))?
         .subcommand(count)?
         .subcommand(sum)?
-        .subcommand(max)
+        .subcommand(max)?
+        .subcommand(summary)
 }

@@ -35,11 +35,12 @@ const HELP: &str = "A proved key-value store for per-key state
 Usage: fkv_cli [COMMAND]
 
 Commands:
-  replay  Runs the script on standard input, and prints what it tells
-  count   Counts the rows of each key
-  sum     Adds up the amounts of each key
-  max     Finds the greatest amount of each key
-  help    Print this message or the help of the given subcommand(s)
+  replay   Runs the script on standard input, and prints what it tells
+  count    Counts the rows of each key
+  sum      Adds up the amounts of each key
+  max      Finds the greatest amount of each key
+  summary  Writes KEY,COUNT,SUM,MIN,MAX for each key
+  help     Print this message or the help of the given subcommand(s)
 
 Options:
   -h, --help     Print help
@@ -670,7 +671,7 @@ const ENDED: [(Launch<'_>, u8, &str, &str); 6] = [
             input: "",
             piece: PIECE,
             calls: 0,
-            room: 523,
+            room: 581,
             beside: 0,
         },
         0,

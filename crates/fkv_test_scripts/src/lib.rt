@@ -16,3 +16,5 @@ mod printed;
 mod stats;
 #[cfg(test)]
 mod streams;
+#[cfg(test)]
+mod summaries;

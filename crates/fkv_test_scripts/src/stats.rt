@@ -5,7 +5,7 @@ use fkv_commands::{FeedFiles, run};
 use fkv_feeds::{Counts, Plan, RowMode};
 use fkv_meters::{Progress, Seen, Silent};
 use fkv_partition::Config;
-use fkv_requests::{Request, request_of};
+use fkv_requests::{Request, Shown, request_of};
 use fkv_streams::{CountedReader, CountedWriter};
 use std::sync::atomic::{AtomicBool, AtomicU64, Ordering};
 use std::{fs, io};
@@ -119,14 +119,19 @@ fn seconds_of_reports(rt: HostRuntime) -> io::Result<()> {
             "fkv_cli: rows 9\nfkv_cli: keys 2\nfkv_cli: records appended 4\nfkv_cli: updates in place 5\nfkv_cli: pages written 11\nfkv_cli: pages read 12\nfkv_cli: bytes on the device 13\n{line}"
         )?;
         let mut told = Vec::new(rt.alloc());
-        report.tell(rt.alloc(), true, &mut CountedWriter::new(&mut told));
+        report.tell(
+            rt.alloc(),
+            Shown::Sum,
+            true,
+            &mut CountedWriter::new(&mut told),
+        );
         assert!(rt; told.as_slice() == text.as_bytes(), "{millis:?}");
     }
     Ok(())
 }
 
 /// Words, the keys and the rows of a run, the pages that were written and those that were read, and what is advised.
-const ADVISED: [(&str, usize, u64, u64, u64, &str); 9] = [
+const ADVISED: [(&str, usize, u64, u64, u64, &str); 11] = [
     (
         "fkv_cli sum --stats",
         632_120,
@@ -147,6 +152,23 @@ const ADVISED: [(&str, usize, u64, u64, u64, &str); 9] = [
     (
         "fkv_cli max --stats --dir pages",
         12_289,
+        20_000,
+        0,
+        2_001,
+        "fkv_cli: 2001 of 20000 rows read a page back; --memory 2M would hold them\n",
+    ),
+    // and 80 for each of 9,830, as a record of a summary takes
+    (
+        "fkv_cli summary --stats",
+        9_830,
+        20_000,
+        0,
+        2_001,
+        "fkv_cli: 2001 of 20000 rows read a page back; --memory 1M would hold them\n",
+    ),
+    (
+        "fkv_cli summary --stats --merge",
+        9_831,
         20_000,
         0,
         2_001,
@@ -206,12 +228,22 @@ fn advice_of_reports(rt: HostRuntime) -> io::Result<()> {
             millis: None,
         };
         let mut bare = Vec::new(rt.alloc());
-        report.tell(rt.alloc(), true, &mut CountedWriter::new(&mut bare));
+        report.tell(
+            rt.alloc(),
+            Shown::Sum,
+            true,
+            &mut CountedWriter::new(&mut bare),
+        );
         let words = split(rt.alloc(), line)?;
         let mut told = Vec::new(rt.alloc());
         let mut faults = CountedWriter::new(&mut told);
         match request_of(rt.alloc(), words.as_slice()) {
-            Ok(Request::Table(table)) => report.tell(rt.alloc(), table.sized, &mut faults),
+            Ok(Request::Table(table)) => report.tell(
+                rt.alloc(),
+                table.shown,
+                table.sized,
+                &mut faults,
+            ),
             _ => panic!(rt; "row {at} asks for no table"),
         }
         bare.extend_from_slice(text.as_bytes())?;

@@ -11,4 +11,4 @@ returns-in-Ok g c = (
 )
 
 pub returns-in_default : goal.returns-in_default
-returns-in_default g c = told_nothing c.args.sized c.args.self.now _
+returns-in_default g c = told_nothing c.args.shown c.args.sized c.args.self.now _

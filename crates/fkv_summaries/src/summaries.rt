@@ -1,4 +1,4 @@
-//! Summaries: how many inputs a key had, the least and the greatest of them, and their sum.
+//! Summaries: how many inputs a key had, their sum, and the least and the greatest of them.
 ghost use Rattle.std.specs.Prelude.{◌≡◌, ◌<◌, ◌∷◌, ℤ, List, length, fold, true, All, FitsSigned, IfSome, Some, None};
 ghost use Rattle.std.specs.Int.{w64};
 ghost use Rattle.std.specs.Option.{IsSomeAnd};
@@ -6,20 +6,22 @@ ghost use Rattle.fkv_functions.specs.Meanings.{updated};
 ghost use Rattle.fkv_functions.specs.declared.names.Name.{Name};
 ghost use Rattle.fkv_functions.specs.Hashes.{fnv_1a};
 ghost use Rattle.fkv_functions.specs.Names.{text_of};
-ghost use Rattle.fkv_example.specs.Summaries.{AreNumbersOf, IsSummary, IsSummaryOf, summary_of, summaries, summary_parts, with_later};
-ghost use Rattle.fkv_example.specs.declared.summaries.Summary.{Summary};
-ghost use Rattle.fkv_example.specs.Laws.{accepted, either_order, summaries_associative, summaries_merge, summary_codec};
+ghost use Rattle.fkv_feeds.specs.Tables.{folded};
+ghost use Rattle.fkv_summaries.specs.Summaries.{AreNumbersOf, IsSummary, IsSummaryOf, summary_of, summaries, summary_parts, with_later};
+ghost use Rattle.fkv_summaries.specs.declared.summaries.Summary.{Summary};
+ghost use Rattle.fkv_summaries.specs.Laws.{accepted, either_order, summaries_associative, summaries_merge, summary_codec};
 
 use fkv_functions::{Fixed, Functions, Known, Mergeable, Name, OrderFree};
-use std::fmt::{self, Display};
 
 /// What a key's inputs come to.
 #[derive(Clone, Copy, Debug)]
 pub struct Summary {
+    /// How many there are, modulo 2^64.
     pub count: u64,
+    /// What they add up to, in 128 bits.
+    pub sum: i128,
     pub least: i64,
     pub greatest: i64,
-    pub sum: i128,
 }
 
 impl Summary {
@@ -29,9 +31,9 @@ impl Summary {
     {
         Summary {
             count: 1,
+            sum: i128::from(input),
             least: input,
             greatest: input,
-            sum: i128::from(input),
         }
     }
 
@@ -43,22 +45,10 @@ impl Summary {
         later.known();
         Summary {
             count: self.count.wrapping_add(later.count),
+            sum: self.sum.wrapping_add(later.sum),
             least: self.least.min(later.least),
             greatest: self.greatest.max(later.greatest),
-            sum: self.sum.wrapping_add(later.sum),
         }
-    }
-}
-
-impl Display for Summary {
-    fn fmt<W: fmt::Write>(&self, f: &mut fmt::Formatter<W>) -> fmt::Result {
-        let Summary {
-            count,
-            least,
-            greatest,
-            sum,
-        } = self;
-        write!(f, "{count} from {least} to {greatest}, sum {sum}")
     }
 }
 
@@ -67,16 +57,16 @@ impl Known for Summary {
 
     fn known(&self) {
         self.count.known();
+        self.sum.known();
         self.least.known();
         self.greatest.known();
-        self.sum.known();
     }
 
     fn is(&self, other: &Summary) -> bool {
         self.count == other.count
+            && self.sum == other.sum
             && self.least == other.least
             && self.greatest == other.greatest
-            && self.sum == other.sum
     }
 }
 
@@ -89,34 +79,34 @@ impl Fixed for Summary {
 
     fn put(&self, out: &mut [u8]) {
         let (count, rest) = out.split_at_mut(8);
-        let (least, rest) = rest.split_at_mut(8);
-        let (greatest, sum) = rest.split_at_mut(8);
+        let (sum, rest) = rest.split_at_mut(16);
+        let (least, greatest) = rest.split_at_mut(8);
         self.count.put(count);
+        self.sum.put(sum);
         self.least.put(least);
         self.greatest.put(greatest);
-        self.sum.put(sum);
     }
 
     fn take(bytes: &[u8]) -> Option<Summary> {
         let (count, rest) = bytes.split_at(8);
-        let (least, rest) = rest.split_at(8);
-        let (greatest, sum) = rest.split_at(8);
+        let (sum, rest) = rest.split_at(16);
+        let (least, greatest) = rest.split_at(8);
         joined(
             u64::take(count),
+            i128::take(sum),
             i64::take(least),
             i64::take(greatest),
-            i128::take(sum),
         )
     }
 
     fn bytes_equal(&self, bytes: &[u8]) -> bool {
         let (count, rest) = bytes.split_at(8);
-        let (least, rest) = rest.split_at(8);
-        let (greatest, sum) = rest.split_at(8);
+        let (sum, rest) = rest.split_at(16);
+        let (least, greatest) = rest.split_at(8);
         self.count.bytes_equal(count)
+            && self.sum.bytes_equal(sum)
             && self.least.bytes_equal(least)
             && self.greatest.bytes_equal(greatest)
-            && self.sum.bytes_equal(sum)
     }
 
     ghost written = { λ v h. h };
@@ -125,19 +115,19 @@ impl Fixed for Summary {
 /// The summary of these numbers, where each is there.
 fn joined(
     count: Option<u64>,
+    sum: Option<i128>,
     least: Option<i64>,
     greatest: Option<i64>,
-    sum: Option<i128>,
 ) -> Option<Summary>
-    ensures found { IfSome result (λ s. AreNumbersOf s count least greatest sum) }
-    ensures only { (s : Summary) → IsSummary s → AreNumbersOf s count least greatest sum → result ≡ Some s }
+    ensures found { IfSome result (λ s. AreNumbersOf s count sum least greatest) }
+    ensures only { (s : Summary) → IsSummary s → AreNumbersOf s count sum least greatest → result ≡ Some s }
 {
-    match (count, least, greatest, sum) {
-        (Some(count), Some(least), Some(greatest), Some(sum)) => Some(Summary {
+    match (count, sum, least, greatest) {
+        (Some(count), Some(sum), Some(least), Some(greatest)) => Some(Summary {
             count,
+            sum,
             least,
             greatest,
-            sum,
         }),
         _ => None,
     }
@@ -166,9 +156,9 @@ impl Functions for SummaryFns {
 
     fn in_place(&self, _key: &Name, input: &i64, value: &mut Summary) -> bool {
         value.count = value.count.wrapping_add(1);
+        value.sum = value.sum.wrapping_add(i128::from(*input));
         value.least = value.least.min(*input);
         value.greatest = value.greatest.max(*input);
-        value.sum = value.sum.wrapping_add(i128::from(*input));
         true
     }
 
@@ -213,10 +203,12 @@ impl OrderFree for SummaryFns {
     ghost either_order = { λ k i j held a b c d. either_order k i j held };
 }
 
-/// What the updates of a key come to, from no value: the summary of their inputs, by its definition and not by its steps. It
-/// does nothing when it runs.
+/// What the updates of a key come to, from no value: the summary of their inputs, by its definition and not by its steps. So a
+/// table has of each key the summary of its amounts (`folded`). It does nothing when it runs.
 pub fn updates_come_to_summaries()
-    ensures { (key : Name) (first : ℤ) (others : List ℤ) → All (FitsSigned w64) (first ∷ others)
+    ensures updates { (key : Name) (first : ℤ) (others : List ℤ) → All (FitsSigned w64) (first ∷ others)
         → IsSomeAnd (fold (λ held i. updated summaries key i held) None (first ∷ others))
         (λ s. IsSummaryOf s first others) }
+    ensures tables { (key : Name) (first : ℤ) (others : List ℤ) → All (FitsSigned w64) (first ∷ others)
+        → IsSomeAnd (folded summaries key (first ∷ others)) (λ s. IsSummaryOf s first others) }
 {}

@@ -8,15 +8,22 @@ use Rattle.std.proofs.lemmas.Int.{int_wrap_fits, int_wrap-add_same, SFits-int_wr
 use Rattle.std.proofs.lemmas.Int.{fold-int_min_bounds, fold-int_max_reached, fold-int_max_bounds}
 use Rattle.std.proofs.lemmas.List.Elements.{All-cons, All-head, All-tail}
 use Rattle.fkv_functions.specs.Meanings.{updated}
-use Rattle.fkv_example.specs.declared.summaries.Summary.{Summary}
-use Rattle.fkv_example.specs.Summaries.{IsSummaryOf, summary_of, with_input, summaries}
-use Rattle.fkv_example.specs.Laws.{first_known}
+use Rattle.fkv_feeds.specs.Tables.{folded, folded_on}
+use Rattle.fkv_summaries.specs.declared.summaries.Summary.{Summary}
+use Rattle.fkv_summaries.specs.Summaries.{IsSummaryOf, summary_of, with_input, summaries}
+use Rattle.fkv_summaries.specs.Laws.{first_known}
 
--- an update changes each number apart from the others
+-- no update is declined: each gives the summary with its input
 others_of : {K : Type 0} (k : K) (s : Summary) (others : List ℤ)
     → fold (λ held i. updated (summaries {K = K}) k i held) (Some s) others ≡ Some (fold with_input s others)
 others_of k s [] = refl
 others_of k s (i ∷ others) = others_of k (with_input s i) others
+
+-- nor is an amount of a table
+amounts_of : {K : Type 0} (k : K) (s : Summary) (others : List ℤ)
+    → fold (folded_on (summaries {K = K}) k) (Some s) others ≡ Some (fold with_input s others)
+amounts_of k s [] = refl
+amounts_of k s (i ∷ others) = amounts_of k (with_input s i) others
 
 count_of : (s : Summary) (others : List ℤ) → s.count < 2 ^ 64
     → (fold with_input s others).count ≡ (s.count + length others) % 2 ^ 64
@@ -61,11 +68,11 @@ of_all first others all =
     let above = fold-int_max_bounds first others _ greatest in
     record {
       count = count_of (summary_of first) others one.count;
+      sum = sum_of (summary_of first) others one.sum (All-tail (FitsSigned w64) first others all);
       least = reached first others _ (fold-int_min_reached first others _ least);
       below = All-cons (λ x. (fold with_input (summary_of first) others).least ≤ℤ x) first others below.0 below.1;
       greatest = reached first others _ (fold-int_max_reached first others _ greatest);
       above = All-cons (λ x. x ≤ℤ (fold with_input (summary_of first) others).greatest) first others above.0 above.1;
-      sum = sum_of (summary_of first) others one.sum (All-tail (FitsSigned w64) first others all);
     }
 
 pub summary_of_all : {K : Type 0} (k : K) (first : ℤ) (others : List ℤ) → All (FitsSigned w64) (first ∷ others)
@@ -73,4 +80,10 @@ pub summary_of_all : {K : Type 0} (k : K) (first : ℤ) (others : List ℤ) → 
     (λ s. IsSummaryOf s first others)
 summary_of_all k first others all =
     subst (λ held. IsSomeAnd held (λ s. IsSummaryOf s first others)) (sym (others_of k (summary_of first) others))
+    (of_all first others all)
+
+pub summary_of_amounts : {K : Type 0} (k : K) (first : ℤ) (others : List ℤ) → All (FitsSigned w64) (first ∷ others)
+    → IsSomeAnd (folded (summaries {K = K}) k (first ∷ others)) (λ s. IsSummaryOf s first others)
+summary_of_amounts k first others all =
+    subst (λ held. IsSomeAnd held (λ s. IsSummaryOf s first others)) (sym (amounts_of k (summary_of first) others))
     (of_all first others all)

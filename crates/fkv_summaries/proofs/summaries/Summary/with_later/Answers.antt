@@ -1,6 +1,6 @@
 use Rattle.std.proofs.Common.{rules}
-use Rattle.fkv_example.specs.Laws.{same_numbers}
-use Rattle.fkv_example.proofs.summaries.Summary.with_later.Goals as goal
+use Rattle.fkv_summaries.specs.Laws.{same_numbers}
+use Rattle.fkv_summaries.proofs.summaries.Summary.with_later.Goals as goal
 
 pub returns : goal.returns
 returns c =
