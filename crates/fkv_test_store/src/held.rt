@@ -12,8 +12,8 @@ use fkv_operations::KeyedOp;
 use fkv_store::{Open, Pass, Store};
 use std::alloc::Global;
 use std::rt::Clock;
-use std::sync::Wait;
 use std::sync::atomic::{AtomicBool, Ordering};
+use std::sync::{Arc, Wait};
 use std::test::Fail;
 use std::thread;
 use std::thread::Threads;
@@ -62,12 +62,12 @@ impl Held {
 
 /// Sums whose first values are built by a caller that may be held.
 #[derive(Drop)]
-struct HeldFns<'a> {
-    held: &'a Held,
+struct HeldFns {
+    held: Arc<Held>,
     sums: SumFns,
 }
 
-impl<'a> Functions for HeldFns<'a> {
+impl Functions for HeldFns {
     type Key = Name;
 
     type Value = i128;
@@ -81,7 +81,8 @@ impl<'a> Functions for HeldFns<'a> {
     ghost code = { λ name. fnv_1a (text_of name) };
 
     fn initial(&self, key: &Name, input: &i64) -> Option<i128> {
-        self.held.come();
+        let held: &Held = &self.held;
+        held.come();
         self.sums.initial(key, input)
     }
 
@@ -102,7 +103,7 @@ impl<'a> Functions for HeldFns<'a> {
     }
 }
 
-impl<'a> Mergeable for HeldFns<'a> {
+impl Mergeable for HeldFns {
     const MERGES: bool = true;
 
     ghost MERGES = { true };
@@ -211,9 +212,9 @@ impl<'a, D: Disk> Disk for HeldDevice<'a, D> {
     }
 }
 
-type HeldStore<'a> = Store<HeldFns<'a>, HeldDevice<'a, MemoryDevice>, Plain>;
+type HeldStore<'a> = Store<HeldFns, HeldDevice<'a, MemoryDevice>, Plain>;
 
-type HeldPass<'a> = Pass<HeldFns<'a>, HeldDevice<'a, MemoryDevice>, Plain>;
+type HeldPass<'a> = Pass<HeldFns, HeldDevice<'a, MemoryDevice>, Plain>;
 
 /// What the caller does that is held.
 #[derive(Clone, Copy, Debug)]
@@ -289,13 +290,16 @@ fn is_answered<T: Threads + Wait + Clock + Sync>(
     alloc: Global,
     slow: Slow,
 ) -> Result<bool, Fail> {
-    let held = Held::nobody();
-    let held = &held;
+    let shared = Arc::new(alloc, Held::nobody())?;
+    let sums = HeldFns {
+        held: shared.clone()?,
+        sums: SumFns,
+    };
+    let held: &Held = &shared;
     let device = HeldDevice {
         device: MemoryDevice::new(alloc),
         held,
     };
-    let sums = HeldFns { held, sums: SumFns };
     let store = Store::open(alloc, &SMALL, sums, device)?;
     let mut one = store.pass(rt, alloc, 0)?;
     let mut two = store.pass(rt, alloc, 1)?;
