@@ -5,7 +5,7 @@ use fkv_device::Disk;
 use fkv_functions::Refused;
 use fkv_histories::Recorder;
 use fkv_jobs::Keeper;
-use fkv_store::Open;
+use fkv_store::{Events, Open};
 use std::alloc::Global;
 use std::sync::Wait;
 use std::sync::atomic::{AtomicBool, AtomicU64, Ordering};
@@ -54,7 +54,11 @@ impl<'a, D: Disk, H: Recorder<CounterFns>> PageKeeper<'a, D, H> {
             return Ok(());
         }
         compacted.store(head, Ordering::SeqCst);
-        match self.store.compact_until(rt, partition, &Open, stop) {
+        let mut events = Events::none();
+        match self
+            .store
+            .compact_until(rt, partition, &Open, &mut events, stop)
+        {
             // one that took too long, or found no free session, is tried again when Head has moved on
             Ok(()) | Err(Refused::Stalled | Refused::NoSlot) => Ok(()),
             Err(refused) => Err(refused),
