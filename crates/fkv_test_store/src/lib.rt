@@ -13,8 +13,6 @@ mod growths;
 #[cfg(test)]
 mod hearing;
 #[cfg(test)]
-mod held;
-#[cfg(test)]
 mod merging;
 #[cfg(test)]
 mod room;
