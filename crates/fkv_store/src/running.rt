@@ -240,11 +240,12 @@ fn run_on<F: Mergeable, D: Disk, H: Recorder<F>, G: Gate>(
         match made {
             Turn::Done(entry) => return Ok(Some(entry)),
             // an install asks nothing
-            Turn::Next | Turn::NeedsBuild(_) => {}
+            Turn::Next | Turn::NeedsBuild(_) => patience.go_on(rt),
             Turn::NeedsLoad(receipt, _) => {
                 if !reads {
                     return Ok(None);
                 }
+                patience.reads();
                 wanted = Some(receipt);
             }
             Turn::Waits(_) => match wait(rt, store, run, &mut patience, gate) {
