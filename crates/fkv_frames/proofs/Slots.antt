@@ -1,5 +1,5 @@
-use Rattle.std.proofs.Common.{◌≡◌, ◌≢◌, ◌<◌, ◌%◌, ℕ, suc, zero, List, [], ◌∷◌, Option, Some, None, set, length, ◌^◌, refl, ◌∙◌, ap, arith, rules, true, false, ◌==◌, eq-eqb, Bool, length-set, replicate, bit_and, ◌-◌}
-use Rattle.std.proofs.lemmas.Nat.{and_mask}
+use Rattle.std.proofs.Common.{◌≡◌, ◌≢◌, ◌<◌, ◌%◌, ℕ, suc, zero, List, [], ◌∷◌, Option, Some, None, set, length, ◌^◌, refl, ◌∙◌, ap, arith, rules, true, false, ◌==◌, eq-eqb, Bool, length-set, replicate, bit_and, ◌-◌, ◌+◌, ◌*◌, ◌/◌}
+use Rattle.std.proofs.lemmas.Nat.{and_mask, mod-mul-add, div-add-mod'}
 use Rattle.std.proofs.lemmas.Option.{slice_get-map}
 use Rattle.std.specs.Prelude.{slice_get}
 use Rattle.std.proofs.lemmas.List.Elements.{All-head, All-tail}
@@ -48,18 +48,18 @@ abbrev pub slot : Frame → Option ℕ × List ℕ
 slot x = (x.page, x.bytes.items)
 
 -- a ring with another frame at a place
-pub ring_of-with_item : (f : Inside) (i : ℕ) (x : Frame) → ring_of (record { page_bits = f.page_bits; frames = with_item f.frames i x }) ≡ record { bits = f.page_bits; slots = set (ring_of f).slots i (slot x) }
-ring_of-with_item f i x = ap (λ (s : List (Option ℕ × List ℕ)). record { bits = f.page_bits; slots = s }) (map-set slot f.frames.items i x)
+pub ring_of-with_item : (f : Inside) (round i : ℕ) (x : Frame) → ring_of (record { page_bits = f.page_bits; round = round; frames = with_item f.frames i x }) ≡ record { bits = f.page_bits; slots = set (ring_of f).slots i (slot x) }
+ring_of-with_item f round i x = ap (λ (s : List (Option ℕ × List ℕ)). record { bits = f.page_bits; slots = s }) (map-set slot f.frames.items i x)
 
-pub ring_of-page : (f : Inside) (n i : ℕ) (x : Frame) (bytes : List ℕ) → i ≡ n % length f.frames.items → x.page ≡ Some n → x.bytes.items ≡ bytes
-    → ring_of (record { page_bits = f.page_bits; frames = with_item f.frames i x }) ≡ with_page (ring_of f) n bytes
-ring_of-page f n i x bytes at p b = ring_of-with_item f i x ∙ rw (length-map, at, p, b) refl
+pub ring_of-page : (f : Inside) (round n i : ℕ) (x : Frame) (bytes : List ℕ) → i ≡ n % length f.frames.items → x.page ≡ Some n → x.bytes.items ≡ bytes
+    → ring_of (record { page_bits = f.page_bits; round = round; frames = with_item f.frames i x }) ≡ with_page (ring_of f) n bytes
+ring_of-page f round n i x bytes at p b = ring_of-with_item f round i x ∙ rw (length-map, at, p, b) refl
 
-pub opens : (f : Inside) (n i : ℕ) (x : Frame) → 0 < length f.frames.items → i ≡ n % length f.frames.items → x.page ≡ Some n → x.bytes.items ≡ replicate (2 ^ f.page_bits) 0
-    → Opens n (ring_of f) (ring_of (record { page_bits = f.page_bits; frames = with_item f.frames i x }))
-opens f n i x some at p b =
+pub opens : (f : Inside) (round n i : ℕ) (x : Frame) → 0 < length f.frames.items → i ≡ n % length f.frames.items → x.page ≡ Some n → x.bytes.items ≡ replicate (2 ^ f.page_bits) 0
+    → Opens n (ring_of f) (ring_of (record { page_bits = f.page_bits; round = round; frames = with_item f.frames i x }))
+opens f round n i x some at p b =
     let some_slot : 0 < length (ring_of f).slots = rw length-map some in
-    rw (ring_of-page f n i x (replicate (2 ^ f.page_bits) 0) at p b)
+    rw (ring_of-page f round n i x (replicate (2 ^ f.page_bits) 0) at p b)
     (record { exact = refl; opened = held-with_page (ring_of f) n _ some_slot; others = others-with_page (ring_of f) n _ some_slot })
 
 pub none-in_slots : (xs : List Frame) (i n : ℕ) → All (λ x. x.page ≡ None) xs → in_slot (slice_get (map slot xs) i) n ≡ None
@@ -81,17 +81,31 @@ held_slot r n s e h = by s.0 refl
 
 pub writes : (f : Inside) (n i at : ℕ) (old new : Frame) (bytes : List ℕ) → 0 < length f.frames.items → i ≡ n % length f.frames.items
     → slice_get f.frames.items i ≡ Some old → IsSome (held (ring_of f) n) → new.page ≡ old.page → new.bytes.items ≡ written_at old.bytes.items at bytes
-    → Writes n at bytes (ring_of f) (ring_of (record { page_bits = f.page_bits; frames = with_item f.frames i new }))
+    → Writes n at bytes (ring_of f) (ring_of (record { page_bits = f.page_bits; round = f.round; frames = with_item f.frames i new }))
 writes f n i at old new bytes some is found inside p b =
     let some_slot : 0 < length (ring_of f).slots = rw length-map some in
     let here : slice_get (ring_of f).slots (n % length (ring_of f).slots) ≡ Some (slot old) = rw (length-map, slice_get-map, ← is, found) refl in
     let own = held_slot (ring_of f) n (slot old) here inside in
-    rw (ring_of-page f n i new (written_at old.bytes.items at bytes) is (p ∙ own.0) b)
+    rw (ring_of-page f f.round n i new (written_at old.bytes.items at bytes) is (p ∙ own.0) b)
     (record {
       exact = rw own.1 refl;
       written = rw own.1 (held-with_page (ring_of f) n _ some_slot);
       others = others-with_page (ring_of f) n _ some_slot;
     })
+
+-- ---- rounds
+-- so far behind a round's begin lies a page, which is its frame, in this round and in the next
+pub behind-round : (round count far : ℕ) → round % count ≡ 0 → far < count → (round + far) % count ≡ far
+behind-round round count far whole low =
+    let split = div-add-mod' round count in
+    let is : round + far ≡ round / count * count + far = omega (arith, split, whole) in
+    rw is (mod-mul-add (round / count) count far low)
+
+pub next-round : (round count : ℕ) → round % count ≡ 0 → 0 < count → (round + count) % count ≡ 0
+next-round round count whole some =
+    let split = div-add-mod' round count in
+    let is : round + count ≡ (round / count + 1) * count + 0 = omega (arith, split, whole) in
+    rw is (mod-mul-add (round / count + 1) count 0 some)
 
 -- where no frame holds a page, no page is held
 pub none-in_frames : (f : Inside) (n : ℕ) → All (λ x. x.page ≡ None) f.frames.items → held (ring_of f) n ≡ None

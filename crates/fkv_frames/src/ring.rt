@@ -1,5 +1,5 @@
 //! The ring of frames.
-ghost use Rattle.std.specs.Prelude.{◌≡◌, ◌+◌, ◌^◌, ◌<◌, ◌≤◌, ◌↔◌, ℕ, length, IfOk, IfErr, IfSome, IsSome, Some, None, is_some};
+ghost use Rattle.std.specs.Prelude.{◌≡◌, ◌+◌, ◌%◌, ◌^◌, ◌<◌, ◌≤◌, ◌↔◌, ℕ, length, IfOk, IfErr, IfSome, IsSome, Some, None, is_some};
 ghost use Rattle.fkv_records.specs.Places.{page_at, offset_at};
 ghost use Rattle.fkv_frames.specs.Held.{held, written_at, Opens, Writes};
 
@@ -19,6 +19,8 @@ struct Frame {
 #[derive(Drop)]
 pub struct Frames {
     page_bits: u32,
+    /// A multiple of the number of frames, from which the pages of two rounds are found without a division.
+    round: u64,
     frames: Vec<Frame>,
 }
 
@@ -54,7 +56,11 @@ impl Frames {
                 return Err(Refused::NoMemory);
             };
         }
-        Ok(Frames { page_bits, frames })
+        Ok(Frames {
+            page_bits,
+            round: 0,
+            frames,
+        })
     }
 
     /// How many frames there are.
@@ -77,7 +83,7 @@ impl Frames {
     pub fn holds(&self, page: u64) -> bool
         ensures { result ≡ is_some (held self.now page) }
     {
-        let at = (page % self.frames.len() as u64) as usize;
+        let at = frame_of(self.round, self.frames.len() as u64, page) as usize;
         let frame = &self.frames[at];
         frame.page == Some(page)
     }
@@ -88,7 +94,7 @@ impl Frames {
         ensures value { held self.now page ≡ Some result.now }
         ensures size { length result.now ≡ 2 ^ self.now.bits }
     {
-        let at = (page % self.frames.len() as u64) as usize;
+        let at = frame_of(self.round, self.frames.len() as u64, page) as usize;
         let frame = &self.frames[at];
         frame.bytes.as_slice()
     }
@@ -97,7 +103,9 @@ impl Frames {
     pub fn open_page(&mut self, page: u64)
         ensures { Opens page self.old self.new }
     {
-        let at = (page % self.frames.len() as u64) as usize;
+        let count = self.frames.len() as u64;
+        let at = frame_of(self.round, count, page) as usize;
+        self.round = round_for(self.round, count, page);
         let frame = &mut self.frames[at];
         frame.page = Some(page);
         frame.bytes.as_mut_slice().fill(0);
@@ -120,10 +128,41 @@ impl Frames {
         requires fits { offset + length bytes.now ≤ 2 ^ self.old.bits }
         ensures { Writes page offset bytes.now self.old self.new }
     {
-        let at = (page % self.frames.len() as u64) as usize;
+        let at = frame_of(self.round, self.frames.len() as u64, page) as usize;
         let frame = &mut self.frames[at];
         splice(&mut frame.bytes, offset, bytes);
     }
+}
+
+/// The frame of a page, among so many. No division is needed for a page of the two rounds from `round` on.
+fn frame_of(round: u64, count: u64, page: u64) -> u64
+    requires some { 0 < count }
+    requires whole { round % count ≡ 0 }
+    ensures { result ≡ page % count }
+{
+    if page < round {
+        return page % count;
+    }
+    let far = page - round;
+    if far < count {
+        return far;
+    }
+    if far - count < count {
+        return far - count;
+    }
+    page % count
+}
+
+/// The round from which on a page and those of the round before it are found, where it is the next page that is opened.
+fn round_for(round: u64, count: u64, page: u64) -> u64
+    requires some { 0 < count }
+    requires whole { round % count ≡ 0 }
+    ensures whole { result % count ≡ 0 }
+{
+    if page < round || page - round < count || page - round - count < count {
+        return round;
+    }
+    round + count
 }
 
 /// How far into its page an address lies.
