@@ -38,3 +38,4 @@ pub mod OperationLemmas
 pub mod UnionLemmas
 pub mod AtOnceLemmas
 pub mod MergeLemmas
+pub mod AnyEventLemmas

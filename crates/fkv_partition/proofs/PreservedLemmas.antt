@@ -1,5 +1,5 @@
 -- What events leave to a layer above: what stands for operations of its own, and what it knows of records.
-use Rattle.std.proofs.Common.{◌≡◌, ◌<◌, ◌≤◌, inl, inr, nat_le, ℕ, Bool, IsTrue, List, [], ◌∷◌, Option, Some, None, option_map, Result, position, refl, sym, ◌∙◌, ap, subst, arith}
+use Rattle.std.proofs.Common.{◌≡◌, ◌<◌, ◌≤◌, inl, inr, nat_le, ℕ, Bool, IsTrue, List, Option, Some, None, option_map, Result, position, refl, sym, ◌∙◌, ap, subst, arith}
 use Rattle.std.proofs.lemmas.Bool.{cases_lt}
 use Rattle.std.proofs.lemmas.Option.{slice_get_within}
 use Rattle.std.specs.declared.cmp.Ordering.{Ordering}
@@ -174,7 +174,7 @@ module _ {K V : Type 0} {keeps : Bool} (cmp : K → K → Ordering) (join : V �
   ]
 
 -- ---- an entry that was found has a place
-found-place : (words : List (List Word)) (b t : ℕ) (e : IndexEntry) → option_map (λ p. record { place = p; word = word_at words p }) (place_of words b t) ≡ Some e → IsPlace words e.place
+pub found-place : (words : List (List Word)) (b t : ℕ) (e : IndexEntry) → option_map (λ p. record { place = p; word = word_at words p }) (place_of words b t) ≡ Some e → IsPlace words e.place
 unfolding place_of
 found-place words b t e h = by_position (position (is_final_of t) (words_of words b)) refl h
   where
@@ -242,7 +242,7 @@ module _ {K V I : Type 0} {keeps : Bool} (cmp : K → K → Ordering) (join : V 
       (tentative-made (word_at (with_word probed i.place w) i.place) (ap is_tentative there ∙ tentative-is (class_in code v.records (key_of x.op)).tag))
       (ap (λ (u : CoreView K V I). u.records) i.is ∙ i.claims.is)
 
-  borne-record : (e : IndexEntry) (k : K) (payload : Payload V) (has : Option V) → IsPlace v.records.words e.place
+  pub borne-record : (e : IndexEntry) (k : K) (payload : Payload V) (has : Option V) → IsPlace v.records.words e.place
       → ((limit : ℕ) → limit ≤ v.records.tail → IsCleared cmp v.records.entries limit → IsCleared cmp (with_written v.records e k payload has).entries limit)
       → new.records ≡ with_written v.records e k payload has → IsPreserved keeps cmp join code v new
   borne-record e k payload has at clears is = borne-by (with_written v.records e k payload has) is (grown-appended cmp join code v.records s.traced e k payload has at) (know-record cmp join code v.records s.traced e k payload has at clears)

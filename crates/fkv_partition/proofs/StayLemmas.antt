@@ -8,7 +8,7 @@ use Rattle.fkv_functions.specs.declared.refusals.Refused.{Refused}
 use Rattle.fkv_device.specs.Standing.{Standing, Joined}
 use Rattle.fkv_regions.specs.RegionsView.{RegionsView, entered}
 use Rattle.fkv_texts.specs.declared.entries.Entry.{Entry}
-use Rattle.fkv_texts.specs.Text.{entry_at, newest, last_of, value_of}
+use Rattle.fkv_texts.specs.Text.{newest, last_of, value_of}
 use Rattle.fkv_index.specs.Words.{address_of}
 use Rattle.fkv_operations.specs.After.{key_of}
 use Rattle.fkv_operations.specs.Still.{IsStill}
@@ -39,7 +39,6 @@ use Rattle.fkv_partition.specs.CoreLooking.{Refreshes, Shifts, Evicts}
 use Rattle.fkv_partition.specs.CoreFlushing.{Flushes}
 use Rattle.fkv_partition.specs.CoreLoading.{Loads}
 use Rattle.fkv_partition.specs.CoreEffect.{asked_by, IsGiveUp}
-use Rattle.fkv_partition.specs.Frozen.{FrozenStay}
 use Rattle.fkv_partition.specs.Pending.{Pending, pending_by, pending_of, pending, OthersPend, AllPend}
 use Rattle.fkv_partition.proofs.AskedLemmas.{asked-same, context-apart, context-inside, shown-stays}
 use Rattle.fkv_partition.proofs.EventLemmas.{stands-at, refreshed-same, left-same, entered-same}
@@ -256,44 +255,3 @@ module _ {K V I O R : Type 0} (stands : R → Standing) (entry : ℕ → List �
   fails-whole why (Loads.prepares x l p k i value a q op is r) = absurd (cc)
   fails-whole why (Loads.goes_on x l p b parts s a q high place held is r) = absurd (cc)
   fails-whole why (Loads.unshared x l p b parts a q high place is r) = inl is
-
--- ---- frozen records
-as-frozen : {K V I : Type 0} (old new u : CoreView K V I) → new ≡ u → FrozenStay old u → FrozenStay old new
-as-frozen old new u is h = λ a low. ap (λ (w : CoreView _ _ _). entry_at w.records.entries a) is ∙ h a low
-
-module _ {K V I : Type 0} (cmp : K → K → Ordering) (join : V → V → V) (code : K → ℕ) (old new : CoreView K V I) (slot c now : ℕ) where
-  pub goes-frozen : {O R : Type 0} (stands : R → Standing) (f : Meanings K V I O) (result : Result (Progress K V I O R) Refused)
-      → ((e : IndexEntry) (key : K) (payload : Payload V) (has : Option V) (a : ℕ) → a < old.records.regions.offsets.safe_read_only → entry_at (with_written old.records e key payload has).entries a ≡ entry_at old.records.entries a)
-      → ((x : Context K V I) (value : Option V) (told : Answer O) (e : Entry K V) → Decides cmp join f code old slot c x (decided.Replace value told) → last_of cmp old.records.text (key_of x.op) ≡ Some e
-      → (a : ℕ) → a < old.records.regions.offsets.safe_read_only → entry_at (with_value old.records e.address value).entries a ≡ entry_at old.records.entries a)
-      → Goes stands cmp join f code old new slot c now result
-      → FrozenStay old new
-  goes-frozen stands f result grows changes (Goes.unknown h is r) = as-frozen old new _ is (λ a low. refl)
-  goes-frozen stands f result grows changes (Goes.asks x e ask h q is r) = as-frozen old new _ is (λ a low. refl)
-  goes-frozen stands f result grows changes (Goes.not_ready x l h phase is r) = as-frozen old new _ is (λ a low. refl)
-  goes-frozen stands f result grows changes (Goes.confirms x p h phase alone is r) = as-frozen old new _ is (λ a low. refl)
-  goes-frozen stands f result grows changes (Goes.backs_off x p h phase alone is r) = as-frozen old new _ is (λ a low. refl)
-  goes-frozen stands f result grows changes (Goes.done x t d is r) = as-frozen old new _ is (λ a low. refl)
-  goes-frozen stands f result grows changes (Goes.claims x d is r) = as-frozen old new _ is.is (λ a low. ap (λ (w : RecordsView K V). entry_at w.entries a) is.claims.is)
-  goes-frozen stands f result grows changes (Goes.unclaimed x d full is r) = as-frozen old new _ is (λ a low. refl)
-  goes-frozen stands f result grows changes (Goes.appends x value t e d entry room free is r) = as-frozen old new _ is (λ a low. grows e (key_of x.op) value (standing join (live_of cmp old (key_of x.op)) value) a low)
-  goes-frozen stands f result grows changes (Goes.worn x value t d room is r) = as-frozen old new _ is (λ a low. refl)
-  goes-frozen stands f result grows changes (Goes.full x value t d room is r) = as-frozen old new _ is (λ a low. refl)
-  goes-frozen stands f result grows changes (Goes.replaces x value t e d last is r) = as-frozen old new _ is (λ a low. changes x value t e d last a low)
-  goes-frozen stands f result grows changes (Goes.waits x d is r) = as-frozen old new _ is (λ a low. refl)
-  goes-frozen stands f result grows changes (Goes.prepares x source i e d entry is r) = as-frozen old new _ is (λ a low. refl)
-  goes-frozen stands f result grows changes (Goes.asks_page x b parts e p d entry held is r) = as-frozen old new _ is (λ a low. refl)
-  goes-frozen stands f result grows changes (Goes.unshared x b parts d is r) = as-frozen old new _ is (λ a low. refl)
-
-  pub installs-frozen : {O R : Type 0} (f : Meanings K V I O) (ask : Ask K V I) (result : Result (Progress K V I O R) Refused)
-      → ((e : IndexEntry) (key : K) (payload : Payload V) (has : Option V) (a : ℕ) → a < old.records.regions.offsets.safe_read_only → entry_at (with_written old.records e key payload has).entries a ≡ entry_at old.records.entries a)
-      → Installs cmp f code old new slot c ask now result
-      → FrozenStay old new
-  installs-frozen f ask result grows (Installs.unknown h is r) = as-frozen old new _ is (λ a low. refl)
-  installs-frozen f ask result grows (Installs.not_ready x h q is r) = as-frozen old new _ is (λ a low. refl)
-  installs-frozen f ask result grows (Installs.stranger x e mine h q n is r) = as-frozen old new _ is (λ a low. refl)
-  installs-frozen f ask result grows (Installs.moved x e h q n is r) = as-frozen old new _ is (λ a low. refl)
-  installs-frozen f ask result grows (Installs.declined x e h q n u is r) = as-frozen old new _ is (λ a low. refl)
-  installs-frozen f ask result grows (Installs.worn x e value h q n u room is r) = as-frozen old new _ is (λ a low. refl)
-  installs-frozen f ask result grows (Installs.full x e value h q n u room is r) = as-frozen old new _ is (λ a low. refl)
-  installs-frozen f ask result grows (Installs.done x e value h q n u room free is r) = as-frozen old new _ is (λ a low. grows e ask.key (Whole (Some value)) (Some value) a low)

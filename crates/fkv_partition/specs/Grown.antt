@@ -1,5 +1,5 @@
 -- What events leave for one who keeps, beside a partition, entries, look-ups, records and addresses of its own.
-use Rattle.std.specs.Prelude.{◌≡◌, ◌<◌, ◌≤◌, Bool, IsTrue, true, ℕ, List, [], ◌∷◌, Option, Some, slice_get}
+use Rattle.std.specs.Prelude.{◌≡◌, ◌<◌, ◌≤◌, Bool, IsTrue, true, ℕ, Option, slice_get}
 use Rattle.std.specs.declared.cmp.Ordering.{Ordering}
 use Rattle.fkv_records.specs.Places.{page_at}
 use Rattle.fkv_device.specs.Standing.{Standing}
@@ -16,7 +16,7 @@ use Rattle.fkv_lookups.specs.RecordsViews.{RecordsView, indexed}
 use Rattle.fkv_texts.specs.Deltas.{IsCleared}
 use Rattle.fkv_partition.specs.declared.contexts.Loading.{Loading}
 use Rattle.fkv_partition.specs.CoreContexts.{joined, is_session, relocating}
-use Rattle.fkv_partition.specs.CoreSound.{IsKept, IsLoading, IsSound}
+use Rattle.fkv_partition.specs.CoreSound.{IsKept, IsLoading}
 use Rattle.fkv_partition.specs.CoreViews.{CoreView, slots_of}
 
 -- what a prepared update of any key kept, and what a look-up of any key that waits for a page is to find, whether or not
@@ -69,12 +69,6 @@ pub record IsPreserved {K V I : Type 0} (keeps : Bool) (cmp : K → K → Orderi
   pub bears : Bears keeps cmp join code old.records new.records
   pub grown : IsGrown keeps cmp old.records new.records
   pub next : IsTrue keeps → ReusesNoAddress cmp (indexed old.records) (indexed new.records)
-
--- events one after another
-abbrev pub ArePreserved : {K V I : Type 0} → Bool → (K → K → Ordering) → (V → V → V) → (K → ℕ) → CoreView K V I
-    → List (CoreView K V I) → Type 0
-ArePreserved keeps cmp join code v [] = Unit {0}
-ArePreserved keeps cmp join code v (w ∷ ws) = IsPreserved keeps cmp join code v w × IsSound keeps cmp join code w × ArePreserved keeps cmp join code w ws
 
 -- relocations stay in their contexts, and who was entered is
 abbrev pub RelocationsStay : {K V I : Type 0} → CoreView K V I → CoreView K V I → Type 0

@@ -33,4 +33,5 @@ pub mod Reading
 pub mod Truncating
 pub mod Events
 pub mod Effect
+pub mod AnyEvent
 pub mod AtOnce

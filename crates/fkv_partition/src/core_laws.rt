@@ -1,5 +1,4 @@
-//! What every event leaves of the look-ups that wait for a page, and of the records that are frozen. Each law is what a
-//! function without a body ensures.
+//! What every event leaves of the look-ups that wait for a page. Each law is what a function without a body ensures.
 ghost use Rattle.std.specs.Prelude.{◌≡◌, ◌⊎◌, ℕ, Bool, true, IsTrue, List, Some, Result, Ok, Err};
 ghost use Rattle.std.specs.declared.cmp.Ordering.{Ordering};
 ghost use Rattle.fkv_functions.specs.Meanings.{Meanings};
@@ -8,7 +7,7 @@ ghost use Rattle.fkv_functions.specs.declared.asks.Ask.{Ask};
 ghost use Rattle.fkv_functions.specs.declared.refusals.Refused.{Refused};
 ghost use Rattle.fkv_device.specs.Standing.{Standing, Joined};
 ghost use Rattle.fkv_pages.specs.Spelled.{IsEntryIn};
-ghost use Rattle.fkv_operations.specs.After.{key_of, is_merge};
+ghost use Rattle.fkv_operations.specs.After.{is_merge};
 ghost use Rattle.fkv_partition.specs.declared.contexts.Progress.{Progress};
 ghost use Rattle.fkv_partition.specs.CoreViews.{CoreView, context_at};
 ghost use Rattle.fkv_operations.specs.declared.operations.KeyedOp.{KeyedOp};
@@ -23,7 +22,6 @@ ghost use Rattle.fkv_partition.specs.CoreFlushing.{Flushes};
 ghost use Rattle.fkv_partition.specs.CoreLoading.{Loads};
 ghost use Rattle.fkv_partition.specs.CoreEffect.{IsGiveUp, Finds};
 ghost use Rattle.fkv_partition.specs.Pending.{OthersPend, AllPend};
-ghost use Rattle.fkv_partition.specs.Frozen.{FrozenStay};
 ghost use Rattle.fkv_partition.specs.CoreSound.{IsSound};
 
 use fkv_device::Receipt;
@@ -97,26 +95,6 @@ pub fn loads_end<F: Mergeable, R: Receipt>()
         → Loads R.stands (IsEntryIn F.Key.codec F.Value.codec) F.Key.cmp F.parts.joined F.meaning old new slot c came now (Err why)
         → (new ≡ old) ⊎ IsGiveUp old new slot c now }
 {}
-
-/// No event of an operation changes a frozen record: one below the safe read-only offset. The other events leave the
-/// text, or, on a device that need not keep, drop what it begins with.
-pub fn frozen_stay<K, V, I, O, R>()
-    ensures goes { (keeps : Bool) (stands : R → Standing) (cmp : K → K → Ordering) (join : V → V → V) (f : Meanings K V I O) (code : K → ℕ)
-        (old new : CoreView K V I) (slot c now : ℕ) (result : Result (Progress K V I O R) Refused)
-        → IsKeyOrder cmp → IsSound keeps cmp join code old
-        → Goes stands cmp join f code old new slot c now result
-        → FrozenStay old new }
-    ensures installs { (keeps : Bool) (cmp : K → K → Ordering) (join : V → V → V) (f : Meanings K V I O) (code : K → ℕ)
-        (old new : CoreView K V I) (slot c : ℕ) (ask : Ask K V I) (now : ℕ)
-        (result : Result (Progress K V I O R) Refused)
-        → IsSound keeps cmp join code old
-        → Installs cmp f code old new slot c ask now result
-        → FrozenStay old new }
-{
-    records_grow::<K, V>();
-    records_change::<K, V>();
-    meetings_tell::<K, V>();
-}
 
 /// A merge asks for nothing: no event of it asks for a page or for a built value, nor waits until sessions with an older view
 /// are refreshed, and it takes no value.

@@ -1,14 +1,24 @@
-//! What holds of the contexts of every partition. Each law is what a function without a body ensures.
-ghost use Rattle.std.specs.Prelude.{◌≡◌, ◌<◌, ℕ, Bool, Some, None, Result, Ok, Err};
+//! What every event of a partition leaves, and what holds of the contexts of every partition. Each law is what a function without
+//! a body ensures.
+ghost use Rattle.std.specs.Prelude.{◌≡◌, ◌<◌, ℕ, Bool, IsTrue, List, Some, None, Result, Ok, Err};
 ghost use Rattle.std.specs.declared.cmp.Ordering.{Ordering};
 ghost use Rattle.fkv_functions.specs.Meanings.{Meanings};
 ghost use Rattle.fkv_functions.specs.declared.asks.Ask.{Ask};
 ghost use Rattle.fkv_functions.specs.declared.refusals.Refused.{Refused};
 ghost use Rattle.fkv_device.specs.Standing.{Standing, Joined};
 ghost use Rattle.fkv_pages.specs.Spelled.{IsEntryIn};
+ghost use Rattle.fkv_texts.specs.Text.{last_of};
+ghost use Rattle.fkv_lookups.specs.RecordsViews.{class_in, IsEntryOf};
+ghost use Rattle.fkv_operations.specs.declared.entries.IndexEntry.{IndexEntry};
 ghost use Rattle.fkv_operations.specs.declared.operations.Op.TheVariants.{Merge, Relocate};
+ghost use Rattle.fkv_operations.specs.KeptWords.{after_last};
+ghost use Rattle.fkv_operations.specs.Still.{IsStill};
+ghost use Rattle.fkv_partition.specs.AnyEvent.{Event, IsPartition, AreEvents};
 ghost use Rattle.fkv_partition.specs.Asking.{AsksNothing};
 ghost use Rattle.fkv_partition.specs.CoreSound.{IsSound};
+ghost use Rattle.fkv_partition.specs.CoreViews.{live_of};
+ghost use Rattle.fkv_partition.specs.Frozen.{FrozenStay};
+ghost use Rattle.fkv_partition.specs.Grown.{IsPreserved};
 ghost use Rattle.fkv_partition.specs.declared.contexts.Progress.{Progress};
 ghost use Rattle.fkv_partition.specs.Pending.{pending};
 ghost use Rattle.fkv_partition.specs.declared.relocations.Relocation.{Relocation};
@@ -18,8 +28,53 @@ ghost use Rattle.fkv_partition.specs.Sound.{IsCompacting};
 ghost use Rattle.fkv_partition.specs.Views.{PartitionView, relocation_at};
 
 use crate::core_laws::{merges_ask_nothing, merges_take_no_page};
+use crate::preserving::events_preserve;
 use fkv_device::Receipt;
 use fkv_functions::Mergeable;
+use fkv_lookups::clearing::cleared_stay;
+use fkv_lookups::laws::entries_lead;
+use fkv_operations::kept_words_are_sound;
+
+/// What a prepared update of any key kept, and what a look-up of any key that waits for a page is to find, are kept by every
+/// event, relocations among them; no offset falls, what is flushed or frozen stays, and what was cleared is cleared.
+pub fn every_event_preserves<F: Mergeable, R: Receipt>()
+    ensures { (old new : PartitionView F.Key F.Value F.Input)
+        → IsPartition R.keeps F.Key.cmp F.parts.joined F.code old → IsPartition R.keeps F.Key.cmp F.parts.joined F.code new
+        → Event R.keeps R.stands (IsEntryIn F.Key.codec F.Value.codec) F.Key.cmp F.parts.joined F.meaning F.code old new
+        → IsPreserved R.keeps F.Key.cmp F.parts.joined F.code old.core new.core }
+{
+    events_preserve::<F::Key, F::Value, F::Input, F::Output, R>();
+    cleared_stay::<F::Key, F::Value>();
+}
+
+/// No event changes a frozen record: one below the safe read-only offset. It stays as it is, or is dropped from where the
+/// records begin.
+pub fn frozen_stay<F: Mergeable, R: Receipt>()
+    ensures { (old new : PartitionView F.Key F.Value F.Input)
+        → IsPartition R.keeps F.Key.cmp F.parts.joined F.code old → IsPartition R.keeps F.Key.cmp F.parts.joined F.code new
+        → Event R.keeps R.stands (IsEntryIn F.Key.codec F.Value.codec) F.Key.cmp F.parts.joined F.meaning F.code old new
+        → FrozenStay old.core new.core }
+{
+    every_event_preserves::<F, R>();
+}
+
+/// An entry that was kept is sound wherever its place holds the kept word, after any number of events, although it was swept
+/// and made again in between: an address is never used again.
+pub fn kept_words_stay_sound<F: Mergeable, R: Receipt>()
+    ensures { (v : PartitionView F.Key F.Value F.Input) (vs : List (PartitionView F.Key F.Value F.Input)) (k : F.Key)
+        (e : IndexEntry)
+        → IsTrue R.keeps
+        → IsPartition R.keeps F.Key.cmp F.parts.joined F.code v
+        → AreEvents R.keeps R.stands (IsEntryIn F.Key.codec F.Value.codec) F.Key.cmp F.parts.joined F.meaning F.code v vs
+        → IsEntryOf v.core.records (class_in F.code v.core.records k) e
+        → IsStill v.core.records.regions.offsets.safe_read_only (last_of F.Key.cmp v.core.records.text k)
+        → IsEntryOf (after_last v vs).core.records (class_in F.code v.core.records k) e
+        → live_of F.Key.cmp (after_last v vs).core k ≡ live_of F.Key.cmp v.core k }
+{
+    every_event_preserves::<F, R>();
+    kept_words_are_sound::<F::Key, F::Value>();
+    entries_lead::<F::Key, F::Value>();
+}
 
 /// A context in which nothing is open waits for no page, and a session has eight contexts.
 pub fn contexts_tell<K, V, I>()

@@ -1,6 +1,6 @@
 //! What every event leaves to a layer above that keeps operations and addresses of its own. Each law is what a function
 //! without a body ensures.
-ghost use Rattle.std.specs.Prelude.{◌≡◌, ◌≢◌, ◌+◌, ◌*◌, ◌<◌, ℕ, Bool, true, IsTrue, List, Option, None, slice_get, Result};
+ghost use Rattle.std.specs.Prelude.{◌≡◌, ◌≢◌, ◌<◌, ℕ, Bool, true, IsTrue, List, Option, Result};
 ghost use Rattle.std.specs.declared.cmp.Ordering.{Ordering};
 ghost use Rattle.fkv_functions.specs.Meanings.{Meanings};
 ghost use Rattle.fkv_functions.specs.Plain.{IsKeyOrder};
@@ -9,17 +9,13 @@ ghost use Rattle.fkv_functions.specs.declared.refusals.Refused.{Refused};
 ghost use Rattle.fkv_records.specs.Places.{start_at};
 ghost use Rattle.fkv_device.specs.Standing.{Standing, Joined};
 ghost use Rattle.fkv_pages.specs.Spelled.{IsEntryIn};
-ghost use Rattle.fkv_texts.specs.Text.{last_of};
-ghost use Rattle.fkv_operations.specs.declared.entries.IndexEntry.{IndexEntry};
 ghost use Rattle.fkv_operations.specs.declared.operations.KeyedOp.{KeyedOp};
-ghost use Rattle.fkv_operations.specs.KeptWords.{after_last};
-ghost use Rattle.fkv_operations.specs.Still.{IsStill};
-ghost use Rattle.fkv_lookups.specs.RecordsViews.{class_in, IsEntryOf, IsTruncationDue};
+ghost use Rattle.fkv_lookups.specs.RecordsViews.{IsTruncationDue};
 ghost use Rattle.fkv_texts.specs.Deltas.{IsCleared};
 ghost use Rattle.fkv_partition.specs.declared.changes.Write.{Write};
 ghost use Rattle.fkv_partition.specs.declared.contexts.Progress.{Progress};
 ghost use Rattle.fkv_partition.specs.CoreContexts.{is_session};
-ghost use Rattle.fkv_partition.specs.CoreViews.{CoreView, slots_of, live_of, with_payload};
+ghost use Rattle.fkv_partition.specs.CoreViews.{CoreView, slots_of, with_payload};
 ghost use Rattle.fkv_partition.specs.CoreBeginning.{Enters, Issues};
 ghost use Rattle.fkv_partition.specs.CoreEnding.{Leaves, GivesUp};
 ghost use Rattle.fkv_partition.specs.CoreGoing.{Goes};
@@ -29,14 +25,13 @@ ghost use Rattle.fkv_partition.specs.CoreFlushing.{Flushes};
 ghost use Rattle.fkv_partition.specs.CoreLoading.{Loads};
 ghost use Rattle.fkv_partition.specs.CoreTruncating.{Truncates};
 ghost use Rattle.fkv_partition.specs.Writes.{IsWrite};
-ghost use Rattle.fkv_partition.specs.Grown.{IsPreserved, ArePreserved, RelocationsStay, AllStay};
+ghost use Rattle.fkv_partition.specs.Grown.{IsPreserved, RelocationsStay, AllStay};
 ghost use Rattle.fkv_partition.specs.CoreSound.{IsSound};
 
 use fkv_device::Receipt;
 use fkv_functions::Mergeable;
 use fkv_lookups::clearing::cleared_stay;
-use fkv_lookups::laws::{entries_lead, meetings_tell, records_change};
-use fkv_operations::kept_words_are_sound;
+use fkv_lookups::laws::{meetings_tell, records_change};
 
 /// What a prepared update of any key kept, and what a look-up of any key that waits for a page is to find, are kept by
 /// every event; no offset falls, what is frozen stays, and what was cleared is cleared.
@@ -105,22 +100,6 @@ pub fn loads_preserve<F: Mergeable, R: Receipt>()
         → Loads R.stands (IsEntryIn F.Key.codec F.Value.codec) F.Key.cmp F.parts.joined F.meaning old new slot c came now result
         → IsPreserved keeps F.Key.cmp F.parts.joined code old new }
 {}
-
-/// So an entry that was kept is sound wherever its place holds the kept word, after any number of events, although it was
-/// swept and made again in between: an address is never used again.
-pub fn kept_words_stay_sound<K, V, I>()
-    ensures { (keeps : Bool) (cmp : K → K → Ordering) (join : V → V → V) (code : K → ℕ) (v : CoreView K V I)
-        (vs : List (CoreView K V I)) (k : K) (e : IndexEntry)
-        → IsTrue keeps → IsKeyOrder cmp
-        → IsSound keeps cmp join code v → ArePreserved keeps cmp join code v vs
-        → IsEntryOf v.records (class_in code v.records k) e
-        → IsStill v.records.regions.offsets.safe_read_only (last_of cmp v.records.text k)
-        → IsEntryOf (after_last v vs).records (class_in code v.records k) e
-        → live_of cmp (after_last v vs) k ≡ live_of cmp v k }
-{
-    kept_words_are_sound::<K, V>();
-    entries_lead::<K, V>();
-}
 
 /// Every event of an operation on a key, of a session or of pages leaves the relocations in their contexts, and a session that
 /// was entered is, but the one that leaves.
