@@ -84,6 +84,8 @@ impl Turned {
 }
 
 /// Enters a session. Refused as [`fkv_locked::Locked::enter`] is.
+#[cold]
+#[inline(never)]
 pub(crate) fn enter<F: Mergeable, D: Disk, H: Recorder<F>, G: Gate>(
     rt: &impl Wait,
     store: &Store<F, D, H>,

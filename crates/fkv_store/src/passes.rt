@@ -86,6 +86,7 @@ impl Model for Mark {
 }
 
 /// The session of a pass in a partition: the one that it has there, or one that is entered now.
+#[inline(always)]
 fn session_in<F: Mergeable, D: Disk, H: Recorder<F>, G: Gate>(
     rt: &impl Wait,
     store: &Store<F, D, H>,
