@@ -14,3 +14,4 @@ mod WaitLemmas
 mod RoomLemmas
 mod CauseLemmas
 mod ReadLemmas
+mod TidiedLemmas

@@ -1,10 +1,10 @@
 use Rattle.std.proofs.Common.{refl}
 use Rattle.std.proofs.lemmas.Result.{IfErr-weaker}
 use Rattle.fkv_local.specs.Refusing.{IsWorkRefusal}
-use Rattle.fkv_local.proofs.CauseLemmas.{reads-caused, work-caused}
+use Rattle.fkv_local.proofs.CauseLemmas.{reads-caused, work-caused, worn-caused}
 use Rattle.fkv_local.proofs.ClearLemmas.{but-same, go-stays, load-stays}
 use Rattle.fkv_local.proofs.OnwardLemmas.{onward-same, go-onward, load-onward}
-use Rattle.fkv_local.proofs.RelocateLemmas.{wanted-here, wanted-held, go-wants, load-wants, load-receipts, load-told, kept-then, own-waits}
+use Rattle.fkv_local.proofs.RelocateLemmas.{wanted-here, wanted-held, go-wants, load-wants, load-receipts, load-told, kept-then, own-waits, go-receipts, go-told}
 use Rattle.fkv_local.proofs.WorkLemmas.{both, same-both, work-since}
 use Rattle.fkv_local.proofs.compacting.event.Goals as goal
 
@@ -70,3 +70,19 @@ returns-in-Ok-fetch-clause-caused g c = λ kept.
     let wanted = rw c.in-Some.is at c.requires.wanted in
     let own = (c.in-Ok-fetch.ensures.same _ c.requires.kept (wanted-held c.pages_known.ensures.receipts wanted)).0 in
     IfErr-weaker c.load_own.result _ _ (λ e told. work-caused _ _ kept told (λ other. absurd (other refl)) (λ other. absurd (other refl))) (load-told c.load_own.result own wanted c.load_own.ensures.effect g.D.Receipt.Receipt.keeps 0 (both 0 0) c.load_own.ensures.undamaged)
+
+pub returns-in-Err-clause-told : goal.returns-in-Err-clause-told
+returns-in-Err-clause-told g c = IsWorkRefusal.no_moment c.in-Err.ensures.refused.0 c.in-Err.ensures.refused.2 refl
+
+pub returns-in-Err-clause-caused : goal.returns-in-Err-clause-caused
+returns-in-Err-clause-caused g c = λ kept. worn-caused _ _ c.in-Err.ensures.refused.0
+
+pub returns-in-None-clause-kept : goal.returns-in-None-clause-kept
+returns-in-None-clause-kept g c = kept-then g.D.Receipt.Receipt.stands c.args.shard.now.part.partition.core.records.receipts c.go.new.self.core.records.receipts c.args.kept.now.is_sure c.args.kept.now.page c.go.result (go-receipts c.go.result (rw c.in-None.is at c.requires.wanted) c.go.ensures.effect) c.requires.kept
+
+pub returns-in-None-clause-told : goal.returns-in-None-clause-told
+returns-in-None-clause-told g c = go-told c.go.result (rw c.in-None.is at c.requires.wanted) c.go.ensures.effect _ _ _
+
+pub returns-in-None-clause-caused : goal.returns-in-None-clause-caused
+returns-in-None-clause-caused g c = λ kept.
+    IfErr-weaker c.go.result _ _ (λ e told. work-caused _ _ kept told (λ other. absurd (other refl)) (λ other. absurd (other refl))) (go-told c.go.result (rw c.in-None.is at c.requires.wanted) c.go.ensures.effect g.D.Receipt.Receipt.keeps 0 (both 0 0))

@@ -1,4 +1,4 @@
-use Rattle.std.proofs.Common.{ap}
+use Rattle.std.proofs.Common.{ap, arith}
 use Rattle.std.proofs.lemmas.Result.{IfErr-weaker}
 use Rattle.fkv_local.proofs.RelocateLemmas.{issued, not-issued}
 use Rattle.fkv_local.proofs.WorkLemmas.{work-later}
@@ -12,3 +12,12 @@ returns-clause-told g c = IfErr-weaker c.go_on-told.result _ _ (λ e. work-later
 
 pub unreachable-requires : goal.unreachable-requires
 unreachable-requires g c = c.in_default.not-NotDue (not-issued c.requires.idle (rw c.in-Err-issue.is at c.issue.ensures.effect))
+
+pub returns-clause-caused : goal.returns-clause-caused
+returns-clause-caused g c = c.go_on-told.ensures.caused
+
+pub returns-clause-passed : goal.returns-clause-passed
+returns-clause-passed g c = record {
+  past = c.give_up.ensures.passed.past;
+  later = (let now = c.in-Ok.ensures.ok in let went = c.go_on-told.ensures.passed.later in let gave = c.give_up.ensures.passed.later in omega arith);
+}
