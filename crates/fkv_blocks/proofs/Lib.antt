@@ -4,3 +4,4 @@ pub mod ScanLemmas
 pub mod SpanLemmas
 pub mod LeftLemmas
 pub mod ShareLemmas
+pub mod OrderLemmas

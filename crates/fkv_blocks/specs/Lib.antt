@@ -3,3 +3,4 @@ pub mod Standing
 pub mod Spans
 pub mod Left
 pub mod Shares
+pub mod Orders

@@ -10,11 +10,13 @@ pub mod bytes;
 pub mod cutting;
 mod filling;
 pub mod laws;
+pub mod orders;
 pub mod reading;
 pub mod spans;
 
 pub use blocks::{Blocks, Origin, Place, take_block};
 pub use bytes::BlockSource;
 pub use cutting::record_end;
+pub use orders::{Taken, ordered};
 pub use reading::read_blocks;
 pub use spans::{Span, Ticket, chains};
