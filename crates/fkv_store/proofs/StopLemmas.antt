@@ -42,6 +42,10 @@ unentered_stopped known NoSlot h = tt
 unentered_stopped known Worn h = tt
 unentered_stopped known other h = absurd h
 
+pub roomless_stopped : (known : ℕ) (why : Refused) → (why ≡ Worn) ⊎ (why ≡ NoMemory) → IsStopped known why
+roomless_stopped known why (inl worn) = rw worn tt
+roomless_stopped known why (inr memory) = rw memory tt
+
 -- while it waits: a partition that is there is never unknown
 pub tidied_so : (count partition : ℕ) (why : Refused) → partition < count → ((why ≡ Unknown) × (count ≤ partition)) ⊎ IsUntidy why
     → IsUntidy why
@@ -72,6 +76,13 @@ waited_on why (inr h) = unrefreshed_on why h
 
 pub unentered_on : (why : Refused) → IsUnentered why → why ≢ Stalled
 unentered_on why h is = subst IsUnentered is h
+
+pub roomless_on : (why : Refused) → (why ≡ Worn) ⊎ (why ≡ NoMemory) → why ≢ Stalled
+roomless_on why (inl worn) is = absurd (cc)
+roomless_on why (inr memory) is = absurd (cc)
+
+pub strange_on : {K V I O : Type 0} (s : StoreView) (p : PassView K V I O) (why : Refused) → IsStrange s p why → why ≢ Stalled
+strange_on s p why h is = subst (IsStrange s p) is h
 
 -- each is among what any call tells
 pub stopped_told : (known : ℕ) (why : Refused) → IsStopped known why → IsTold why

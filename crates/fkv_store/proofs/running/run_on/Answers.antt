@@ -1,6 +1,7 @@
 use Rattle.std.proofs.Common.{◌∙◌, ◌+◌, ap}
 use Rattle.fkv_store.proofs.CountLemmas.{plain-counted, waited-plain}
 use Rattle.fkv_store.proofs.running.run_on.Goals.{in-Next, in-NeedsLoad+else-not-reads, in-Waits+in-Ok-wait}
+use Rattle.fkv_store.proofs.StopLemmas.{unturned_stopped, unturned_on, waited_stopped, waited_on}
 use Rattle.fkv_store.proofs.running.run_on.Goals as goal
 
 pub returns-in-Err-clause-counted : goal.returns-in-Err-clause-counted
@@ -33,3 +34,18 @@ loop-turn-preserved g c = record {
     c.in-Ok.ensures.unread (c.loop-turn.invariant.unread r).0 ∙ (c.loop-turn.invariant.unread r).1,
   );
 }
+
+pub returns-in-Err-clause-only : goal.returns-in-Err-clause-only
+returns-in-Err-clause-only g c = unturned_stopped _ _ c.in-Err.ensures.only
+
+pub returns-in-Err-clause-stalled : goal.returns-in-Err-clause-stalled
+returns-in-Err-clause-stalled g c = λ is. absurd (unturned_on _ _ c.in-Err.ensures.only is)
+
+pub returns-in-Err-wait-clause-only : goal.returns-in-Err-wait-clause-only
+returns-in-Err-wait-clause-only g c = waited_stopped _ _ c.in-Err-wait.ensures.only
+
+pub returns-in-Err-wait-clause-stalled : goal.returns-in-Err-wait-clause-stalled
+returns-in-Err-wait-clause-stalled g c = λ is. absurd (waited_on _ c.in-Err-wait.ensures.only is)
+
+pub returns-clause-counted : goal.returns-clause-counted
+returns-clause-counted g c = c.loop-turn.invariant.steady

@@ -1,9 +1,10 @@
-use Rattle.std.proofs.Common.{◌≡◌, ◌∙◌, ◌<◌, Some, length, slice_index, rules, refl, sym, ap}
+use Rattle.std.proofs.Common.{◌≡◌, ◌∙◌, ◌<◌, Some, length, slice_index, rules, refl, sym, ap, inl, inr}
 use Rattle.std.proofs.lemmas.List.{length-map, get_or-set_same}
 use Rattle.fkv_locked.specs.Owns.{told_after}
 use Rattle.fkv_store.proofs.CountLemmas.{none-counted, told-at, strange-plain, roomless-plain, unrefreshed-plain, unentered-plain}
 use Rattle.fkv_operations.specs.After.{key_of}
 use Rattle.fkv_partition.specs.CoreViews.{partition_of}
+use Rattle.fkv_store.proofs.StopLemmas.{roomless_stopped, roomless_on, unrefreshed_stopped, unrefreshed_on, unentered_stopped, unentered_on, strange_on}
 use Rattle.fkv_store.proofs.passes.Pass.run_as.Goals as goal
 
 pub returns-clause-ok : goal.returns-clause-ok
@@ -71,3 +72,82 @@ pub returns-in-Err-session_in-clause-counted : goal.returns-in-Err-session_in-cl
 returns-in-Err-session_in-clause-counted g c =
     let missed : c.none-self-inside.result.missed ≡ 0 = ap (λ t. t.missed) c.none-self-inside.ensures in
     rw (← c.self.view_is) (none-counted g.D.Receipt.Receipt.keeps _ _ _ c.in-Err-session_in.refused missed (unentered-plain _ c.in-Err-session_in.ensures.only))
+
+pub returns-in-Err-clause-only : goal.returns-in-Err-clause-only
+returns-in-Err-clause-only g c = inl c.in-Err.ensures.refused
+
+pub returns-in-Err-clause-stalled : goal.returns-in-Err-clause-stalled
+returns-in-Err-clause-stalled g c = λ is. absurd (strange_on c.args.store.now c.args.self.now c.in-Err.refused c.in-Err.ensures.refused is)
+
+pub returns-in-Err-run_in-clause-stalled : goal.returns-in-Err-run_in-clause-stalled
+returns-in-Err-run_in-clause-stalled g c = c.in-Err-run_in.ensures.stalled
+
+pub returns-in-Err-make_room-clause-only : goal.returns-in-Err-make_room-clause-only
+returns-in-Err-make_room-clause-only g c = inr (inl (roomless_stopped _ _ c.in-Err-make_room.ensures.only))
+
+pub returns-in-Err-make_room-clause-stalled : goal.returns-in-Err-make_room-clause-stalled
+returns-in-Err-make_room-clause-stalled g c = λ is. absurd (roomless_on _ c.in-Err-make_room.ensures.only is)
+
+pub returns-in-Err-refresh_at_times-clause-only : goal.returns-in-Err-refresh_at_times-clause-only
+returns-in-Err-refresh_at_times-clause-only g c = inr (inl (unrefreshed_stopped _ _ c.in-Err-refresh_at_times.ensures.only))
+
+pub returns-in-Err-refresh_at_times-clause-stalled : goal.returns-in-Err-refresh_at_times-clause-stalled
+returns-in-Err-refresh_at_times-clause-stalled g c = λ is. absurd (unrefreshed_on _ c.in-Err-refresh_at_times.ensures.only is)
+
+pub returns-in-Err-session_in-clause-only : goal.returns-in-Err-session_in-clause-only
+returns-in-Err-session_in-clause-only g c = inr (inl (unentered_stopped _ _ c.in-Err-session_in.ensures.only))
+
+pub returns-in-Err-session_in-clause-stalled : goal.returns-in-Err-session_in-clause-stalled
+returns-in-Err-session_in-clause-stalled g c = λ is. absurd (unentered_on _ c.in-Err-session_in.ensures.only is)
+
+pub returns-in-Err-make_room-clause-foreign : goal.returns-in-Err-make_room-clause-foreign
+returns-in-Err-make_room-clause-foreign g c = λ other. absurd (other c.in-Ok.ensures.ok)
+
+pub returns-in-Err-refresh_at_times-clause-foreign : goal.returns-in-Err-refresh_at_times-clause-foreign
+returns-in-Err-refresh_at_times-clause-foreign g c = λ other. absurd (other c.in-Ok.ensures.ok)
+
+pub returns-in-Err-session_in-clause-foreign : goal.returns-in-Err-session_in-clause-foreign
+returns-in-Err-session_in-clause-foreign g c = λ other. absurd (other c.in-Ok.ensures.ok)
+
+pub returns-in-Err-run_in-clause-foreign : goal.returns-in-Err-run_in-clause-foreign
+returns-in-Err-run_in-clause-foreign g c = λ other. absurd (other c.in-Ok.ensures.ok)
+
+pub invariant_of-self-in-Err-make_room : goal.invariant_of-self-in-Err-make_room
+invariant_of-self-in-Err-make_room g c =
+    let own = sym c.make_room.ensures.len in (
+      c.self.invariant.0 ∙ own,
+      ap length c.make_room.ensures.told ∙ c.self.invariant.1 ∙ own,
+      c.self.invariant.2 ∙ own,
+      c.self.invariant.3 ∙ own,
+      c.self.invariant.4 ∙ own,
+    )
+
+pub invariant_of-self-in-Err-refresh_at_times : goal.invariant_of-self-in-Err-refresh_at_times
+invariant_of-self-in-Err-refresh_at_times g c =
+    let own = sym c.make_room.ensures.len in (
+      c.self.invariant.0 ∙ own,
+      ap length c.make_room.ensures.told ∙ c.self.invariant.1 ∙ own,
+      c.self.invariant.2 ∙ own,
+      c.refresh_at_times.ensures.seen ∙ c.self.invariant.3 ∙ own,
+      c.self.invariant.4 ∙ own,
+    )
+
+pub invariant_of-self-in-Err-session_in : goal.invariant_of-self-in-Err-session_in
+invariant_of-self-in-Err-session_in g c =
+    let own = sym c.make_room.ensures.len in (
+      c.self.invariant.0 ∙ own,
+      ap length c.make_room.ensures.told ∙ c.self.invariant.1 ∙ own,
+      c.session_in.ensures.sessions ∙ c.self.invariant.2 ∙ own,
+      c.refresh_at_times.ensures.seen ∙ c.self.invariant.3 ∙ own,
+      c.self.invariant.4 ∙ own,
+    )
+
+pub invariant_of-self-in-Err-run_in : goal.invariant_of-self-in-Err-run_in
+invariant_of-self-in-Err-run_in g c =
+    let own = sym c.make_room.ensures.len in (
+      c.self.invariant.0 ∙ own,
+      ap length c.make_room.ensures.told ∙ c.self.invariant.1 ∙ own,
+      c.session_in.ensures.sessions ∙ c.self.invariant.2 ∙ own,
+      c.refresh_at_times.ensures.seen ∙ c.self.invariant.3 ∙ own,
+      c.run_in.ensures.readers ∙ c.self.invariant.4 ∙ own,
+    )

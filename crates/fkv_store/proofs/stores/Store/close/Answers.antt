@@ -51,3 +51,9 @@ returns-clause-refused g c own =
     g.F.Key.Ord.cmp g.F.Functions.meaning g.H.Recorder.keeps g.D.Receipt.Receipt.keeps _ c.in-Ok.left.parts.items c.in-Ok.ensures.parts c.in-Ok.ensures.ended
     (map (λ pass. pass.own) c.args.passes.items) (map (λ pass. pass.share) c.args.passes.items) c.in-Err-close_parts.refused _ _
     (rw (c.as_slice.ensures.value, c.in-Ok.ensures.shares, c.in-Ok.ensures.owns) at c.in-Err-close_parts.ensures.refused))
+
+pub returns-in-Ok-close_parts-clause-foreign : goal.returns-in-Ok-close_parts-clause-foreign
+returns-in-Ok-close_parts-clause-foreign g c = λ foreign. absurd (foreign c.in-Ok.ensures.own)
+
+pub returns-clause-foreign : goal.returns-clause-foreign
+returns-clause-foreign g c = λ foreign. absurd (foreign c.in-Ok.ensures.own)

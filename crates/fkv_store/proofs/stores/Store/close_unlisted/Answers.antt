@@ -2,7 +2,7 @@ use Rattle.std.proofs.Common.{Err, length, map, inl, inr, sym, ap, subst, ◌∙
 use Rattle.std.proofs.lemmas.List.{length-map}
 use Rattle.fkv_functions.specs.declared.refusals.Refused.TheVariants as refused
 use Rattle.fkv_closing.specs.Lists.{lists_of}
-use Rattle.fkv_closing.specs.Closing.{AreMerged}
+use Rattle.fkv_closing.specs.Closing.{AreMerged, AreNumbered}
 use Rattle.fkv_store.specs.Stores.{AreReaders}
 use Rattle.fkv_store.proofs.ClosingLemmas.{unsettled, same_refusal}
 use Rattle.fkv_store.proofs.LeftLemmas.{unsettled_by}
@@ -56,3 +56,30 @@ returns-in-Err-close_unlisted-clause-refused g c own =
     g.F.Key.Ord.cmp g.F.Functions.meaning g.H.Recorder.keeps g.D.Receipt.Receipt.keeps _ c.in-Ok.left.parts.items c.in-Ok.ensures.parts c.in-Ok.ensures.ended
     (map (λ pass. pass.own) c.args.passes.items) (map (λ pass. pass.share) c.args.passes.items) c.in-Err-close_unlisted.refused
     (rw (← c.in-Ok.ensures.owns, ← c.in-Ok.ensures.shares, ← c.as_slice.ensures.value) c.in-Err-close_unlisted.ensures.refused))
+
+pub returns-in-Ok-take_apart-clause-closed : goal.returns-in-Ok-take_apart-clause-closed
+returns-in-Ok-take_apart-clause-closed g c k held =
+    rw (c.in-Ok-take_apart.ensures.partitions ∙ ap (λ v. map (λ part. part.partition) v.items) c.in-Ok-close_unlisted.ensures.parts, c.in-Ok-take_apart.ensures.histories ∙ ap (λ v. map (λ part. part.history.items) v.items) c.in-Ok-close_unlisted.ensures.parts, ← c.in-Ok.ensures.owns, ← c.in-Ok.ensures.shares, ← c.as_slice.ensures.value)
+    (c.in-Ok-close_unlisted.ensures.closed k held)
+
+pub returns-in-Ok-take_apart-clause-numbered : goal.returns-in-Ok-take_apart-clause-numbered
+returns-in-Ok-take_apart-clause-numbered g c =
+    subst AreNumbered (sym (c.in-Ok-take_apart.ensures.partitions ∙ ap (λ v. map (λ part. part.partition) v.items) c.in-Ok-close_unlisted.ensures.parts)) c.in-Ok-close_unlisted.ensures.numbered
+
+pub returns-in-Ok-take_apart-clause-shared : goal.returns-in-Ok-take_apart-clause-shared
+returns-in-Ok-take_apart-clause-shared g c = rw (← c.in-Ok.ensures.shares, ← c.as_slice.ensures.value) c.in-Ok-close_unlisted.ensures.shared
+
+pub returns-in-Ok-take_apart-clause-foreign : goal.returns-in-Ok-take_apart-clause-foreign
+returns-in-Ok-take_apart-clause-foreign g c = λ foreign. absurd (foreign c.in-Ok.ensures.own)
+
+pub returns-in-Err-take_apart-clause-foreign : goal.returns-in-Err-take_apart-clause-foreign
+returns-in-Err-take_apart-clause-foreign g c = λ foreign. absurd (foreign c.in-Ok.ensures.own)
+
+pub returns-in-Err-take_apart-clause-worn : goal.returns-in-Err-take_apart-clause-worn
+returns-in-Err-take_apart-clause-worn g c own over = inr (inl c.in-Err-take_apart.ensures.only)
+
+pub returns-in-Err-take_apart-clause-refused : goal.returns-in-Err-take_apart-clause-refused
+returns-in-Err-take_apart-clause-refused g c own = inl (inl c.in-Err-take_apart.ensures.only)
+
+pub returns-in-Err-close_unlisted-clause-foreign : goal.returns-in-Err-close_unlisted-clause-foreign
+returns-in-Err-close_unlisted-clause-foreign g c = λ foreign. absurd (foreign c.in-Ok.ensures.own)

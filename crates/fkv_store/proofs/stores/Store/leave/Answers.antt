@@ -1,4 +1,4 @@
-use Rattle.std.proofs.Common.{◌≡◌, ℕ, List, length, refl, sym, ap, ◌∙◌, true, false}
+use Rattle.std.proofs.Common.{◌≡◌, ℕ, List, length, refl, sym, ap, ◌∙◌, true, false, inl}
 use Rattle.std.specs.List.{All}
 use Rattle.fkv_functions.proofs.CallLemmas.{with_ten}
 use Rattle.fkv_store.specs.Passes.{PassView, IsPassOf}
@@ -43,3 +43,24 @@ returns-clause-own g c = rw c.as_slice.ensures.value at c.if-not-knows_all.ensur
 
 pub returns-clause-foreign : goal.returns-clause-foreign
 returns-clause-foreign g c foreign = absurd (foreign (rw c.as_slice.ensures.value at c.if-not-knows_all.ensures.0 refl))
+
+pub returns-in-Err-clause-known : goal.returns-in-Err-clause-known
+returns-in-Err-clause-known g c = λ own. c.in-Err.ensures.only
+
+pub returns-in-Err-parts_of-clause-known : goal.returns-in-Err-parts_of-clause-known
+returns-in-Err-parts_of-clause-known g c = λ own. inl c.in-Err-parts_of.ensures.only
+
+pub returns-in-Err-parts_of-clause-only : goal.returns-in-Err-parts_of-clause-only
+returns-in-Err-parts_of-clause-only g c = rw c.in-Err-parts_of.ensures.only tt
+
+pub returns-in-Err-kept_by-clause-known : goal.returns-in-Err-kept_by-clause-known
+returns-in-Err-kept_by-clause-known g c = λ own. inl c.in-Err-kept_by.ensures.only
+
+pub returns-in-Err-kept_by-clause-only : goal.returns-in-Err-kept_by-clause-only
+returns-in-Err-kept_by-clause-only g c = rw c.in-Err-kept_by.ensures.only tt
+
+pub returns-clause-parts : goal.returns-clause-parts
+returns-clause-parts g c = c.in-Ok-parts_of.ensures.len ∙ (c.self.inside.locks.ok.0 ∙ ap (λ s. s.count) c.self.view_is)
+
+pub returns-clause-readers : goal.returns-clause-readers
+returns-clause-readers g c = c.in-Ok.ensures.ok ∙ (c.len.ensures ∙ (c.self.inside.locks.ok.0 ∙ ap (λ s. s.count) c.self.view_is))
