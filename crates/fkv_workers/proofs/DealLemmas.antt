@@ -1,12 +1,15 @@
--- Rows of feeds that are dealt out to workers.
-use Rattle.std.proofs.Common.{◌≡◌, ◌+◌, ◌<◌, ◌==◌, ◌%◌, ℕ, ℤ, cond, inl, inr, List, [], ◌∷◌, ◌++◌, map, filter, fold, Option, refl, sym, ap, subst, ◌∙◌}
-use Rattle.std.specs.List.{enumerate_from}
+-- Feeds that workers take in turn, as pieces: each feed is one.
+use Rattle.std.proofs.Common.{◌≡◌, ◌+◌, ◌<◌, ◌≤◌, ◌==◌, ◌%◌, ℕ, ℤ, zero, suc, Bool, true, false, cond, inl, inr, List, [], ◌∷◌, ◌++◌, length, map, filter, flat_map, get_or, Option, None, refl, sym, ap, subst, ◌∙◌, arith, append-nil}
+use Rattle.std.specs.List.{All, enumerate_from}
 use Rattle.std.proofs.lemmas.Bool.{eq-eqb, ne_eqb, cases_eq}
-use Rattle.std.proofs.lemmas.List.Sums.{fold-append}
+use Rattle.std.proofs.lemmas.List.Elements.{All-nil, All-cons, All-head, All-tail, All-weaker, All-filter}
+use Rattle.std.proofs.lemmas.Option.{slice_get-get_or}
 use Rattle.std.proofs.Math.Nat.{mod-lt}
 use Rattle.fkv_functions.specs.declared.names.Name.{Name}
+use Rattle.fkv_feed_rows.specs.Feeds.{IsFeed}
 use Rattle.fkv_feeds.specs.Tables.{AreFeeds}
-use Rattle.fkv_workers.proofs.FoldLemmas.{AllR, AllR-back, joined, joined_none, joined_same, moved, folds_stay}
+use Rattle.fkv_workers.specs.Shares.{AreFed, AreFedInTurn, Piece, rows_of}
+use Rattle.fkv_workers.proofs.FoldLemmas.{owned, owned_here, owned_other}
 
 -- the items of a worker, from the one of this place on
 abbrev pub dealt_from : {A : Type 0} → ℕ → ℕ → ℕ → List A → List A
@@ -18,24 +21,44 @@ dealt_here place workers x xs = rw (eq-eqb (place % workers) (place % workers) r
 dealt_other : {A : Type 0} (place workers w : ℕ) (x : A) (xs : List A) → (w ≡ place % workers → ⊥) → dealt_from place workers w (x ∷ xs) ≡ dealt_from (place + 1) workers w xs
 dealt_other place workers w x xs ne = rw (ne_eqb (place % workers) w (λ e. ne (sym e))) refl
 
-module _ (limit workers : ℕ) (some : 0 < workers) {Z C : Type 0} (f : Z → C → Name × ℤ → C) (Q : C → Type 0) (P : Name × ℤ → Type 0)
-    (stays : (z : Z) (c : C) (r : Name × ℤ) → Q c → P r → Q (f z c r))
-    (comm : (z : Z) (c : C) (r s : Name × ℤ) → Q c → P r → P s → f z (f z c r) s ≡ f z (f z c s) r) where
-  -- the rows of all feeds, in the order of the feeds, and that a fold over them is one over the shares, one after the other
-  abbrev pub HasAll : List (Option (List ℕ)) → (ℕ → List (Name × ℤ)) → Type 0
-  HasAll feeds share =
-      (rows : List (Name × ℤ))
-      × AreFeeds limit feeds rows
-      × ((z : Z) (c : C) → Q c → fold (f z) c rows ≡ joined (f z) c share workers)
+owned_none : {X : Type 0} (who : X → ℕ) (xs : List X) (i : ℕ) → All (λ x. who x ≡ i → ⊥) xs → owned who xs i ≡ []
+owned_none who [] i all = refl
+owned_none who (x ∷ xs) i all =
+    rw (ne_eqb (who x) i (All-head (λ y. who y ≡ i → ⊥) x xs all)) (owned_none who xs i (All-tail (λ y. who y ≡ i → ⊥) x xs all))
 
-  abbrev AreFed : ℕ → List (Option (List ℕ)) → (ℕ → List (Name × ℤ)) → Type 0
-  AreFed place feeds share = (w : ℕ) → w < workers → AreFeeds limit (dealt_from place workers w feeds) (share w)
+-- two filters in either order
+filters_swap : {X : Type 0} (p q : X → Bool) (xs : List X) → filter p (filter q xs) ≡ filter q (filter p xs)
+filters_swap p q [] = refl
+filters_swap p q (x ∷ xs) = by (p x) (q x) refl refl (filters_swap p q xs)
+  where
+    by : (a b : Bool) → p x ≡ a → q x ≡ b → filter p (filter q xs) ≡ filter q (filter p xs) → filter p (filter q (x ∷ xs)) ≡ filter q (filter p (x ∷ xs))
+    by true true is too rest = rw (is, too, is) (ap (λ l. x ∷ l) rest)
+    by true false is too rest = rw (is, too) rest
+    by false true is too rest = rw (is, too, is) rest
+    by false false is too rest = rw (is, too) rest
 
-  abbrev AreKnown : (ℕ → List (Name × ℤ)) → Type 0
-  AreKnown share = (w : ℕ) → w < workers → AllR P (share w)
+abbrev pub worker_of : Piece → ℕ
+worker_of piece = piece.worker
+
+abbrev pub feed_of : Piece → ℕ
+feed_of piece = piece.feed
+
+module _ (limit workers : ℕ) (some : 0 < workers) where
+  abbrev AreTaken : ℕ → List (Option (List ℕ)) → (ℕ → List (Name × ℤ)) → Type 0
+  AreTaken place feeds share = (w : ℕ) → w < workers → AreFeeds limit (dealt_from place workers w feeds) (share w)
+
+  -- a piece of so many workers, and of a feed from this place on
+  abbrev IsOf : ℕ → ℕ → Piece → Type 0
+  IsOf place count piece = (piece.worker < workers) × (place ≤ piece.feed) × (piece.feed < place + count)
+
+  -- these pieces are the feeds from this place on, and the shares
+  record ArePieces (place : ℕ) (feeds : List (Option (List ℕ))) (share : ℕ → List (Name × ℤ)) (pieces : List Piece) : Type 0 where
+    of : All (IsOf place (length feeds)) pieces
+    read : (f : ℕ) → f < length feeds → IsFeed limit (get_or feeds f None) (rows_of (owned feed_of pieces (place + f)))
+    has : (w : ℕ) → w < workers → share w ≡ rows_of (owned worker_of pieces w)
 
   -- one feed before the others, which is worker o's: `others` is what that worker has beside its rows
-  module _ (feed : Option (List ℕ)) (feeds : List (Option (List ℕ))) (place : ℕ) (share : ℕ → List (Name × ℤ)) (fed : AreFed place (feed ∷ feeds) share) (known : AreKnown share)
+  module _ (feed : Option (List ℕ)) (feeds : List (Option (List ℕ))) (place : ℕ) (share : ℕ → List (Name × ℤ)) (taken : AreTaken place (feed ∷ feeds) share)
       (one others : List (Name × ℤ)) (is : share (place % workers) ≡ one ++ others) where
     -- the shares of the other feeds
     left : ℕ → List (Name × ℤ)
@@ -49,45 +72,72 @@ module _ (limit workers : ℕ) (some : 0 < workers) {Z C : Type 0} (f : Z → C 
     unfolding left
     left_other w ne = rw (ne_eqb w (place % workers) ne) refl
 
-    parts : AllR P one × AllR P others
-    parts = AllR-back P one others (subst (AllR P) is (known (place % workers) (mod-lt place some)))
-
-    left_known : AreKnown left
-    left_known w lt = elim (cases_eq w (place % workers)) [
-      | inl e ↦ subst (λ v. AllR P (left v)) (sym e) (subst (AllR P) (sym left_here) parts.1)
-      | inr ne ↦ subst (AllR P) (sym (left_other w ne)) (known w lt)
-    ]
-
-    left_fed : AreFeeds limit (dealt_from (place + 1) workers (place % workers) feeds) others → AreFed (place + 1) feeds left
-    left_fed rest w lt = elim (cases_eq w (place % workers)) [
+    left_taken : AreFeeds limit (dealt_from (place + 1) workers (place % workers) feeds) others → AreTaken (place + 1) feeds left
+    left_taken rest w lt = elim (cases_eq w (place % workers)) [
       | inl e ↦ subst (λ v. AreFeeds limit (dealt_from (place + 1) workers v feeds) (left v)) (sym e)
           (subst (AreFeeds limit (dealt_from (place + 1) workers (place % workers) feeds)) (sym left_here) rest)
       | inr ne ↦ subst (AreFeeds limit (dealt_from (place + 1) workers w feeds)) (sym (left_other w ne))
-          (subst (λ ds. AreFeeds limit ds (share w)) (dealt_other place workers w feed feeds ne) (fed w lt))
+          (subst (λ ds. AreFeeds limit ds (share w)) (dealt_other place workers w feed feeds ne) (taken w lt))
     ]
 
-    all_more : (rows : List (Name × ℤ)) → (z : Z) (c : C) → Q c
-        → (Q (fold (f z) c one) → fold (f z) (fold (f z) c one) rows ≡ joined (f z) (fold (f z) c one) left workers)
-        → fold (f z) c (one ++ rows) ≡ joined (f z) c share workers
-    all_more rows z c q rest =
-        fold-append (f z) c one rows
-        ∙ (rest (folds_stay (f z) Q P (stays z) (comm z) c one q parts.0)
-        ∙ sym (moved (f z) Q P (stays z) (comm z) c one share left (place % workers) workers q (mod-lt place some)
-        (is ∙ ap (λ ys. one ++ ys) (sym left_here))
-        (λ w ne. sym (left_other w ne)) parts.0 left_known))
+    abbrev piece : Piece
+    piece = record { worker = place % workers; feed = place; rows = one }
 
-  pub all_rows : (feeds : List (Option (List ℕ))) (place : ℕ) (share : ℕ → List (Name × ℤ)) → AreFed place feeds share → AreKnown share → HasAll feeds share
-  all_rows [] place share fed known =
-      ([], refl, λ z c q. sym (joined_same (f z) c share (λ i. []) workers (λ i lt. fed i lt) ∙ joined_none (f z) c workers))
-  all_rows (feed ∷ feeds) place share fed known =
-      let here = subst (λ ds. AreFeeds limit ds (share (place % workers))) (dealt_here place workers feed feeds) (fed (place % workers) (mod-lt place some)) in
+    pieces_more : (pieces : List Piece) → IsFeed limit feed one → ArePieces (place + 1) feeds left pieces → ArePieces place (feed ∷ feeds) share (piece ∷ pieces)
+    pieces_more pieces fed p = record { of = of; read = read; has = has }
+      where
+        of : All (IsOf place (length (feed ∷ feeds))) (piece ∷ pieces)
+        of =
+            All-cons (IsOf place (length (feed ∷ feeds))) piece pieces (mod-lt place some, omega arith, omega arith)
+            (All-weaker (IsOf (place + 1) (length feeds)) (IsOf place (length (feed ∷ feeds))) (λ q h. (h.0, omega (arith, h.1), omega (arith, h.2))) pieces p.of)
+
+        alone : owned feed_of (piece ∷ pieces) place ≡ piece ∷ []
+        alone =
+            owned_here feed_of piece pieces
+            ∙ ap (λ l. piece ∷ l) (owned_none feed_of pieces place (All-weaker (IsOf (place + 1) (length feeds)) (λ q. q.feed ≡ place → ⊥) (λ q h e. omega (arith, h.1, e)) pieces p.of))
+
+        read : (f : ℕ) → f < length (feed ∷ feeds) → IsFeed limit (get_or (feed ∷ feeds) f None) (rows_of (owned feed_of (piece ∷ pieces) (place + f)))
+        read zero lt =
+            let rows : one ≡ rows_of (owned feed_of (piece ∷ pieces) place) = sym (ap rows_of alone ∙ append-nil one) in
+            let same : place ≡ place + 0 = omega arith in
+            subst (IsFeed limit feed) (rows ∙ ap (λ i. rows_of (owned feed_of (piece ∷ pieces) i)) same) fed
+        read (suc f) lt =
+            let next : place + 1 + f ≡ place + suc f = omega arith in
+            let other = owned_other feed_of piece pieces (place + suc f) (λ e. omega (arith, e)) in
+            subst (λ l. IsFeed limit (get_or feeds f None) (rows_of l)) (ap (owned feed_of pieces) next ∙ sym other) (p.read f (omega (arith, lt)))
+
+        has : (w : ℕ) → w < workers → share w ≡ rows_of (owned worker_of (piece ∷ pieces) w)
+        has w lt = elim (cases_eq w (place % workers)) [
+          | inl e ↦ subst (λ v. share v ≡ rows_of (owned worker_of (piece ∷ pieces) v)) (sym e)
+              (is ∙ (ap (λ l. one ++ l) (sym left_here ∙ p.has (place % workers) (mod-lt place some)) ∙ ap rows_of (sym (owned_here worker_of piece pieces))))
+          | inr ne ↦ sym (left_other w ne) ∙ (p.has w lt ∙ ap rows_of (sym (owned_other worker_of piece pieces w ne)))
+        ]
+
+  pieces_of : (feeds : List (Option (List ℕ))) (place : ℕ) (share : ℕ → List (Name × ℤ)) → AreTaken place feeds share → (pieces : List Piece) × ArePieces place feeds share pieces
+  pieces_of [] place share taken = ([], record { of = All-nil (IsOf place 0); read = λ f lt. absurd (omega (arith, lt)); has = taken })
+  pieces_of (feed ∷ feeds) place share taken =
+      let here = subst (λ ds. AreFeeds limit ds (share (place % workers))) (dealt_here place workers feed feeds) (taken (place % workers) (mod-lt place some)) in
       let one = here.0 in
       let others = here.1 in
       let is = here.4 in
-      let more = all_rows feeds (place + 1) (left feed feeds place share fed known one others is)
-      (left_fed feed feeds place share fed known one others is here.3)
-      (left_known feed feeds place share fed known one others is) in (
-        one ++ more.0,
-        (one, more.0, here.2, more.1, refl),
-        λ z c q. all_more feed feeds place share fed known one others is more.0 z c q (more.2 z (fold (f z) c one)),
-      )
+      let more = pieces_of feeds (place + 1) (left feed feeds place share taken one others is) (left_taken feed feeds place share taken one others is here.3) in
+      (record { worker = place % workers; feed = place; rows = one } ∷ more.0, pieces_more feed feeds place share taken one others is more.0 here.2 more.1)
+
+-- WHO TAKES FEEDS IN TURN shares their rows out
+pub fed_in_turn : (limit : ℕ) (feeds : List (Option (List ℕ))) (shares : List (List (Name × ℤ))) → AreFedInTurn limit feeds shares → AreFed limit feeds shares
+fed_in_turn limit feeds shares turns =
+    let workers = length shares in
+    let found = pieces_of limit workers turns.some feeds 0 (λ w. get_or shares w []) (λ w lt. turns.each w (get_or shares w []) (slice_get-get_or shares w [] lt)) in
+    let pieces = found.0 in
+    let of = found.1.of in
+    record {
+      order = λ f. owned feed_of pieces f;
+      hand = λ w. owned worker_of pieces w;
+      read = λ f lt. (let same : 0 + f ≡ f = omega arith in subst (λ i. IsFeed limit (get_or feeds f None) (rows_of (owned feed_of pieces i))) same (found.1.read f lt));
+      share = found.1.has;
+      held = λ f w feed worker. filters_swap (λ piece. worker_of piece == w) (λ piece. feed_of piece == f) pieces;
+      some_worker = λ f lt. All-filter (λ piece. feed_of piece == f) (λ (piece : Piece). piece.worker < workers) pieces
+          (All-weaker (IsOf limit workers turns.some 0 (length feeds)) (λ (piece : Piece). piece.worker < workers) (λ piece h. h.0) pieces of);
+      some_feed = λ w lt. All-filter (λ piece. worker_of piece == w) (λ (piece : Piece). piece.feed < length feeds) pieces
+          (All-weaker (IsOf limit workers turns.some 0 (length feeds)) (λ (piece : Piece). piece.feed < length feeds) (λ piece h. omega (arith, h.2)) pieces of);
+    }

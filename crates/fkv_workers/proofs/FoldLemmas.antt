@@ -1,6 +1,8 @@
 -- A fold whose steps commute, over a list and over its parts, one part after the other.
 use Rattle.std.proofs.Common.{◌≡◌, ℕ, ◌<◌, ◌==◌, Bool, zero, suc, true, false, ◌⊎◌, inl, inr, List, [], ◌∷◌, ◌++◌, length, filter, fold, refl, sym, ap, subst, ◌∙◌, arith}
+use Rattle.std.specs.List.{All}
 use Rattle.std.proofs.lemmas.Bool.{cases_lt, cases_eq, lt-ltb, le-ltb, ltb-true, eq-eqb, ne_eqb}
+use Rattle.std.proofs.lemmas.List.Elements.{All-head, All-tail}
 use Rattle.std.proofs.lemmas.List.Sums.{fold-append, length-filter, count_by-le-length}
 use Rattle.std.proofs.Math.Dec.{ltb}
 
@@ -15,6 +17,18 @@ AllR-filter {X = X} P p (x ∷ xs) all =
     let rest = AllR-filter P p xs all.1 in
     let by : (b : Bool) → p x ≡ b → AllR P (filter p (x ∷ xs)) = elim [ true ↦ λ h. rw h (all.0, rest) | false ↦ λ h. rw h rest ] in
     by (p x) refl
+
+pub AllR-weaker : {X : Type 0} (P Q : X → Type 0) → ((x : X) → P x → Q x) → (xs : List X) → AllR P xs → AllR Q xs
+AllR-weaker P Q says [] all = tt
+AllR-weaker P Q says (x ∷ xs) all = (says x all.0, AllR-weaker P Q says xs all.1)
+
+pub AllR-each : {X : Type 0} (P : X → Type 0) (xs : List X) → All P xs → AllR P xs
+AllR-each P [] all = tt
+AllR-each P (x ∷ xs) all = (All-head P x xs all, AllR-each P xs (All-tail P x xs all))
+
+pub AllR-append : {X : Type 0} (P : X → Type 0) (xs ys : List X) → AllR P xs → AllR P ys → AllR P (xs ++ ys)
+AllR-append P [] ys a b = b
+AllR-append P (x ∷ xs) ys a b = (a.0, AllR-append P xs ys a.1 b)
 
 pub AllR-back : {X : Type 0} (P : X → Type 0) (xs ys : List X) → AllR P (xs ++ ys) → AllR P xs × AllR P ys
 AllR-back P [] ys all = (tt, all)
@@ -39,10 +53,10 @@ all-counted {X = X} p (x ∷ xs) h = by (p x) refl (all-counted p xs)
 abbrev pub owned : {X : Type 0} → (X → ℕ) → List X → ℕ → List X
 owned who xs i = filter (λ x. who x == i) xs
 
-owned_here : {X : Type 0} (who : X → ℕ) (x : X) (xs : List X) → owned who (x ∷ xs) (who x) ≡ x ∷ owned who xs (who x)
+pub owned_here : {X : Type 0} (who : X → ℕ) (x : X) (xs : List X) → owned who (x ∷ xs) (who x) ≡ x ∷ owned who xs (who x)
 owned_here who x xs = rw (eq-eqb (who x) (who x) refl) refl
 
-owned_other : {X : Type 0} (who : X → ℕ) (x : X) (xs : List X) (i : ℕ) → (i ≡ who x → ⊥) → owned who (x ∷ xs) i ≡ owned who xs i
+pub owned_other : {X : Type 0} (who : X → ℕ) (x : X) (xs : List X) (i : ℕ) → (i ≡ who x → ⊥) → owned who (x ∷ xs) i ≡ owned who xs i
 owned_other who x xs i ne = rw (ne_eqb (who x) i (λ e. ne (sym e))) refl
 
 -- a fact of the elements of each owner, where each has one
@@ -74,6 +88,14 @@ module _ {C X : Type 0} (f : C → X → C) where
   joined_same c ps qs zero h = refl
   joined_same c ps qs (suc n) h = rw (joined_same c ps qs n (λ i lt. h i (omega (arith, lt))), h n (omega arith)) refl
 
+  -- parts that come to the same, whatever was before
+  pub joined_alike : {Y : Type 0} (g : C → Y → C) (c : C) (ps : ℕ → List X) (qs : ℕ → List Y) (n : ℕ)
+      → ((i : ℕ) → i < n → (d : C) → fold f d (ps i) ≡ fold g d (qs i))
+      → joined f c ps n ≡ joined g c qs n
+  joined_alike g c ps qs zero h = refl
+  joined_alike g c ps qs (suc n) h =
+      h n (omega arith) (joined f c ps n) ∙ ap (λ d. fold g d (qs n)) (joined_alike g c ps qs n (λ i lt. h i (omega (arith, lt))))
+
   pub joined_none : (c : C) (n : ℕ) → joined f c (λ i. []) n ≡ c
   joined_none c zero = refl
   joined_none c (suc n) = joined_none c n
@@ -89,18 +111,18 @@ module _ {C X : Type 0} (f : C → X → C) (Q : C → Type 0) (P : X → Type 0
   fold_move c x (y ∷ ys) q px all = ap (λ d. fold f d ys) (comm c x y q px all.0) ∙ fold_move (f c y) x ys (stays c y q all.0) px all.1
 
   -- two lists in either order
-  fold_swap : (c : C) (xs ys : List X) → Q c → AllR P xs → AllR P ys → fold f (fold f c xs) ys ≡ fold f (fold f c ys) xs
+  pub fold_swap : (c : C) (xs ys : List X) → Q c → AllR P xs → AllR P ys → fold f (fold f c xs) ys ≡ fold f (fold f c ys) xs
   fold_swap c [] ys q px py = refl
   fold_swap c (x ∷ xs) ys q px py =
       fold_swap (f c x) xs ys (stays c x q px.0) px.1 py ∙ ap (λ d. fold f d xs) (fold_move c x ys q px.0 py)
 
-  joined_stays : (c : C) (parts : ℕ → List X) (n : ℕ) → Q c → ((i : ℕ) → i < n → AllR P (parts i)) → Q (joined f c parts n)
+  pub joined_stays : (c : C) (parts : ℕ → List X) (n : ℕ) → Q c → ((i : ℕ) → i < n → AllR P (parts i)) → Q (joined f c parts n)
   joined_stays c parts zero q all = q
   joined_stays c parts (suc n) q all =
       folds_stay (joined f c parts n) (parts n) (joined_stays c parts n q (λ i lt. all i (omega (arith, lt)))) (all n (omega arith))
 
   -- a list before all parts or behind them
-  joined_swap : (c : C) (one : List X) (parts : ℕ → List X) (n : ℕ) → Q c → AllR P one → ((i : ℕ) → i < n → AllR P (parts i))
+  pub joined_swap : (c : C) (one : List X) (parts : ℕ → List X) (n : ℕ) → Q c → AllR P one → ((i : ℕ) → i < n → AllR P (parts i))
       → fold f (joined f c parts n) one ≡ joined f (fold f c one) parts n
   joined_swap c one parts zero q known all = refl
   joined_swap c one parts (suc n) q known all =

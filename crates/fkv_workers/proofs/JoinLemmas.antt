@@ -21,18 +21,10 @@ use Rattle.fkv_partition.specs.CoreViews.{partition_of}
 use Rattle.fkv_store.specs.Passes.{IsUpdateBy}
 use Rattle.fkv_feeds.specs.Tables.{AreFeeds, amounts_of, folded}
 use Rattle.fkv_workers.specs.Shares.{rows_at, HasRows, HasShare, AreFed, AreShuffled, value_by}
-use Rattle.fkv_workers.proofs.FoldLemmas.{AllR, AllR-filter, filter-all, joined}
+use Rattle.fkv_workers.proofs.FoldLemmas.{AllR, AllR-each, AllR-filter, AllR-weaker, filter-all, joined, joined_alike}
 use Rattle.fkv_workers.proofs.KeyLemmas.{on_key, by_row, row_here, fold_rows, after_all_here, fold_at, fold_amounts, row_stays, rows_commute}
 use Rattle.fkv_workers.proofs.OwnerLemmas.{part, all_told, by_lists}
-use Rattle.fkv_workers.proofs.DealLemmas.{all_rows}
-
-by_each : {X : Type 0} (P : X → Type 0) (xs : List X) → All P xs → AllR P xs
-by_each P [] all = tt
-by_each P (x ∷ xs) all = (All-head P x xs all, by_each P xs (All-tail P x xs all))
-
-weaker : {X : Type 0} (P Q : X → Type 0) → ((x : X) → P x → Q x) → (xs : List X) → AllR P xs → AllR Q xs
-weaker P Q says [] all = tt
-weaker P Q says (x ∷ xs) all = (says x all.0, weaker P Q says xs all.1)
+use Rattle.fkv_workers.proofs.FedLemmas.{all_rows}
 
 zip_at : {A B : Type 0} (R : A → B → Type 0) (xs : List A) (ys : List B) (i : ℕ) (d : A) (e : B) → AllZip R xs ys → i < length xs → R (get_or xs i d) (get_or ys i e)
 zip_at R [] ys i d e all lt = absurd (omega (arith, lt))
@@ -47,14 +39,6 @@ lists_at code count p lt [] [] all = tt
 lists_at code count p lt [] (rows ∷ shares) all = absurd all
 lists_at code count p lt (own ∷ owns) [] all = absurd all
 lists_at code count p lt (own ∷ owns) (rows ∷ shares) all = (all.0.lists p lt, lists_at code count p lt owns shares all.1)
-
--- parts that come to the same, whatever was before
-joined_alike : {C X Y : Type 0} (f : C → X → C) (g : C → Y → C) (c : C) (ps : ℕ → List X) (qs : ℕ → List Y) (n : ℕ)
-    → ((i : ℕ) → i < n → (d : C) → fold f d (ps i) ≡ fold g d (qs i))
-    → joined f c ps n ≡ joined g c qs n
-joined_alike f g c ps qs zero h = refl
-joined_alike f g c ps qs (suc n) h =
-    h n (omega arith) (joined f c ps n) ∙ ap (λ d. fold g d (qs n)) (joined_alike f g c ps qs n (λ i lt. h i (omega (arith, lt))))
 
 updating : {K V I : Type 0} (key : K) (input : I) (op : KeyedOp K V I) → IsUpdateBy key input op → is_update op ≡ true
 updating key input op (inl is) = rw is refl
@@ -118,8 +102,8 @@ module _ {V O : Type 0} (f : Meanings Name V ℤ O) (code : Name → ℕ) (order
 
     share_known : (w : ℕ) → w < length shares → AllR IsKnown (share w)
     share_known w lt =
-        weaker (λ r. FitsSigned w64 r.1) IsKnown (λ r fits. (named r.0, sized r.1 fits)) (share w)
-        (by_each (λ r. FitsSigned w64 r.1) (share w) (small w lt))
+        AllR-weaker (λ r. FitsSigned w64 r.1) IsKnown (λ r fits. (named r.0, sized r.1 fits)) (share w)
+        (AllR-each (λ r. FitsSigned w64 r.1) (share w) (small w lt))
 
     -- a history of one partition has at a key of it what the shares come to, one after the other
     module _ (count : ℕ) (k : Name) (history : List (Entry Name V ℤ O)) (owns : List (List (Entry Name V ℤ O))) (shuffle : IsShuffle history owns)
@@ -170,8 +154,7 @@ module _ {V O : Type 0} (f : Meanings Name V ℤ O) (code : Name → ℕ) (order
       let count = length histories in
       let long = AllZip-long (HasShare code count) owns shares has in
       let small : (w : ℕ) → w < n → All (λ r. FitsSigned w64 r.1) (get_or shares w []) = λ w lt. (zip_at (HasShare code count) owns shares w [] [] has (omega (arith, lt, long))).small in
-      let all = all_rows limit n fed.some (by_row name_cmp f) IsHeld IsKnown stays commute feeds 0 (share shares small)
-      (λ w lt. fed.each w (get_or shares w []) (slice_get-get_or shares w [] lt)) (share_known shares small) in (
+      let all = all_rows limit feeds shares fed (by_row name_cmp f) IsHeld IsKnown stays commute (share_known shares small) in (
         all.0,
         all.1,
         λ k.

@@ -1,11 +1,13 @@
 pub mod FoldLemmas
 pub mod KeyLemmas
 pub mod OwnerLemmas
-pub mod DealLemmas
+pub mod PieceLemmas
+pub mod FeedLemmas
+pub mod FedLemmas
 pub mod JoinLemmas
+pub mod DealLemmas
 pub mod HandLemmas
 pub mod ShareLemmas
-pub mod FeedLemmas
 pub mod StandLemmas
 pub mod WorkedLemmas
 pub mod StoppedLemmas

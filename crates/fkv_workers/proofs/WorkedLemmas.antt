@@ -11,8 +11,9 @@ use Rattle.fkv_functions.specs.declared.refusals.Refused.{Refused}
 use Rattle.fkv_feeds.specs.Tables.{AreFeeds, most_rows}
 use Rattle.fkv_feeds.specs.declared.modes.RowMode.{RowMode}
 use Rattle.fkv_store.specs.Passes.{PassView}
-use Rattle.fkv_workers.specs.Shares.{AreDealt, HasShare, dealt}
+use Rattle.fkv_workers.specs.Shares.{AreDealt, AreFedInTurn, HasShare, dealt}
 use Rattle.fkv_workers.specs.Works.{HasDone, IsFedBy, AreMadeBy}
+use Rattle.fkv_workers.proofs.DealLemmas.{fed_in_turn}
 
 -- a worker's feeds by what is known of their texts
 texts_dealt : {S T : Type 0} (f : S → T) (workers w place : ℕ) (items : List S)
@@ -84,15 +85,17 @@ pub fed_by : {W S V O : Type 0} (rem : S → Option (List ℕ)) (code : Name →
 fed_by {W = W} rem code mode feeds_in workers items works passes shares some hands read kept made =
     let fed : W → List (Name × ℤ) → Type 0 = λ work rows. AreFeeds most_rows (map (λ feed. rem feed.1) (feeds_in work)) rows in
     let many : length shares ≡ workers = AllZip-long fed works shares read ∙ (sym (length-map works feeds_in) ∙ hands.count) in
+    let turns : AreFedInTurn most_rows (map rem items) shares = record {
+      some = rw many some;
+      each = λ w rows at.
+          let found = beside fed works shares w rows read at in
+          let hand : feeds_in found.0 ≡ dealt workers w items = hands.each w (feeds_in found.0) (slice_get-map feeds_in works w ∙ ap (option_map feeds_in) found.1) in
+          rw (many, texts_dealt rem workers w 0 items) (subst (λ feeds. AreFeeds most_rows (map (λ feed. rem feed.1) feeds) rows) hand found.2);
+    } in
     record {
       shares = shares;
-      fed = record {
-        some = rw many some;
-        each = λ w rows at.
-            let found = beside fed works shares w rows read at in
-            let hand : feeds_in found.0 ≡ dealt workers w items = hands.each w (feeds_in found.0) (slice_get-map feeds_in works w ∙ ap (option_map feeds_in) found.1) in
-            rw (many, texts_dealt rem workers w 0 items) (subst (λ feeds. AreFeeds most_rows (map (λ feed. rem feed.1) feeds) rows) hand found.2);
-      };
+      fed = fed_in_turn most_rows (map rem items) shares turns;
+      in_turn = turns;
       kept = kept;
       made = made;
     }

@@ -21,7 +21,7 @@ use Rattle.fkv_partition.specs.declared.limits.Config.{Config}
 use Rattle.fkv_partition.specs.CoreViews.{partition_of}
 use Rattle.fkv_store.specs.Stores.{IsTold, IsUnopened, IsClosing}
 use Rattle.fkv_store.specs.Passes.{PassView, IsUpdateBy, Answers}
-use Rattle.fkv_workers.specs.Shares.{AreFed, HasShare, dealt, rows_at}
+use Rattle.fkv_workers.specs.Shares.{AreFed, AreFedInTurn, HasShare, dealt, rows_at}
 
 -- a pass made a row by one operation on its key, with its amount: by an update, or, only where the mode asks for merges, by a
 -- merge
@@ -122,12 +122,13 @@ pub record IsFirstFault (faults : List (Option Refused)) (why : Refused) : Type 
   pub is : faults ≡ before ++ Some why ∷ after
   pub none : All (λ fault. fault ≡ None) before
 
--- the own lists of these passes have the rows of these feeds, which their workers share out among them: each row by one update,
--- or, only where the mode asks for merges, by one merge
+-- the own lists of these passes have the rows of these feeds, which their workers share out among them, feed by feed in turn: each
+-- row by one update, or, only where the mode asks for merges, by one merge
 pub record IsFedBy {V O : Type 0} (code : Name → ℕ) (mode : RowMode) (feeds : List (Option (List ℕ)))
     (passes : List (PassView Name V ℤ O)) : Type 0 where
   pub shares : List (List (Name × ℤ))
   pub fed : AreFed most_rows feeds shares
+  pub in_turn : AreFedInTurn most_rows feeds shares
   pub kept : AllZip (λ pass rows. HasShare code (length pass.told) pass.own rows) passes shares
   pub made : All (λ pass. AreMadeBy mode pass.own) passes
 

@@ -32,10 +32,10 @@ pub fn shares_grow<V, O>()
         → HasShare code count (slice_set own p (slice_index_or own p [] ++ e ∷ [])) (rows ++ (key, amount) ∷ []) }
 {}
 
-/// Where functions take inputs in any order, several workers make the table of one. Each has the rows of its feeds, and own
-/// lists of its updates and merges of them, of which the partitions' histories are shuffles. Then each key has, by the history of its
-/// partition, what its amounts come to in the order of the feeds (`values`); so what the histories make of the empty map is
-/// the table of the feeds (`table`).
+/// Where functions take inputs in any order, several workers make the table of one. They share the rows of feeds out among them, in
+/// pieces of any feed, and each has own lists of its updates and merges of them, of which the partitions' histories are shuffles.
+/// Then each key has, by the history of its partition, what its amounts come to in the order of the feeds (`values`); so what the
+/// histories make of the empty map is the table of the feeds (`table`).
 pub fn tables_join<F: Mergeable + OrderFree<Key = Name, Input = i64>>()
     ensures values { (limit : ℕ) (feeds : List (Option (List ℕ))) (shares : List (List (Name × ℤ)))
         (owns : List (List (List (Entry Name F.Value ℤ F.Output)))) (histories : List (List (Entry Name F.Value ℤ F.Output)))
