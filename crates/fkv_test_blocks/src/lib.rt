@@ -3,3 +3,5 @@
 
 #[cfg(test)]
 mod cuts;
+#[cfg(test)]
+mod orders;
