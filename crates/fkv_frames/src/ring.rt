@@ -153,7 +153,8 @@ fn frame_of(round: u64, count: u64, page: u64) -> u64
     page % count
 }
 
-/// The round from which on a page and those of the round before it are found, where it is the next page that is opened.
+/// Where the two rounds begin once this page is opened: one round higher where the page lies behind them. So where pages are opened
+/// one after another, each page in a frame is found without a division.
 fn round_for(round: u64, count: u64, page: u64) -> u64
     requires some { 0 < count }
     requires whole { round % count ≡ 0 }
