@@ -1,6 +1,6 @@
 -- What a feed in blocks has left.
 use Rattle.std.proofs.Common.{◌≡◌, ◌+◌, ◌-◌, ◌^◌, ◌≤◌, ◌⊎◌, inl, inr, Result, Err, ℕ, List, [], ◌∷◌, ◌++◌, Option, Some, None, refl, sym, ap, subst, ◌∙◌, arith, length, take, drop, take_all, length-drop, length-append, append-nil, drop-drop, zero, suc, Bool, true, false, cond, get_or, IsTrue}
-use Rattle.std.specs.Prelude.{option_map, slice_index}
+use Rattle.std.specs.Prelude.{option_map, slice_index, IfSome, IfNone}
 use Rattle.std.specs.Io.KnownBytes.{IsAtEnd, Keeps, prepend_known}
 use Rattle.std.proofs.lemmas.List.{take-append-le}
 use Rattle.fkv_blocks.specs.Cutting.{IsBetween, IsCut, block_of, state_after}
@@ -206,3 +206,20 @@ mark_kept (Some x) (Some y) first over k long end =
           ap (λ ys. strip_bom first ++ ys) e ∙ (append-nil (strip_bom first) ∙ ap strip_bom all)
           )
     ]
+
+-- ---- its first bytes
+module _ (text : Option (List ℕ)) (over : Bool) (stopped : Option Refused) (at : ℕ) (held : List ℕ) (left : Option (List ℕ)) (on : over ≡ false) (front : at ≡ 0) where
+  pub starts : stopped ≡ None → HasLeft text 0 (prepend_known held left) → Stands text over stopped at held left
+  starts none h = rw (on, none, front) h
+
+  pub starts_nowhere : (why : Refused) → held ≡ [] → Stands text over (Some why) at held left
+  starts_nowhere why none = rw (on, front, none) (text, begins_nowhere text)
+
+-- ---- where a block lies, if it has a byte
+pub some_is : {X : Type 0} (P : X → Type 0) (r : X) (found : Option X) → IfSome found (λ p. p ≡ r) → P r → IfSome found P
+some_is P r None is h = tt
+some_is P r (Some x) is h = subst P (sym is) h
+
+pub none_is : {X : Type 0} (A B : Type 0) (found : Option X) → IfNone found A → (A → B) → IfNone found B
+none_is A B None a f = f a
+none_is A B (Some x) a f = tt

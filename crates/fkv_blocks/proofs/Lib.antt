@@ -5,3 +5,5 @@ pub mod SpanLemmas
 pub mod LeftLemmas
 pub mod ShareLemmas
 pub mod OrderLemmas
+pub mod PieceLemmas
+pub mod WholeLemmas

@@ -26,10 +26,10 @@ chain_rises : (low high : ℕ) (spans : List Span) → Chains low spans high →
 chain_rises low high [] chain = (let same : low ≡ high = chain in omega (arith, same))
 chain_rises low high (s ∷ spans) chain = (let rest = chain_rises s.high high spans chain.2 in omega (arith, chain.1, rest))
 
-by_here : (w : ℕ) (t : Taken) (order : List Taken) → t.worker ≡ w → spans_by w (t ∷ order) ≡ t.span ∷ spans_by w order
+pub by_here : (w : ℕ) (t : Taken) (order : List Taken) → t.worker ≡ w → spans_by w (t ∷ order) ≡ t.span ∷ spans_by w order
 by_here w t order e = rw (eq-eqb t.worker w e) refl
 
-by_other : (w : ℕ) (t : Taken) (order : List Taken) → (t.worker ≡ w → ⊥) → spans_by w (t ∷ order) ≡ spans_by w order
+pub by_other : (w : ℕ) (t : Taken) (order : List Taken) → (t.worker ≡ w → ⊥) → spans_by w (t ∷ order) ≡ spans_by w order
 by_other w t order ne = rw (ne_eqb t.worker w ne) refl
 
 -- what a worker has first lies behind the start
@@ -169,12 +169,12 @@ maps_more f g xs i x ys lt is was =
     let grown : take (i + 1) xs ≡ take i xs ++ x ∷ [] = take_more xs i x lt ∙ ap (λ y. take i xs ++ y ∷ []) (sym is) in
     ap (λ l. l ++ g (f x) ∷ []) was ∙ sym (ap (λ l. map g (map f l)) grown ∙ (ap (map g) (map_push f (take i xs) x) ∙ map_push g (map f (take i xs)) (f x)))
 
-pub orders_more : {X : Type 0} (P : ℕ → List X → Type 0) (orders : List (List X)) (order : List X) (n : ℕ) → length orders ≡ n
-    → ((f : ℕ) → f < n → P f (get_or orders f []))
-    → P n order
+pub each_more : {X : Type 0} (P : ℕ → X → Type 0) (d : X) (xs : List X) (x : X) (n : ℕ) → length xs ≡ n
+    → ((f : ℕ) → f < n → P f (get_or xs f d))
+    → P n x
     → (f : ℕ) → f < n + 1
-    → P f (get_or (orders ++ order ∷ []) f [])
-orders_more P orders order n is each one f lt = elim (cases_eq f n) [
-  | inl e ↦ subst (λ m. P m (get_or (orders ++ order ∷ []) m [])) (sym e) (subst (P n) (sym (get_or_push orders order [] n is)) one)
-  | inr ne ↦ (let below : f < n = omega (arith, lt, ne) in subst (P f) (sym (get_or_append_left orders (order ∷ []) [] f (omega (arith, below, is)))) (each f below))
+    → P f (get_or (xs ++ x ∷ []) f d)
+each_more P d xs x n is each one f lt = elim (cases_eq f n) [
+  | inl e ↦ subst (λ m. P m (get_or (xs ++ x ∷ []) m d)) (sym e) (subst (P n) (sym (get_or_push xs x d n is)) one)
+  | inr ne ↦ (let below : f < n = omega (arith, lt, ne) in subst (P f) (sym (get_or_append_left xs (x ∷ []) d f (omega (arith, below, is)))) (each f below))
 ]

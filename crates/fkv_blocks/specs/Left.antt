@@ -1,5 +1,5 @@
 -- What a feed that is cut into blocks has left.
-use Rattle.std.specs.Prelude.{◌≡◌, ◌<◌, ◌≤◌, ◌+◌, ◌-◌, ◌^◌, ◌⊎◌, ℕ, Bool, true, false, List, length, drop, min, slice_index, slice_index_or, Option, Some, None, option_map, ⊤}
+use Rattle.std.specs.Prelude.{◌≡◌, ◌<◌, ◌≤◌, ◌+◌, ◌-◌, ◌^◌, ◌⊎◌, ℕ, Bool, true, false, List, [], length, drop, min, slice_index, slice_index_or, Option, Some, None, option_map, ⊤}
 use Rattle.std.specs.Io.KnownBytes.{IsAtEnd, prepend_known}
 use Rattle.csv.specs.Reading.{strip_bom}
 use Rattle.csv.specs.declared.parser.State.TheVariants as st
@@ -41,11 +41,12 @@ IsBlockOf (Some text) block low high =
     × IsCut text low
     × (IsBetween (state_after st.StartRecord block) ⊎ (length text ≤ high))
 
--- a feed in blocks: its place among the feeds, where its next block begins, whether it ends there, why no more of it is read, what was
--- read and is in no block yet, what its stream has left, and how often that has failed
+-- a feed in blocks: its place among the feeds, where its next block begins, whether its first bytes were read, whether it ends there, why
+-- no more of it is read, what was read and is in no block yet, what its stream has left, and how often that has failed
 pub record BlocksView : Type 0 where
   pub place : ℕ
   pub at : ℕ
+  pub begun : Bool
   pub over : Bool
   pub stopped : Option Refused
   pub held : List ℕ
@@ -66,9 +67,18 @@ HasFailed place before now (Some NoMemory) = now ≡ before
 HasFailed place before now (Some (Unreadable n)) = (n ≡ number_of place) × (now ≡ one_more before)
 HasFailed place before now (Some other) = ⊥
 
+-- nothing was read of a feed: its stream has all of it left
+pub record IsUnread (feeds : List (Option (List ℕ))) (b : BlocksView) : Type 0 where
+  pub left : b.left ≡ slice_index_or feeds b.place None
+  pub at : b.at ≡ 0
+  pub held : b.held ≡ []
+  pub over : b.over ≡ false
+  pub stopped : b.stopped ≡ None
+
 -- what every feed in blocks keeps
 pub record IsOneOf (feeds : List (Option (List ℕ))) (counts : List ℕ) (b : BlocksView) : Type 0 where
-  pub stands : Stands (text_at feeds b.place) b.over b.stopped b.at b.held b.left
+  pub unread : b.begun ≡ false → IsUnread feeds b
+  pub stands : b.begun ≡ true → Stands (text_at feeds b.place) b.over b.stopped b.at b.held b.left
   pub counted : HasFailed b.place (slice_index counts b.place) b.failures b.stopped
 
 -- how many of the bytes that are held make the next block: whole records, one byte at least, or all where nothing comes behind them

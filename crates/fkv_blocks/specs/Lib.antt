@@ -4,3 +4,4 @@ pub mod Spans
 pub mod Left
 pub mod Shares
 pub mod Orders
+pub mod Pieces

@@ -37,6 +37,14 @@ pub struct Place {
     pub high: u64,
 }
 
+/// Why no more is read of a feed, by its place, counted from 0, and where: up to there its blocks were handed out.
+#[derive(Clone, Copy, PartialEq, Eq, Debug)]
+pub struct Stop {
+    pub feed: usize,
+    pub low: u64,
+    pub refused: Refused,
+}
+
 /// How many of the bytes that are held make the next block, and whether it is the last.
 #[derive(Clone, Copy, PartialEq, Eq, Debug)]
 struct Cut {
@@ -64,15 +72,29 @@ pub fn number(place: usize) -> u64
     (place as u64).saturating_add(1)
 }
 
+/// Where a block lies; none where it has no byte.
+fn place_of(feed: usize, low: u64, high: u64) -> Option<Place>
+    ensures some { IfSome result (λ p. p ≡ record { feed = feed; low = low; high = high }) }
+    ensures none { IfNone result (low ≡ high) }
+{
+    if low == high {
+        return None;
+    }
+    Some(Place { feed, low, high })
+}
+
 /// A feed in blocks, as far as it was read.
 #[derive(Drop)]
 pub struct Blocks<S: Source, B: Origin> {
+    alloc: Global,
     source: S,
     place: usize,
     /// How many bytes are held at least before a block is cut.
     size: usize,
     held: Vec<u8>,
     at: u64,
+    /// Whether its first bytes were read.
+    begun: bool,
     over: bool,
     stopped: Option<Refused>,
     of: PhantomData<B>,
@@ -86,6 +108,7 @@ impl<S: Source, B: Origin> Model for Blocks<S, B> {
     ghost view = { λ b. record {
       place = b.place;
       at = b.at;
+      begun = b.begun;
       over = b.over;
       stopped = b.stopped;
       held = b.held.items;
@@ -96,6 +119,7 @@ impl<S: Source, B: Origin> Model for Blocks<S, B> {
     ghost invariant = { λ b. IsOneOf B.feeds B.counts (record {
       place = b.place;
       at = b.at;
+      begun = b.begun;
       over = b.over;
       stopped = b.stopped;
       held = b.held.items;
@@ -105,34 +129,45 @@ impl<S: Source, B: Origin> Model for Blocks<S, B> {
 }
 
 impl<S: Source, B: Origin> Blocks<S, B> {
-    /// The feed at a place before its first block, of blocks of so many bytes at least. A byte order mark at its front is dropped. Where
-    /// its first bytes are not read, that is told as its first block is taken.
+    /// The feed at a place, of which nothing is read yet, in blocks of so many bytes at least.
     pub fn begin(alloc: Global, source: S, place: usize, size: usize) -> Blocks<S, B>
         requires bytes { S.remaining source ≡ slice_index_or B.feeds place None }
         requires counted { S.failures source ≡ slice_index B.counts place }
         ensures place { result.place ≡ place }
     {
-        let mut source = source;
-        let (held, stopped) = match begun(alloc, &mut source) {
-            Ok(held) => (held, None),
-            Err(refused) => (Vec::new(alloc), Some(named(refused, place))),
-        };
         Blocks {
+            alloc,
             source,
             place,
             size,
-            held,
+            held: Vec::new(alloc),
             at: 0,
+            begun: false,
             over: false,
-            stopped,
+            stopped: None,
             of: PhantomData,
         }
+    }
+
+    /// Reads the first bytes, and drops a byte order mark at the front. Where they are not read, that is told as a block is taken.
+    fn start(&mut self)
+        requires { self.old.begun ≡ false }
+        ensures begun { self.new.begun ≡ true }
+        ensures place { self.new.place ≡ self.old.place }
+        ensures on { self.new.over ≡ false }
+    {
+        match begun(self.alloc, &mut self.source) {
+            Ok(held) => self.held = held,
+            Err(refused) => self.stopped = Some(named(refused, self.place)),
+        }
+        self.begun = true;
     }
 
     /// Where the next block ends among the bytes that are held, which are read on for it. Once no more is read, what is held is still cut.
     /// Refused by what stopped the reading, once no whole record is held.
     fn next(&mut self) -> Result<Cut, Refused>
-        requires { self.old.over ≡ false }
+        requires begun { self.old.begun ≡ true }
+        requires on { self.old.over ≡ false }
         ensures ok { IfOk result (λ cut. IsNext self.new cut.size cut.is_last) }
         ensures stays { self.new ≡ record self.old {
           stopped = self.new.stopped;
@@ -167,6 +202,7 @@ impl<S: Source, B: Origin> Blocks<S, B> {
 
     /// Hands out so many of the bytes that are held, and tells where they lie; none where there are none and the feed is over.
     fn hand_out(&mut self, cut: Cut, block: &mut Vec<u8>) -> Result<Option<Place>, Refused>
+        requires begun { self.old.begun ≡ true }
         requires on { self.old.over ≡ false }
         requires next { IsNext self.old cut.size cut.is_last }
         ensures given { IfOk result (λ found. IfSome found (λ p. (p.feed ≡ self.old.place)
@@ -187,14 +223,7 @@ impl<S: Source, B: Origin> Blocks<S, B> {
         }
         self.at = high;
         self.over = cut.is_last;
-        if cut.size == 0 {
-            return Ok(None);
-        }
-        Ok(Some(Place {
-            feed: self.place,
-            low,
-            high,
-        }))
+        Ok(place_of(self.place, low, high))
     }
 
     /// Hands out the next block, and tells where it lies; none where the feed is over. Where its stream fails, the whole records that
@@ -202,22 +231,38 @@ impl<S: Source, B: Origin> Blocks<S, B> {
     ///
     /// # Errors
     ///
-    /// `NoMemory`; `Unreadable` with the feed's number where its stream failed, or where it has 2^64 bytes or more.
-    pub fn take(&mut self, block: &mut Vec<u8>) -> Result<Option<Place>, Refused>
+    /// With where the block begins: `NoMemory`; `Unreadable` with the feed's number where its stream failed, or where it has 2^64 bytes or
+    /// more.
+    pub fn take(&mut self, block: &mut Vec<u8>) -> Result<Option<Place>, Stop>
         ensures given { IfOk result (λ found. IfSome found (λ p. (p.feed ≡ self.old.place)
             × IsBlockOf (text_at B.feeds p.feed) block.new.items p.low p.high)) }
         ensures over { IfOk result (λ found. IfNone found (self.new.over ≡ true)) }
-        ensures told { IfErr result (IsUntaken B.feeds B.counts self.new.place self.new.failures) }
+        ensures told { IfErr result (λ stop. (stop.feed ≡ self.old.place)
+            × IsUntaken B.feeds B.counts stop.feed self.new.failures stop.refused) }
         ensures place { self.new.place ≡ self.old.place }
     {
         if self.over {
             return Ok(None);
         }
+        if !self.begun {
+            self.start();
+        }
+        let (feed, low) = (self.place, self.at);
         let cut = match self.next() {
             Ok(cut) => cut,
-            Err(refused) => return Err(refused),
+            Err(refused) => return Err(Stop { feed, low, refused }),
         };
-        self.hand_out(cut, block)
+        match self.hand_out(cut, block) {
+            Ok(place) => Ok(place),
+            Err(refused) => Err(Stop { feed, low, refused }),
+        }
+    }
+
+    /// The place of the feed, counted from 0.
+    pub fn place(&self) -> usize
+        ensures { result ≡ self.now.place }
+    {
+        self.place
     }
 
     /// Where a feed that is over ended.
@@ -240,10 +285,10 @@ pub fn take_block<S: Source, B: Origin>(
     rt: &impl Wait,
     blocks: &Mutex<Blocks<S, B>>,
     block: &mut Vec<u8>,
-) -> Result<Option<Place>, Refused>
+) -> Result<Option<Place>, Stop>
     ensures given { IfOk result (λ found. IfSome found
         (λ p. IsBlockOf (text_at B.feeds p.feed) block.new.items p.low p.high)) }
-    ensures told { IfErr result (λ why. (place failures : ℕ) × IsUntaken B.feeds B.counts place failures why) }
+    ensures told { IfErr result (λ stop. (failures : ℕ) × IsUntaken B.feeds B.counts stop.feed failures stop.refused) }
 {
     blocks.lock(rt).take(block)
 }

@@ -8,15 +8,18 @@
 pub mod blocks;
 pub mod bytes;
 pub mod cutting;
+pub mod feeds;
 mod filling;
 pub mod laws;
 pub mod orders;
 pub mod reading;
 pub mod spans;
+pub mod whole;
 
-pub use blocks::{Blocks, Origin, Place, take_block};
+pub use blocks::{Blocks, Origin, Place, Stop, take_block};
 pub use bytes::BlockSource;
 pub use cutting::record_end;
+pub use feeds::Feeds;
 pub use orders::{Taken, ordered};
-pub use reading::read_blocks;
+pub use reading::BlockSink;
 pub use spans::{Span, Ticket, chains};

@@ -1,12 +1,10 @@
 //! Reading blocks into what takes their rows.
-ghost use Rattle.std.specs.Prelude.{◌≡◌, ◌⊎◌, ◌++◌, ℕ, ℤ, List, length, flat_map, IfOk, IfErr};
-ghost use Rattle.std.specs.List.{AllZip};
+ghost use Rattle.std.specs.Prelude.{◌≡◌, ◌⊎◌, ◌++◌, ℤ, List, false, length, IfOk, Ok, IfOk, IfErr, OnOk, OnErr};
 ghost use Rattle.fkv_functions.specs.declared.names.Name.{Name};
 ghost use Rattle.fkv_feed_rows.specs.Feeds.{AreRowsOf};
-ghost use Rattle.fkv_blocks.specs.Left.{IsUntaken};
-ghost use Rattle.fkv_blocks.specs.Shares.{AreRowsIn, IsBadBlock, TellsBlock};
+ghost use Rattle.fkv_blocks.specs.Shares.{HaveRows, IsStop, TellsBlock, WereRead};
 
-use crate::blocks::{Blocks, Origin, Place, number, take_block};
+use crate::blocks::{Blocks, Origin, Place, Stop, number, take_block};
 use crate::bytes::BlockSource;
 use crate::spans::{Span, Ticket};
 use fkv_feed_rows::{RowSink, read_feed};
@@ -14,6 +12,14 @@ use fkv_functions::Refused;
 use fkv_streams::Source;
 use std::alloc::Global;
 use std::sync::{Mutex, Wait};
+
+/// What takes the rows of blocks, and rests before it waits for the next one.
+pub trait BlockSink: RowSink {
+    /// Lets go of all that others may wait for. Refused: as a row is.
+    fn rest(&mut self) -> Result<(), Refused>
+        ensures ok { OnOk result ((rows : List (Name × ℤ)) → Self.stands self.old rows → Self.stands self.new rows) }
+        ensures told { IfErr result Self.fault };
+}
 
 /// Hands on the rows of a block, and tells how many there are. Refused: `BadRow` with the block's first record that is none, and as the
 /// sink refuses a row.
@@ -33,44 +39,44 @@ fn read_block<K: RowSink>(
     read_feed(alloc, &mut source, number, limit, sink)
 }
 
-/// Takes blocks of a feed until there is none any more, and hands on their rows; tells which blocks these were, in the order in which they
-/// were taken.
+/// Takes the next block of a feed, hands on its rows, and keeps a ticket of it; `Ok(false)` where there is no block any more.
 ///
 /// # Errors
 ///
 /// As a block is taken; `BadRow` with the feed's number, and the row's number in its block; `Unreadable` with the feed's number where a
 /// block has more records than `limit`; as the sink refuses a row; and `NoMemory`.
-pub fn read_blocks<S: Source, B: Origin, K: RowSink>(
+pub(crate) fn read_next<S: Source, B: Origin, K: RowSink>(
     rt: &impl Wait,
     alloc: Global,
     feed: &Mutex<Blocks<S, B>>,
     limit: u64,
+    block: &mut Vec<u8>,
     sink: &mut K,
-) -> Result<Vec<Ticket>, Refused>
-    requires { (rows : List (Name × ℤ)) × K.stands sink.old rows }
-    ensures ok { IfOk result (λ tickets. (before : List (Name × ℤ)) → K.stands sink.old before
-        → (parts : List (List (Name × ℤ))) × AllZip (AreRowsIn B.feeds) tickets.items parts
-        × K.stands sink.new (before ++ flat_map (λ part. part) parts)) }
-    ensures told { IfErr result (λ e. (e ≡ Refused.NoMemory) ⊎ K.fault e ⊎ IsBadBlock B.feeds limit e
-        ⊎ ((place failures : ℕ) × IsUntaken B.feeds B.counts place failures e)) }
+    tickets: &mut Vec<Ticket>,
+) -> Result<bool, Stop>
+    requires { HaveRows B.feeds (K.stands sink.old) tickets.old.items }
+    ensures ok { OnOk result (HaveRows B.feeds (K.stands sink.new) tickets.new.items) }
+    ensures over { result ≡ Ok false → tickets.new.items ≡ tickets.old.items }
+    ensures read { OnErr result (tickets.new.items ≡ tickets.old.items) }
+    ensures told { IfErr result (λ stop. K.fault stop.refused ⊎ IsStop B.feeds B.counts limit stop) }
 {
-    let mut tickets = Vec::new(alloc);
-    let mut block = Vec::new(alloc);
-    for _ in rt.forever() {
-        let place = match take_block(rt, feed, &mut block) {
-            Ok(Some(place)) => place,
-            Ok(None) => return Ok(tickets),
-            Err(refused) => return Err(refused),
-        };
-        let Place { feed, low, high } = place;
-        let records = match read_block(alloc, block.as_slice(), number(feed), limit, sink) {
-            Ok(records) => records,
-            Err(refused) => return Err(refused),
-        };
-        let span = Span { low, high, records };
-        let Ok(()) = tickets.push(Ticket { feed, span }) else {
-            return Err(Refused::NoMemory);
-        };
+    let place = match take_block(rt, feed, block) {
+        Ok(Some(place)) => place,
+        Ok(None) => return Ok(false),
+        Err(stop) => return Err(stop),
+    };
+    let Place { feed, low, high } = place;
+    let records = match read_block(alloc, block.as_slice(), number(feed), limit, sink) {
+        Ok(records) => records,
+        Err(refused) => return Err(Stop { feed, low, refused }),
+    };
+    let span = Span { low, high, records };
+    match tickets.push(Ticket { feed, span }) {
+        Ok(()) => Ok(true),
+        Err(_) => Err(Stop {
+            feed,
+            low,
+            refused: Refused::NoMemory,
+        }),
     }
-    unreachable!()
 }

@@ -5,3 +5,7 @@
 mod cuts;
 #[cfg(test)]
 mod orders;
+#[cfg(test)]
+mod shares;
+#[cfg(test)]
+mod sinks;

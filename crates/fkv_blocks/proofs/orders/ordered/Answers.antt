@@ -2,7 +2,7 @@ use Rattle.std.proofs.Common.{◌≡◌, ◌<◌, ◌+◌, [], List, map, length
 use Rattle.std.proofs.lemmas.List.{length-map, length_push, map_push}
 use Rattle.fkv_blocks.specs.Orders.{IsOrder, spans_in}
 use Rattle.fkv_blocks.specs.declared.orders.Taken.{Taken}
-use Rattle.fkv_blocks.proofs.OrderLemmas.{orders_more}
+use Rattle.fkv_blocks.proofs.OrderLemmas.{each_more}
 use Rattle.fkv_blocks.proofs.orders.ordered.Goals as goal
 
 pub returns-then-not-all_are_of-clause-none : goal.returns-then-not-all_are_of-clause-none
@@ -24,7 +24,7 @@ loop-feed-preserved c =
     let some = rw c.in-Ok-Some.field-0-is at c.in-Ok-Some.ensures.some in
     let one = subst (λ lists. IsOrder 0 (get_or c.args.ends.now feed 0) lists order.items) c.in-Ok.ensures.ok some in
     let had = map (λ order. order.items) orders in
-    let more = orders_more (λ f o. IsOrder 0 (get_or c.args.ends.now f 0) (map (spans_in f) hands) o) had order.items feed (length-map orders (λ order. order.items) ∙ c.loop-feed.invariant.count) c.loop-feed.invariant.each one in
+    let more = each_more (λ f o. IsOrder 0 (get_or c.args.ends.now f 0) (map (spans_in f) hands) o) [] had order.items feed (length-map orders (λ order. order.items) ∙ c.loop-feed.invariant.count) c.loop-feed.invariant.each one in
     let grown = ap (map (λ order. order.items)) c.in-Ok-push.ensures.items ∙ map_push (λ order. order.items) orders order in
     record {
       within = omega (arith, c.loop-feed-test.true);
