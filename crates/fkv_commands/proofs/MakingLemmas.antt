@@ -1,7 +1,7 @@
 -- What runs of several workers are not refused by, and answers under a premise.
-use Rattle.std.proofs.Common.{◌≡◌, ◌≤◌, ◌↔◌, ◌⊎◌, ℕ, true, false, min, List, Option, Some, None, Result, Ok, Err, refl, sym, subst, ◌∙◌, inl, inr}
-use Rattle.std.proofs.Math.Nat.{max-eq_left}
-use Rattle.std.specs.Prelude.{◌≢◌, IfOk, IfSome}
+use Rattle.std.proofs.Common.{◌≡◌, ◌≤◌, ◌<◌, ◌↔◌, ◌⊎◌, ℕ, true, false, max, List, [], ◌∷◌, arith, Option, Some, None, Result, Ok, Err, refl, sym, subst, ◌∙◌, inl, inr}
+use Rattle.std.proofs.Math.Nat.{max-eq_left, max-eq_right}
+use Rattle.std.specs.Prelude.{◌≢◌, OnOk, IfOk, IfSome, slice_index, slice_index_or}
 use Rattle.fkv_device.specs.Known.{Pages, HasCollision, are_kept}
 use Rattle.fkv_device.proofs.KnownLemmas.{collision}
 use Rattle.fkv_functions.specs.declared.refusals.Refused.{Refused}
@@ -9,20 +9,21 @@ use Rattle.fkv_functions.specs.declared.refusals.Refused.TheVariants.{BadConfig,
 use Rattle.fkv_feed_rows.specs.Feeds.{TellsUnread}
 use Rattle.fkv_feeds.specs.Tables.{most_rows}
 use Rattle.fkv_store.specs.Stores.{IsTold, IsClosing}
-use Rattle.fkv_workers.specs.Works.{IsUnmade, number_of}
+use Rattle.fkv_blocks.specs.Left.{number_of}
+use Rattle.fkv_workers.specs.Works.{IsUnread}
 use Rattle.fkv_feeds.specs.declared.counting.Plan.{Plan}
 use Rattle.fkv_feeds.specs.declared.modes.RowMode.{RowMode}
 use Rattle.fkv_feeds.specs.declared.modes.RowMode.TheVariants.{Merge}
 use Rattle.fkv_requests.specs.declared.requests.TableRequest.{TableRequest}
-use Rattle.fkv_commands.specs.Plans.{IsPlanOf}
+use Rattle.fkv_commands.specs.Plans.{IsPlanBy, readers}
+use Rattle.fkv_requests.specs.Requests.{Text}
 
-module _ {S : Type 0} (remaining : S → Option (List ℕ)) (failures : S → ℕ) (runnable : Type 0) (workers : ℕ) (feeds : List S) where
-  pub blames-no-writer : (why : Refused) → IsUnmade remaining failures runnable workers feeds why → why ≢ Unwritable
-  blames-no-writer why (IsUnmade.beyond is not) e = (let bad : BadConfig ≡ Unwritable = sym is ∙ e in cc)
-  blames-no-writer why (IsUnmade.told told) e = subst IsTold e told
-  blames-no-writer why (IsUnmade.unread w lt u) e =
-      subst (TellsUnread (number_of u.feed.0) most_rows (remaining u.feed.1) (failures u.feed.1) u.after) e u.tells
-  blames-no-writer why (IsUnmade.unclosed closing) e = subst IsClosing e closing
+pub blames-no-writer : (runnable : Type 0) (feeds : List (Option (List ℕ))) (counts : List ℕ) (why : Refused) → IsUnread runnable feeds counts why → why ≢ Unwritable
+blames-no-writer runnable feeds counts why (IsUnread.beyond is not) e = (let bad : BadConfig ≡ Unwritable = sym is ∙ e in cc)
+blames-no-writer runnable feeds counts why (IsUnread.told told) e = subst IsTold e told
+blames-no-writer runnable feeds counts why (IsUnread.unread u) e =
+    subst (TellsUnread (number_of u.place) most_rows (slice_index_or feeds u.place None) (slice_index counts u.place) u.after) e u.tells
+blames-no-writer runnable feeds counts why (IsUnread.unclosed closing) e = subst IsClosing e closing
 
 -- a fact of an answer that has a premise, as a fact under that premise
 pub later : {T E K : Type 0} (r : Result T E) (P : T → Type 0) → (K → IfOk r P) → IfOk r (λ x. K → P x)
@@ -43,11 +44,35 @@ pub unkept : (pages : Option Pages) → are_kept pages ≡ false → IfSome page
 unkept None h = tt
 unkept (Some pages) h = collision pages h
 
--- one worker is enough where no more have a feed
-pub one-plan : {R E : Type 0} (plan : R → Plan) (table : TableRequest) (feeds : ℕ) (mode : RowMode) (r : Result R E)
+-- one worker, where no more are asked for
+pub one-plan : {R E : Type 0} (plan : R → Plan) (table : TableRequest) (mode : RowMode) (r : Result R E)
     → ((mode ≡ Merge) ↔ (table.merge ≡ true))
-    → min table.workers feeds ≤ 1
+    → table.workers ≤ 1
     → IfOk r (λ run. plan run ≡ record { config = table.config; mode = mode; workers = 1 })
-    → IfOk r (λ run. IsPlanOf table feeds (plan run))
-one-plan plan table feeds mode (Ok run) modes few is = rw is (refl, modes, sym (max-eq_left few))
-one-plan plan table feeds mode (Err e) modes few is = tt
+    → IfOk r (λ run. IsPlanBy table (max 1 table.workers) (plan run))
+one-plan plan table mode (Ok run) modes few is = rw is (refl, modes, sym (max-eq_left few))
+one-plan plan table mode (Err e) modes few is = tt
+
+-- so many workers, of which there is one at least
+pub many-plan : {R E : Type 0} (plan : R → Plan) (table : TableRequest) (workers : ℕ) (r : Result R E)
+    → workers ≡ table.workers
+    → OnOk r (0 < workers)
+    → IfOk r (λ run. IsPlanBy table workers (plan run))
+    → IfOk r (λ run. IsPlanBy table (max 1 table.workers) (plan run))
+many-plan plan table workers (Ok run) is some by = (by.0, by.1, by.2 ∙ (is ∙ sym (max-eq_right (omega (arith, is, some)))))
+many-plan plan table workers (Err e) is some by = tt
+
+-- of a request that names feeds, or none
+pub named-plan : {R E : Type 0} (plan : R → Plan) (table : TableRequest) (paths : List Text) (r : Result R E)
+    → (paths ≡ [] → ⊥)
+    → IfOk r (λ run. IsPlanBy table (max 1 table.workers) (plan run))
+    → IfOk r (λ run. IsPlanBy table (readers paths table.workers) (plan run))
+named-plan plan table [] r some by = absurd (some refl)
+named-plan plan table (path ∷ paths) r some by = by
+
+pub input-plan : {R E : Type 0} (plan : R → Plan) (table : TableRequest) (paths : List Text) (r : Result R E)
+    → paths ≡ []
+    → IfOk r (λ run. IsPlanBy table 1 (plan run))
+    → IfOk r (λ run. IsPlanBy table (readers paths table.workers) (plan run))
+input-plan plan table [] r none by = by
+input-plan plan table (path ∷ paths) r none by = absurd (cc)

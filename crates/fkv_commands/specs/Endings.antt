@@ -70,8 +70,8 @@ abbrev pub feeds_by : (List ℕ → Option (List ℕ)) → TableRequest → Opti
 feeds_by bytes table input = feeds_of bytes (map string_bytes table.paths.items) input
 
 -- a report of a run that was made as this request asks
-abbrev pub IsReportOf : TableRequest → List (Option (List ℕ)) → Option Report → Type 0
-IsReportOf table feeds told = (report : Report) × (told ≡ Some report) × IsPlanOf table (length feeds) report.plan
+abbrev pub IsReportOf : TableRequest → Option Report → Type 0
+IsReportOf table told = (report : Report) × (told ≡ Some report) × IsPlanOf table report.plan
 
 -- what the program tells of its version
 unfoldable pub version_line : List ℕ
@@ -85,7 +85,7 @@ IsDone pages bytes words input old new told =
     ⊎ ((table : TableRequest)
     × AsksTable words table
     × PrintsTable pages table (feeds_by bytes table input) old new
-    × IsReportOf table (feeds_by bytes table input) told)
+    × IsReportOf table told)
     ⊎ (MayAskVersion words × Appends old new version_line)
     ⊎ MayAskHelp words
 

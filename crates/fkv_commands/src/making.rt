@@ -1,7 +1,7 @@
 //! Making tables over a device, by one worker or by several.
-ghost use Rattle.std.specs.Prelude.{◌≡◌, ◌≢◌, ◌⊎◌, ◌↔◌, ◌∷◌, [], true, length, map, min, string_bytes, IfOk, IfErr, IsTrue, OnOk};
+ghost use Rattle.std.specs.Prelude.{◌≡◌, ◌≢◌, ◌⊎◌, ◌↔◌, ◌∷◌, ◌<◌, [], true, map, max, string_bytes, IfOk, IfErr, IsTrue, OnOk};
 ghost use Rattle.fkv_feeds.specs.Tables.{IsTableOf};
-ghost use Rattle.fkv_commands.specs.Plans.{IsPlanOf};
+ghost use Rattle.fkv_commands.specs.Plans.{IsPlanBy};
 
 use crate::opening::{Feed, FeedOf, Opener, all_opened, read_whole};
 use fkv_device::Disk;
@@ -12,7 +12,7 @@ use fkv_meters::Progress;
 use fkv_requests::TableRequest;
 use fkv_store::Open;
 use fkv_streams::{CountedReader, Source};
-use fkv_workers::run_feeds_by;
+use fkv_workers::run_blocks;
 use std::alloc::Global;
 use std::fs::Files;
 use std::rt::Clock;
@@ -30,17 +30,7 @@ fn mode_of(table: &TableRequest) -> RowMode
     }
 }
 
-/// How many workers have a feed to read, where so many are asked for: none reads another's.
-fn workers_for(asked: u64, feeds: usize) -> usize
-    ensures { result ≡ min asked feeds }
-{
-    match usize::try_from(asked) {
-        Ok(asked) => asked.min(feeds),
-        Err(_) => feeds,
-    }
-}
-
-/// A run over these feeds, by the workers that are asked for, in threads of their own.
+/// A run over these feeds by so many workers, in threads of their own: each takes blocks of any feed.
 fn shared<
     S: Source + Drop + Send,
     F: Mergeable + OrderFree<Key = Name, Input = i64> + Send + Sync,
@@ -51,6 +41,7 @@ fn shared<
     rt: &T,
     alloc: Global,
     table: &TableRequest,
+    workers: usize,
     functions: F,
     feeds: Vec<S>,
     device: D,
@@ -63,13 +54,13 @@ where
     D::Reader: Send,
     ensures ok { H.keeps ≡ true → IsTrue D.Receipt.keeps
         → IfOk result (λ run. IsTableOf F.meaning (map S.remaining feeds.items) run.table) }
-    ensures ran { IfOk result (λ run. IsPlanOf table.now (length feeds.items) run.plan) }
+    ensures ran { IfOk result (λ run. IsPlanBy table.now workers run.plan) }
+    ensures some { OnOk result (0 < workers) }
     ensures only { IfErr result (λ e. e ≢ Refused.Unwritable) }
 {
-    let workers = workers_for(table.workers, feeds.len());
     let config = &table.config;
     let mode = mode_of(table);
-    run_feeds_by::<S, F, D, H, Open, T>(
+    run_blocks::<S, F, D, H, Open, T>(
         rt, alloc, feeds, workers, functions, config, device, &Open, mode,
     )
 }
@@ -101,7 +92,7 @@ where
     D::Reader: Send,
     ensures ok { IsTrue D.Receipt.keeps
         → IfOk result (λ run. IsTableOf F.meaning (R.remaining reader.old ∷ []) run.table) }
-    ensures ran { IfOk result (λ run. IsPlanOf table.now 1 run.plan) }
+    ensures ran { IfOk result (λ run. IsPlanBy table.now 1 run.plan) }
     ensures steady { OnOk result (R.failures reader.new ≡ R.failures reader.old) }
     ensures only { IfErr result (λ e. e ≢ Refused.Unwritable) }
 {
@@ -117,7 +108,7 @@ where
     let Ok(()) = feeds.push(Feed::Bytes(CountedReader::new(bytes.as_slice()))) else {
         return Err(Refused::NoMemory);
     };
-    shared::<_, F, Audited<F>, D, H>(rt, alloc, table, functions, feeds, device)
+    shared::<_, F, Audited<F>, D, H>(rt, alloc, table, 1, functions, feeds, device)
 }
 
 /// A run over the feeds that are named, all of which are opened, in order, before a row is read. One worker that keeps no
@@ -145,18 +136,21 @@ where
     ensures ok { IsTrue D.Receipt.keeps → IsTrue table.now.audit ⊎ (table.now.workers ≡ 1)
         → IfOk result (λ run. IsTableOf F.meaning
         (map (λ path. O.bytes opener.now (string_bytes path)) table.now.paths.items) run.table) }
-    ensures ran { IfOk result (λ run. IsPlanOf table.now (length table.now.paths.items) run.plan) }
+    ensures ran { IfOk result (λ run. IsPlanBy table.now (max 1 table.now.workers) run.plan) }
     ensures only { IfErr result (λ e. e ≢ Refused.Unwritable) }
 {
     let mut feeds = match all_opened(alloc, opener, table.paths.as_slice()) {
         Ok(feeds) => feeds,
         Err(refused) => return Err(refused),
     };
+    let workers = table.workers as usize;
     if table.audit {
-        return shared::<_, F, Audited<F>, D, T>(rt, alloc, table, functions, feeds, device);
+        return shared::<_, F, Audited<F>, D, T>(
+            rt, alloc, table, workers, functions, feeds, device,
+        );
     }
-    if workers_for(table.workers, feeds.len()) > 1 {
-        return shared::<_, F, Plain, D, T>(rt, alloc, table, functions, feeds, device);
+    if workers > 1 {
+        return shared::<_, F, Plain, D, T>(rt, alloc, table, workers, functions, feeds, device);
     }
     let config = &table.config;
     let mode = mode_of(table);

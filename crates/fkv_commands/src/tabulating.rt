@@ -55,8 +55,7 @@ where
     O::Feed: Send,
     ensures ok { IsTrue D.Receipt.keeps → IfOk result (λ run. IsKnown table.now
         → IsTableOf F.meaning (feeds_by (λ path. O.bytes opener.now path) table.now (R.remaining reader.old)) run.table) }
-    ensures ran { IfOk result (λ run. IsPlanOf table.now
-        (length (feeds_by (λ path. O.bytes opener.now path) table.now (R.remaining reader.old))) run.plan) }
+    ensures ran { IfOk result (λ run. IsPlanOf table.now run.plan) }
     ensures steady { OnOk result (R.failures reader.new ≡ R.failures reader.old) }
     ensures only { IfErr result (λ e. e ≢ Refused.Unwritable) }
 {
@@ -98,8 +97,7 @@ where
     requires { (if K.keeps then is_absent folder else true) ≡ true }
     ensures ok { IsTrue (K.keeps || D.Receipt.keeps) → IfOk result (λ run. IsKnown table.now
         → IsTableOf F.meaning (feeds_by (λ path. O.bytes opener.now path) table.now (R.remaining reader.old)) run.table) }
-    ensures ran { IfOk result (λ run. IsPlanOf table.now
-        (length (feeds_by (λ path. O.bytes opener.now path) table.now (R.remaining reader.old))) run.plan) }
+    ensures ran { IfOk result (λ run. IsPlanOf table.now run.plan) }
     ensures steady { OnOk result (R.failures reader.new ≡ R.failures reader.old) }
     ensures only { IfErr result (λ e. e ≢ Refused.Unwritable) }
 {
@@ -154,8 +152,7 @@ where
     ensures ok { IfOk result (λ run. IsKnown table.now
         → IsTableOf F.meaning (feeds_by (λ path. O.bytes opener.now path) table.now (R.remaining reader.old)) run.table
         ⊎ IsSpoilt H.File.pages table.now) }
-    ensures ran { IfOk result (λ run. IsPlanOf table.now
-        (length (feeds_by (λ path. O.bytes opener.now path) table.now (R.remaining reader.old))) run.plan) }
+    ensures ran { IfOk result (λ run. IsPlanOf table.now run.plan) }
     ensures steady { OnOk result (R.failures reader.new ≡ R.failures reader.old) }
     ensures only { IfErr result (λ e. e ≢ Refused.Unwritable) }
 {
@@ -197,8 +194,7 @@ where
         ⊎ IsSpoilt H.File.pages table.now)
         × Appends (W.contents writer.old) (W.contents writer.new)
         (table_text (fields_of F.Value.FIELDS F.Value.field_at) pairs)) }
-    ensures ran { IfOk result (λ report. IsPlanOf table.now
-        (length (feeds_by (λ path. O.bytes opener.now path) table.now (R.remaining reader.old))) report.plan) }
+    ensures ran { IfOk result (λ report. IsPlanOf table.now report.plan) }
     ensures unwritable { result ≡ Err Refused.Unwritable → (pairs : List (Name × F.Value))
         × (IsKnown table.now
         → IsTableOf F.meaning (feeds_by (λ path. O.bytes opener.now path) table.now (R.remaining reader.old)) pairs
@@ -223,7 +219,7 @@ where
     }
 }
 
-/// Makes the table that is asked for, and writes it. Refused as `fkv_feeds::run_one_by`, `fkv_workers::run_feeds_by` and
+/// Makes the table that is asked for, and writes it. Refused as `fkv_feeds::run_one_by`, `fkv_workers::run_blocks` and
 /// `fkv_feeds::write_table` are; `Unreadable` too with the number of the first feed that can not be opened. Answers what the
 /// run did.
 pub fn tabulate<
@@ -247,8 +243,7 @@ where
     O::Feed: Send,
     ensures ok { OnOk result (PrintsTable H.File.pages table.now
         (feeds_by (λ path. O.bytes opener.now path) table.now (R.remaining reader.old)) (W.contents writer.old) (W.contents writer.new)) }
-    ensures ran { IfOk result (λ report. IsPlanOf table.now
-        (length (feeds_by (λ path. O.bytes opener.now path) table.now (R.remaining reader.old))) report.plan) }
+    ensures ran { IfOk result (λ report. IsPlanOf table.now report.plan) }
     ensures unwritable { result ≡ Err Refused.Unwritable → PrintsTablePart H.File.pages table.now
         (feeds_by (λ path. O.bytes opener.now path) table.now (R.remaining reader.old)) (W.contents writer.old)
         (W.contents writer.new) }

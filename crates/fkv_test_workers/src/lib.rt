@@ -10,6 +10,8 @@ mod listing;
 #[cfg(test)]
 mod merging;
 #[cfg(test)]
+mod shared;
+#[cfg(test)]
 mod stalling;
 #[cfg(test)]
 mod tables;

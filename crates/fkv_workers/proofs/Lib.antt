@@ -15,3 +15,4 @@ pub mod SplitLemmas
 pub mod MadeLemmas
 pub mod EmptiedLemmas
 pub mod ListingLemmas
+pub mod BlockLemmas

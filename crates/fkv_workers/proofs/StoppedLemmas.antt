@@ -8,6 +8,7 @@ use Rattle.std.proofs.lemmas.Option.{slice_get-map, slice_get_within, slice_get_
 use Rattle.fkv_functions.specs.declared.refusals.Refused.{Refused}
 use Rattle.fkv_functions.specs.declared.refusals.Refused.TheVariants.{NoMemory}
 use Rattle.fkv_device.specs.Failing.{FailsOnlyBy}
+use Rattle.fkv_feeds.specs.Tables.{AreFeeds, most_rows}
 use Rattle.fkv_feeds.specs.declared.modes.RowMode.{RowMode}
 use Rattle.fkv_functions.specs.declared.names.Name.{Name}
 use Rattle.fkv_store.specs.Passes.{PassView}
@@ -21,10 +22,10 @@ behind [] after x = refl
 behind (b ∷ before) after x = behind before after x
 
 module _ {W S R : Type 0} (feeds_in : W → List (ℕ × S)) (fault_of : R → Option Refused) (stops : List (ℕ × S) → Refused → Type 0)
-    (done : W → R → Type 0) (workers : ℕ) (items : List S) (works : List W) (results : List R) (why : Refused) where
+    (done also : W → R → Type 0) (workers : ℕ) (items : List S) (works : List W) (results : List R) (why : Refused) where
   -- the fault of the first worker that has one is about a feed of its own
   pub stopped : AreDealt workers items (map feeds_in works)
-      → AllZip (λ work r. done work r × IfSome (fault_of r) (stops (feeds_in work))) works results
+      → AllZip (λ work r. done work r × IfSome (fault_of r) (stops (feeds_in work)) × also work r) works results
       → (first : IsFirstFault (map fault_of results) why)
       → (length first.before < workers) × stops (dealt workers (length first.before) items) why
   stopped hands each first =
@@ -36,7 +37,7 @@ module _ {W S R : Type 0} (feeds_in : W → List (ℕ × S)) (fault_of : R → O
       from None at h = absurd (cc)
       from (Some r) at h =
           let w = length first.before in
-          let found = beside (λ work r. done work r × IfSome (fault_of r) (stops (feeds_in work))) works results w r each at in
+          let found = beside (λ work r. done work r × IfSome (fault_of r) (stops (feeds_in work)) × also work r) works results w r each at in
           let hand : feeds_in found.0 ≡ dealt workers w items = hands.each w (feeds_in found.0) (slice_get-map feeds_in works w ∙ ap (option_map feeds_in) found.1) in
           let many : length works ≡ workers = sym (length-map works feeds_in) ∙ hands.count in
           let fault : fault_of r ≡ Some why = cc in (
@@ -86,7 +87,7 @@ module _ {W S R V O : Type 0} (remaining : S → Option (List ℕ)) (failures : 
     (feeds_in : W → List (ℕ × S)) (mode_of : W → RowMode) (pass_of : R → PassView Name V ℤ O) (fault_of : R → Option Refused)
     (stops : W → R → Type 0) (workers : ℕ) (items : List S) (works : List W) (results : List R) (why : Refused)
     (hands : AreDealt workers items (map feeds_in works))
-    (each : AllZip (λ work r. IfNone (fault_of r) (HasDone remaining failures keeps code (mode_of work) (feeds_in work) (pass_of r)) × stops work r) works results)
+    (each : AllZip (λ work r. IfNone (fault_of r) (HasDone (AreFeeds most_rows (map (λ feed. remaining feed.1) (feeds_in work))) keeps code (mode_of work) (pass_of r)) × stops work r) works results)
   where
     -- one has read its feeds to their ends
     has_read : (v : ℕ) → slice_get (map fault_of results) v ≡ Some None → HasRead remaining failures (dealt workers v items)
@@ -95,11 +96,11 @@ module _ {W S R V O : Type 0} (remaining : S → Option (List ℕ)) (failures : 
         from : (o : Option R) → slice_get results v ≡ o → option_map fault_of o ≡ Some None → HasRead remaining failures (dealt workers v items)
         from None at h = absurd (cc)
         from (Some r) at h =
-            let found = beside (λ work r. IfNone (fault_of r) (HasDone remaining failures keeps code (mode_of work) (feeds_in work) (pass_of r)) × stops work r) works results v r each at in
+            let found = beside (λ work r. IfNone (fault_of r) (HasDone (AreFeeds most_rows (map (λ feed. remaining feed.1) (feeds_in work))) keeps code (mode_of work) (pass_of r)) × stops work r) works results v r each at in
             let hand : feeds_in found.0 ≡ dealt workers v items = hands.each v (feeds_in found.0) (slice_get-map feeds_in works v ∙ ap (option_map feeds_in) found.1) in
             let fault : fault_of r ≡ None = cc in
-            let done : HasDone remaining failures keeps code (mode_of found.0) (feeds_in found.0) (pass_of r) =
-            subst (λ f. IfNone f (HasDone remaining failures keeps code (mode_of found.0) (feeds_in found.0) (pass_of r))) fault found.2.0 in
+            let done : HasDone (AreFeeds most_rows (map (λ feed. remaining feed.1) (feeds_in found.0))) keeps code (mode_of found.0) (pass_of r) =
+            subst (λ f. IfNone f (HasDone (AreFeeds most_rows (map (λ feed. remaining feed.1) (feeds_in found.0))) keeps code (mode_of found.0) (pass_of r))) fault found.2.0 in
             subst (HasRead remaining failures) hand (record { rows = done.rows; read = done.read })
 
     pub all_read : All (λ fault. fault ≡ None) (map fault_of results) → HaveRead remaining failures workers workers items

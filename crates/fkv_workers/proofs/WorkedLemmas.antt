@@ -3,6 +3,7 @@ use Rattle.std.proofs.Common.{◌≡◌, ◌<◌, [], ◌∷◌, ℕ, ◌+◌, �
 use Rattle.std.specs.Prelude.{IfNone, IsSomeAnd, MatchOption, option_map, slice_get}
 use Rattle.std.specs.List.{All, AllZip, filter, enumerate_from}
 use Rattle.std.proofs.lemmas.List.{length-map}
+use Rattle.std.proofs.lemmas.Simd.{map-map}
 use Rattle.std.proofs.lemmas.Option.{slice_get-map}
 use Rattle.std.proofs.lemmas.Slice.Zip.{AllZip-long, AllZip-right}
 use Rattle.std.proofs.lemmas.List.Elements.{All-nil, All-cons, All-head, All-tail}
@@ -30,7 +31,7 @@ texts_dealt f workers w place (x ∷ xs) =
     ] in
     by (place % workers == w) refl
 
-module _ {W R S V O : Type 0} (rem : S → Option (List ℕ)) (fails : S → ℕ) (code : Name → ℕ) (feeds_in : W → List (ℕ × S))
+module _ {W R S V O : Type 0} (rem : S → Option (List ℕ)) (code : Name → ℕ) (feeds_in : W → List (ℕ × S))
     (mode_of : W → RowMode) (pass_of : R → PassView Name V ℤ O) (fault_of : R → Option Refused) (keeps : Bool) (mode : RowMode)
     (stops : W → R → Type 0) where
   -- each worker that has no fault has the rows of its feeds
@@ -41,7 +42,7 @@ module _ {W R S V O : Type 0} (rem : S → Option (List ℕ)) (fails : S → ℕ
     pub made : All (λ pass. AreMadeBy mode pass.own) (map pass_of results)
 
   pub shared : (works : List W) (results : List R) → keeps ≡ true
-      → AllZip (λ work result. IfNone (fault_of result) (HasDone rem fails keeps code (mode_of work) (feeds_in work) (pass_of result)) × stops work result)
+      → AllZip (λ work result. IfNone (fault_of result) (HasDone (AreFeeds most_rows (map (λ feed. rem feed.1) (feeds_in work))) keeps code (mode_of work) (pass_of result)) × stops work result)
       works results
       → All (λ work. mode_of work ≡ mode) works
       → All (λ fault. fault ≡ None) (map fault_of results)
@@ -50,8 +51,8 @@ module _ {W R S V O : Type 0} (rem : S → Option (List ℕ)) (fails : S → ℕ
   shared [] (r ∷ rs) k each modes none = absurd each
   shared (w ∷ ws) [] k each modes none = absurd each
   shared (w ∷ ws) (r ∷ rs) k each modes none =
-      let done : HasDone rem fails keeps code (mode_of w) (feeds_in w) (pass_of r) =
-      subst (λ fault. IfNone fault (HasDone rem fails keeps code (mode_of w) (feeds_in w) (pass_of r))) (All-head (λ fault. fault ≡ None) (fault_of r) (map fault_of rs) none) each.0.0 in
+      let done : HasDone (AreFeeds most_rows (map (λ feed. rem feed.1) (feeds_in w))) keeps code (mode_of w) (pass_of r) =
+      subst (λ fault. IfNone fault (HasDone (AreFeeds most_rows (map (λ feed. rem feed.1) (feeds_in w))) keeps code (mode_of w) (pass_of r))) (All-head (λ fault. fault ≡ None) (fault_of r) (map fault_of rs) none) each.0.0 in
       let rest = shared ws rs k each.1 (All-tail (λ work. mode_of work ≡ mode) w ws modes) (All-tail (λ fault. fault ≡ None) (fault_of r) (map fault_of rs) none) in
       record {
         shares = done.rows ∷ rest.shares;
@@ -93,11 +94,8 @@ fed_by {W = W} rem code mode feeds_in workers items works passes shares some han
           rw (many, texts_dealt rem workers w 0 items) (subst (λ feeds. AreFeeds most_rows (map (λ feed. rem feed.1) feeds) rows) hand found.2);
     } in
     record {
-      shares = shares;
-      fed = fed_in_turn most_rows (map rem items) shares turns;
+      shared = record { shares = shares; fed = fed_in_turn most_rows (map rem items) shares turns; kept = kept; made = made };
       in_turn = turns;
-      kept = kept;
-      made = made;
     }
 
 -- as many partitions for each pass
@@ -112,3 +110,11 @@ counted code count (p ∷ ps) (r ∷ rs) all kept = (
   subst (λ n. HasShare code n p.own r) (All-head (λ pass. length pass.told ≡ count) p ps all) kept.0,
   counted code count ps rs (All-tail (λ pass. length pass.told ≡ count) p ps all) kept.1,
 )
+
+-- the work of each worker has its hand
+pub hands_are : {W H S : Type 0} (workers : ℕ) (items : List S) (of_hand : H → List (ℕ × S)) (hand_of : W → H) (works : List W) (hands : List H)
+    → map hand_of works ≡ hands
+    → AreDealt workers items (map of_hand hands)
+    → AreDealt workers items (map (λ work. of_hand (hand_of work)) works)
+hands_are workers items of_hand hand_of works hands is dealt =
+    subst (AreDealt workers items) (ap (map of_hand) (sym is) ∙ map-map of_hand hand_of works) dealt

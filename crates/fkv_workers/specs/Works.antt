@@ -21,7 +21,8 @@ use Rattle.fkv_partition.specs.declared.limits.Config.{Config}
 use Rattle.fkv_partition.specs.CoreViews.{partition_of}
 use Rattle.fkv_store.specs.Stores.{IsTold, IsUnopened, IsClosing}
 use Rattle.fkv_store.specs.Passes.{PassView, IsUpdateBy, Answers}
-use Rattle.fkv_workers.specs.Shares.{AreFed, AreFedInTurn, HasShare, dealt, rows_at}
+use Rattle.fkv_blocks.specs.Pieces.{AreFed, IsFirstUnread}
+use Rattle.fkv_workers.specs.Shares.{AreFedInTurn, HasShare, dealt, rows_at}
 
 -- a pass made a row by one operation on its key, with its amount: by an update, or, only where the mode asks for merges, by a
 -- merge
@@ -59,6 +60,13 @@ pub record AreSplit {V O : Type 0} (keeps : Bool) (code : Name → ℕ) (mode : 
 abbrev pub number_of : ℕ → ℕ
 number_of place = min (place + 1) (2 ^ 64 - 1)
 
+-- a worker read its share to its end, which has rows of this kind, and its pass has them, each made as the mode says
+pub record HasDone {V O : Type 0} (HasRows : List (Name × ℤ) → Type 0) (keeps : Bool) (code : Name → ℕ) (mode : RowMode)
+    (pass : PassView Name V ℤ O) : Type 0 where
+  pub rows : List (Name × ℤ)
+  pub read : HasRows rows
+  pub stands : StandsFor keeps code mode pass rows
+
 module _ {S : Type 0} (remaining : S → Option (List ℕ)) (failures : S → ℕ) where
   -- one of these feeds was not read to its end, and why: by its failures, and those of what the reading left of it
   pub record IsUnreadOf (feeds : List (ℕ × S)) (why : Refused) : Type 0 where
@@ -69,13 +77,6 @@ module _ {S : Type 0} (remaining : S → Option (List ℕ)) (failures : S → �
     pub after : ℕ
     pub counts : after ≡ failures left
     pub tells : TellsUnread (number_of feed.0) most_rows (remaining feed.1) (failures feed.1) after why
-
-  -- a worker read these feeds to their ends, and its pass has their rows, each made as the mode says
-  pub record HasDone {V O : Type 0} (keeps : Bool) (code : Name → ℕ) (mode : RowMode) (feeds : List (ℕ × S))
-      (pass : PassView Name V ℤ O) : Type 0 where
-    pub rows : List (Name × ℤ)
-    pub read : AreFeeds most_rows (map (λ feed. remaining feed.1) feeds) rows
-    pub stands : StandsFor keeps code mode pass rows
 
   -- why a worker stopped before: its pass refused an update or to rest, or a feed was not read to its end
   abbrev pub IsStop : List (ℕ × S) → Refused → Type 0
@@ -122,15 +123,39 @@ pub record IsFirstFault (faults : List (Option Refused)) (why : Refused) : Type 
   pub is : faults ≡ before ++ Some why ∷ after
   pub none : All (λ fault. fault ≡ None) before
 
--- the own lists of these passes have the rows of these feeds, which their workers share out among them, feed by feed in turn: each
--- row by one update, or, only where the mode asks for merges, by one merge
-pub record IsFedBy {V O : Type 0} (code : Name → ℕ) (mode : RowMode) (feeds : List (Option (List ℕ)))
+-- the own lists of these passes have the rows of these feeds, which their workers share out among them: each row by one update, or, only
+-- where the mode asks for merges, by one merge
+pub record IsShared {V O : Type 0} (code : Name → ℕ) (mode : RowMode) (feeds : List (Option (List ℕ)))
     (passes : List (PassView Name V ℤ O)) : Type 0 where
   pub shares : List (List (Name × ℤ))
   pub fed : AreFed most_rows feeds shares
-  pub in_turn : AreFedInTurn most_rows feeds shares
   pub kept : AllZip (λ pass rows. HasShare code (length pass.told) pass.own rows) passes shares
   pub made : All (λ pass. AreMadeBy mode pass.own) passes
+
+-- and they share them out feed by feed, in turn
+pub record IsFedBy {V O : Type 0} (code : Name → ℕ) (mode : RowMode) (feeds : List (Option (List ℕ)))
+    (passes : List (PassView Name V ℤ O)) : Type 0 where
+  pub shared : IsShared code mode feeds passes
+  pub in_turn : AreFedInTurn most_rows feeds shared.shares
+
+-- what workers who share feeds out, in pieces of any, make of them: the own lists of passes have one update or merge for each row, each
+-- history is a merge of these lists, they have as many entries as stand beside the table, and what they make of the empty map is the
+-- table
+pub record IsMadeOf {V O : Type 0} (f : Meanings Name V ℤ O) (code : Name → ℕ) (mode : RowMode) (feeds : List (Option (List ℕ)))
+    (table : List (Name × V)) (count : ℕ) : Type 0 where
+  pub passes : List (PassView Name V ℤ O)
+  pub histories : List (List (Entry Name V ℤ O))
+  pub shared : IsShared code mode feeds passes
+  pub closed : IsClosed name_cmp f code (map (λ pass. pass.own) passes) (map (λ pass. pass.share) passes)
+      (λ k. lookup (is_at (name_cmp k)) table) histories count
+
+-- why a run over blocks of these feeds has no table: it is outside its limits; a call on the store was refused; the first feed that was
+-- not read to its end, and why, where the streams had failed so often before; or the store did not close
+pub data IsUnread (runnable : Type 0) (feeds : List (Option (List ℕ))) (counts : List ℕ) (why : Refused) : Type 0 where
+  beyond : why ≡ BadConfig → ¬ runnable → IsUnread runnable feeds counts why
+  told : IsTold why → IsUnread runnable feeds counts why
+  unread : IsFirstUnread feeds counts most_rows why → IsUnread runnable feeds counts why
+  unclosed : IsClosing why → IsUnread runnable feeds counts why
 
 -- a table, beside which stand so many updates, was made of these feeds in this mode: the own lists of passes have one update or merge
 -- for each row, each history is a merge of these lists, they have as many entries, and what they make of the empty map is the

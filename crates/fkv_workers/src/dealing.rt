@@ -1,25 +1,25 @@
 //! What workers are given, and what they hand back.
-ghost use Rattle.std.specs.Prelude.{◌≡◌, ◌<◌, ◌⊎◌, ℕ, [], length, map, None, IfOk, IfErr, OnOk};
+ghost use Rattle.std.specs.Prelude.{◌≡◌, ◌<◌, ◌⊎◌, ℕ, [], length, map, replicate, None, IfOk, IfErr, OnOk};
 ghost use Rattle.std.specs.List.{All};
 ghost use Rattle.fkv_functions.specs.declared.refusals.Refused.TheVariants as refused;
 ghost use Rattle.fkv_store.specs.Stores.{IsUnopened};
 ghost use Rattle.fkv_workers.specs.Works.{StandsFor, IsFirstFault};
 
-use crate::deals::FeedShare;
+use crate::sharing::Share;
+use crate::waiting::none_wait;
 use crate::working::{Work, Worked};
 use fkv_device::Disk;
 use fkv_feeds::RowMode;
 use fkv_functions::{Mergeable, Name, Refused};
 use fkv_histories::Recorder;
 use fkv_store::{Pass, Store};
-use fkv_streams::Source;
 use std::alloc::Global;
 use std::sync::Wait;
 
-/// The work of each worker: its feeds, and a pass of its own. Refused: `NoMemory`, and as the device refuses to open.
+/// The work of each worker: its share of the feeds, and a pass of its own. Refused: `NoMemory`, and as the device refuses to open.
 pub(crate) fn works<
     'a,
-    S: Source + Drop,
+    C: Share,
     F: Mergeable<Key = Name, Input = i64>,
     D: Disk,
     H: Recorder<F>,
@@ -30,21 +30,25 @@ pub(crate) fn works<
     store: &'a Store<F, D, H>,
     gate: &'a G,
     mode: RowMode,
-    hands: Vec<FeedShare<S>>,
-) -> Result<Vec<Work<'a, S, F, D, H, G>>, Refused>
+    shares: Vec<C>,
+) -> Result<Vec<Work<'a, C, F, D, H, G>>, Refused>
     requires { 0 < store.now.count }
-    ensures feeds { IfOk result
-        (λ works. map (λ work. work.feeds.items) works.items ≡ map (λ hand. hand.items) hands.items) }
+    ensures shares { IfOk result (λ works. map (λ work. work.share) works.items ≡ shares.items) }
     ensures ready { IfOk result (λ works. All (λ work. StandsFor H.keeps F.code work.mode work.pass []
-        × (length work.pass.told ≡ work.store.now.count)) works.items) }
+        × (length work.pass.told ≡ work.store.now.count)
+        × (map (λ rows. rows.items) work.waiting.items ≡ replicate work.store.now.count [])) works.items) }
     ensures modes { IfOk result (λ works. All (λ work. work.mode ≡ mode) works.items) }
     ensures only { IfErr result IsUnopened }
 {
     let mut works = Vec::new(alloc);
     let mut worker = 0u32;
-    for feeds in hands {
+    for share in shares {
         let pass = match store.pass(rt, alloc, worker) {
             Ok(pass) => pass,
+            Err(refused) => return Err(refused),
+        };
+        let waiting = match none_wait(alloc, store.partitions()) {
+            Ok(waiting) => waiting,
             Err(refused) => return Err(refused),
         };
         let work = Work {
@@ -53,7 +57,8 @@ pub(crate) fn works<
             gate,
             mode,
             pass,
-            feeds,
+            waiting,
+            share,
         };
         let Ok(()) = works.push(work) else {
             return Err(Refused::NoMemory);
@@ -64,9 +69,9 @@ pub(crate) fn works<
 }
 
 /// The passes of workers, in order. Refused: as the first of them stopped that did before its feeds ended, and `NoMemory`.
-pub(crate) fn passes_of<F: Mergeable, D: Disk, H: Recorder<F>>(
+pub(crate) fn passes_of<F: Mergeable, D: Disk, H: Recorder<F>, R: Drop>(
     alloc: Global,
-    worked: Vec<Worked<F, D, H>>,
+    worked: Vec<Worked<F, D, H, R>>,
 ) -> Result<Vec<Pass<F, D, H>>, Refused>
     ensures ok { IfOk result (λ passes. passes.items ≡ map (λ w. w.pass) worked.items) }
     ensures none { OnOk result (All (λ fault. fault ≡ None) (map (λ w. w.fault) worked.items)) }
@@ -74,7 +79,7 @@ pub(crate) fn passes_of<F: Mergeable, D: Disk, H: Recorder<F>>(
 {
     let mut passes = Vec::new(alloc);
     for one in worked {
-        let Worked { pass, fault } = one;
+        let Worked { pass, fault, .. } = one;
         match fault {
             None => {}
             Some(refused) => return Err(refused),

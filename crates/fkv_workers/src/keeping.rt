@@ -72,14 +72,14 @@ impl<'a, F: Mergeable, D: Disk, H: Recorder<F>, G: Gate> Keeper for StoreKeeper<
 }
 
 /// The bytes of so many pages as Head moves between two compactions, where a page has 2 to this many.
-pub(crate) fn span_of(page_bits: u64) -> u64
+fn span_of(page_bits: u64) -> u64
     requires { page_bits < 57 }
 {
     PAGES << page_bits
 }
 
 /// So many places of Head, at which nothing was compacted. Refused: `NoMemory`.
-pub(crate) fn fresh_heads(alloc: Global, count: usize) -> Result<Vec<AtomicU64>, Refused>
+fn fresh_heads(alloc: Global, count: usize) -> Result<Vec<AtomicU64>, Refused>
     ensures only { IfErr result (λ e. e ≡ refused.NoMemory) }
 {
     let mut heads = Vec::new(alloc);
@@ -89,4 +89,27 @@ pub(crate) fn fresh_heads(alloc: Global, count: usize) -> Result<Vec<AtomicU64>,
         };
     }
     Ok(heads)
+}
+
+/// The keeper of a store whose pages have 2 to so many bytes, before its first turn. Refused: `NoMemory`.
+pub(crate) fn keeper_of<'a, F: Mergeable, D: Disk, H: Recorder<F>, G: Gate>(
+    alloc: Global,
+    store: &'a Store<F, D, H>,
+    gate: &'a G,
+    page_bits: u64,
+) -> Result<StoreKeeper<'a, F, D, H, G>, Refused>
+    requires { page_bits < 57 }
+    ensures only { IfErr result (λ e. e ≡ refused.NoMemory) }
+{
+    let heads = match fresh_heads(alloc, store.partitions()) {
+        Ok(heads) => heads,
+        Err(refused) => return Err(refused),
+    };
+    Ok(StoreKeeper {
+        alloc,
+        store,
+        gate,
+        heads,
+        span: span_of(page_bits),
+    })
 }

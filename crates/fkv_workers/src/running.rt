@@ -9,17 +9,16 @@ ghost use Rattle.fkv_workers.specs.Works.{HaveRead, IsFedBy, IsFirst, IsFirstFau
 
 use crate::dealing::{passes_of, works};
 use crate::deals::deal;
-use crate::keeping::{StoreKeeper, fresh_heads, span_of};
-use crate::laws::tables_join;
-use crate::listing::table_of;
+use crate::keeping::keeper_of;
+use crate::tabling::tabled;
 use crate::working::Worked;
 use fkv_device::Disk;
-use fkv_feeds::{Counts, Plan, RowMode, Run};
+use fkv_feeds::{RowMode, Run};
 use fkv_functions::{Fixed, Mergeable, Name, OrderFree, Refused};
 use fkv_histories::Recorder;
 use fkv_jobs::{Ran, run_jobs};
 use fkv_partition::Config;
-use fkv_store::{Ended, Gate, Pass, Store};
+use fkv_store::{Gate, Pass, Store};
 use fkv_streams::Source;
 use std::alloc::Global;
 use std::rt::Clock;
@@ -33,7 +32,7 @@ pub const MOST_FEEDS: usize = 64;
 pub const MOST_WORKERS: usize = 14;
 
 /// Whether a run of so many workers over so many feeds, with a store of this configuration, is within its limits.
-fn is_runnable<V: Fixed>(config: &Config, workers: usize, feeds: usize) -> bool
+pub(crate) fn is_runnable<V: Fixed>(config: &Config, workers: usize, feeds: usize) -> bool
     ensures { IsTrue result ↔ IsRunnable config.now (size_of 32 V.SIZE) workers feeds }
 {
     config.is_within_limits::<Name, V>()
@@ -43,9 +42,9 @@ fn is_runnable<V: Fixed>(config: &Config, workers: usize, feeds: usize) -> bool
 
 /// The passes of workers, where neither they nor the keeper have a fault. The fault of the first worker that has one comes
 /// first, then the keeper's.
-fn ended<F: Mergeable, D: Disk, H: Recorder<F>>(
+fn ended<F: Mergeable, D: Disk, H: Recorder<F>, R: Drop>(
     alloc: Global,
-    ran: Ran<Worked<F, D, H>>,
+    ran: Ran<Worked<F, D, H, R>>,
 ) -> Result<Vec<Pass<F, D, H>>, Refused>
     ensures ok { IfOk result (λ passes. passes.items ≡ map (λ w. w.pass) ran.results.items) }
     ensures none { OnOk result (All (λ fault. fault ≡ None) (map (λ w. w.fault) ran.results.items)) }
@@ -114,16 +113,9 @@ where
         Ok(works) => works,
         Err(refused) => return Err(refused),
     };
-    let heads = match fresh_heads(alloc, store.partitions()) {
-        Ok(heads) => heads,
+    let keeper = match keeper_of(alloc, store, gate, page_bits) {
+        Ok(keeper) => keeper,
         Err(refused) => return Err(refused),
-    };
-    let keeper = StoreKeeper {
-        alloc,
-        store,
-        gate,
-        heads,
-        span: span_of(page_bits),
     };
     let ran = match run_jobs(rt, alloc, &keeper, works) {
         Ok(ran) => ran,
@@ -248,31 +240,5 @@ where
         Err(refused) => return Err(refused),
     };
     let Fed { passes, mode } = fed;
-    let ended = match store.close_unlisted(alloc, passes) {
-        Ok(ended) => ended,
-        Err(refused) => return Err(refused),
-    };
-    let Ended {
-        functions,
-        partitions,
-        finished,
-        ..
-    } = ended;
-    tables_join::<F>();
-    let table = match table_of(rt, alloc, workers, &functions, partitions) {
-        Ok(table) => table,
-        Err(refused) => return Err(refused),
-    };
-    Ok(Run {
-        table,
-        counts: Counts {
-            rows: finished,
-            appended: None,
-        },
-        plan: Plan {
-            config: *config,
-            mode,
-            workers,
-        },
-    })
+    tabled(rt, alloc, store, passes, config, mode, workers)
 }

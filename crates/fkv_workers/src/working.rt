@@ -1,24 +1,23 @@
-//! What one worker does: it reads its feeds, one after the other, and makes each row an update, or a merge.
-ghost use Rattle.std.specs.Prelude.{◌≡◌, ◌<◌, ◌⊎◌, ◌++◌, ◌∷◌, [], ℤ, List, length, map, slice_set, vec_len, Some, None, IfSome, IfNone, IfErr, OnOk};
+//! What one worker does: it reads its share of the feeds, and makes each row an update, or a merge.
+ghost use Rattle.std.specs.Prelude.{◌≡◌, ◌<◌, ◌⊎◌, ◌++◌, ◌∷◌, [], ℤ, List, length, map, replicate, slice_set, vec_len, Some, None, IfSome, IfNone, IfErr, OnOk};
 ghost use Rattle.fkv_functions.specs.declared.names.Name.{Name};
-ghost use Rattle.fkv_feeds.specs.Tables.{AreFeeds, most_rows};
 ghost use Rattle.fkv_feeds.specs.declared.modes.RowMode.{RowMode};
 ghost use Rattle.fkv_partition.specs.CoreViews.{partition_of};
 ghost use Rattle.fkv_store.specs.Stores.{IsTold};
 ghost use Rattle.fkv_store.specs.Passes.{IsPassOf};
-ghost use Rattle.fkv_workers.specs.Works.{StandsFor, AreSplit, IsUnreadOf, HasDone, IsStop, Makes};
+ghost use Rattle.fkv_workers.specs.Works.{StandsFor, AreSplit, HasDone, Makes};
 
-use crate::deals::FeedShare;
-use crate::waiting::{Waiting, clear, none_wait, put, rows_of};
+use crate::sharing::{Reading, Share};
+use crate::waiting::{Waiting, clear, put, rows_of};
+use fkv_blocks::BlockSink;
 use fkv_device::Disk;
-use fkv_feed_rows::{RowSink, read_feed};
-use fkv_feeds::{LIMIT, RowMode};
+use fkv_feed_rows::RowSink;
+use fkv_feeds::RowMode;
 use fkv_functions::{Mergeable, Name, Refused};
 use fkv_histories::Recorder;
 use fkv_jobs::Job;
 use fkv_operations::KeyedOp;
 use fkv_store::{Gate, Pass, Store};
-use fkv_streams::Source;
 use std::alloc::Global;
 use std::marker::{Brand, PhantomData};
 use std::rt::Clock;
@@ -206,91 +205,98 @@ impl<
     }
 }
 
+impl<
+    'a,
+    W: Wait + Clock,
+    F: Mergeable<Key = Name, Input = i64>,
+    D: Disk,
+    H: Recorder<F>,
+    G: Gate,
+    M: ByMode,
+> BlockSink for Rows<'a, W, F, D, H, G, M> {
+    fn rest(&mut self) -> Result<(), Refused> {
+        self.pass.rest(self.rt, self.store)
+    }
+}
+
 /// What one worker is to do.
 #[derive(Drop)]
-pub(crate) struct Work<'a, S: Source + Drop, F: Mergeable, D: Disk, H: Recorder<F>, G> {
+pub(crate) struct Work<'a, C: Share, F: Mergeable, D: Disk, H: Recorder<F>, G> {
     pub alloc: Global,
     pub store: &'a Store<F, D, H>,
     pub gate: &'a G,
     pub mode: RowMode,
     pub pass: Pass<F, D, H>,
-    pub feeds: FeedShare<S>,
+    /// No rows, of each partition.
+    pub waiting: Waiting,
+    pub share: C,
 }
 
-/// What a worker hands back: its pass, which rests, and why it stopped, if it did before its feeds ended.
+/// What a worker hands back: its pass, which rests, what tells of what it read, and why it stopped, if it did before its share ended.
 #[derive(Drop)]
-pub(crate) struct Worked<F: Mergeable, D: Disk, H: Recorder<F>> {
+pub(crate) struct Worked<F: Mergeable, D: Disk, H: Recorder<F>, R> {
     pub pass: Pass<F, D, H>,
+    pub had: R,
     pub fault: Option<Refused>,
 }
 
-/// Reads feeds into a sink, one after the other. Refused as a feed is, by its number, and as the sink refuses a row.
-fn read_all<S: Source + Drop, K: RowSink>(
-    alloc: Global,
-    feeds: FeedShare<S>,
-    sink: &mut K,
-) -> Result<(), Refused>
-    requires { (rows : List (Name × ℤ)) × K.stands sink.old rows }
-    ensures ok { OnOk result ((before : List (Name × ℤ)) → K.stands sink.old before
-        → (rows : List (Name × ℤ)) × AreFeeds most_rows (map (λ feed. S.remaining feed.1) feeds.items) rows
-        × K.stands sink.new (before ++ rows)) }
-    ensures told { IfErr result (λ e. K.fault e ⊎ IsUnreadOf S.remaining S.failures feeds.items e) }
-{
-    for feed in feeds {
-        let (place, source) = feed;
-        let mut source = source;
-        let number = (place as u64).saturating_add(1);
-        match read_feed(alloc, &mut source, number, LIMIT, sink) {
-            Ok(_rows) => {}
-            Err(refused) => return Err(refused),
-        }
-    }
-    Ok(())
-}
-
-/// Reads feeds into a pass, one after the other, until none of their rows waits. Refused as [`read_all`] is, and as the pass
-/// refuses an update: the first of the rows, in the order in which they are made, comes before what stands behind them in a feed.
+/// Reads a share into a pass, until none of its rows waits. Refused as the share is, and as the pass refuses an update: the first of
+/// the rows, in the order in which they are made, comes before what stands behind them in a feed.
 fn work_through<
     W: Wait + Clock,
-    S: Source + Drop,
+    C: Share,
     F: Mergeable<Key = Name, Input = i64>,
     D: Disk,
     H: Recorder<F>,
     G: Gate,
     M: ByMode,
->(alloc: Global, feeds: FeedShare<S>, rows: &mut Rows<'_, W, F, D, H, G, M>) -> Result<(), Refused>
+>(alloc: Global, share: C, rows: &mut Rows<'_, W, F, D, H, G, M>) -> Reading<C::Had>
     requires none { AreSplit H.keeps F.code M.mode rows.old.pass (map (λ rows. rows.items) rows.old.waiting.items) [] }
     requires long { length rows.old.pass.told ≡ rows.old.store.now.count }
     requires mode { rows.old.mode ≡ M.mode }
-    ensures done { OnOk result (HasDone S.remaining S.failures H.keeps F.code M.mode feeds.items rows.new.pass) }
-    ensures stopped { IfErr result (IsStop S.remaining S.failures feeds.items) }
+    ensures done { IfNone result.fault (HasDone (C.reads share result.had) H.keeps F.code M.mode rows.new.pass) }
+    ensures stopped { IfSome result.fault (λ why. IsTold why ⊎ C.fails share result.had why) }
+    ensures told { C.tells share result.had }
 {
-    match read_all(alloc, feeds, rows) {
-        Ok(()) => {}
-        Err(refused) => return Err(rows.first_fault(refused)),
+    let rt = rows.rt;
+    let Reading { had, fault } = share.read(rt, alloc, rows);
+    match fault {
+        Some(refused) => {
+            let first = rows.first_fault(refused);
+            return Reading {
+                had,
+                fault: Some(first),
+            };
+        }
+        None => {}
     }
     match rows.make_all() {
-        Ok(()) => Ok(()),
-        Err(refused) => Err(refused),
+        Ok(()) => Reading { had, fault: None },
+        Err(refused) => Reading {
+            had,
+            fault: Some(refused),
+        },
     }
 }
 
-/// Reads a worker's feeds, and makes each row by this mode.
+/// Reads a worker's share, and makes each row by this mode.
 fn read_by<
     W: Wait + Clock,
-    S: Source + Drop,
+    C: Share,
     F: Mergeable<Key = Name, Input = i64>,
     D: Disk,
     H: Recorder<F>,
     G: Gate,
     M: ByMode,
->(rt: &W, asked: Work<'_, S, F, D, H, G>) -> Worked<F, D, H>
+>(rt: &W, asked: Work<'_, C, F, D, H, G>) -> Worked<F, D, H, C::Had>
     requires none { StandsFor H.keeps F.code M.mode asked.pass [] }
     requires long { length asked.pass.told ≡ asked.store.now.count }
     requires mode { asked.mode ≡ M.mode }
+    requires waiting { map (λ rows. rows.items) asked.waiting.items ≡ replicate asked.store.now.count [] }
     ensures done { IfNone result.fault
-        (HasDone S.remaining S.failures H.keeps F.code M.mode asked.entry.feeds.items result.pass) }
-    ensures stopped { IfSome result.fault (IsStop S.remaining S.failures asked.entry.feeds.items) }
+        (HasDone (C.reads asked.entry.share result.had) H.keeps F.code M.mode result.pass) }
+    ensures stopped { IfSome result.fault (λ why. IsTold why ⊎ C.fails asked.entry.share result.had why) }
+    ensures told { C.tells asked.entry.share result.had }
 {
     let Work {
         alloc,
@@ -298,17 +304,9 @@ fn read_by<
         gate,
         mode,
         pass,
-        feeds,
+        waiting,
+        share,
     } = asked;
-    let waiting = match none_wait(alloc, store.partitions()) {
-        Ok(waiting) => waiting,
-        Err(refused) => {
-            return Worked {
-                pass,
-                fault: Some(refused),
-            };
-        }
-    };
     let mut rows: Rows<'_, W, F, D, H, G, M> = Rows {
         rt,
         alloc,
@@ -320,77 +318,70 @@ fn read_by<
         stopped: false,
         by: PhantomData,
     };
-    let read = work_through(alloc, feeds, &mut rows);
+    let Reading { had, fault } = work_through(alloc, share, &mut rows);
     let Rows { pass, .. } = rows;
-    match read {
-        Ok(()) => Worked { pass, fault: None },
-        Err(refused) => Worked {
-            pass,
-            fault: Some(refused),
-        },
-    }
+    Worked { pass, had, fault }
 }
 
 /// Has a worker's pass rest at its end, so that no other worker waits for it. The worker's fault stays, if it has one: that the pass
 /// is refused to rest is told only where it has none.
-fn rest_after<F: Mergeable, D: Disk, H: Recorder<F>>(
+fn rest_after<F: Mergeable, D: Disk, H: Recorder<F>, R: Drop>(
     rt: &impl Wait,
     store: &Store<F, D, H>,
-    worked: Worked<F, D, H>,
-) -> Worked<F, D, H>
+    worked: Worked<F, D, H, R>,
+) -> Worked<F, D, H, R>
     ensures same { result.pass ≡ worked.pass }
+    ensures had { result.had ≡ worked.had }
     ensures first { IfSome worked.fault (λ why. result.fault ≡ Some why) }
     ensures told { worked.fault ≡ None → IfSome result.fault IsTold }
 {
-    let Worked { pass, fault } = worked;
+    let Worked { pass, had, fault } = worked;
     let mut pass = pass;
     let rested = pass.rest(rt, store);
     match (fault, rested) {
         (None, Err(refused)) => Worked {
             pass,
+            had,
             fault: Some(refused),
         },
-        (fault, _) => Worked { pass, fault },
+        (fault, _) => Worked { pass, had, fault },
     }
 }
 
-/// Does a worker's work: it reads its feeds, and makes each row by its mode; then its pass rests.
+/// Does a worker's work: it reads its share, and makes each row by its mode; then its pass rests.
 fn run_work<
     W: Wait + Clock,
-    S: Source + Drop,
+    C: Share,
     F: Mergeable<Key = Name, Input = i64>,
     D: Disk,
     H: Recorder<F>,
     G: Gate,
->(rt: &W, asked: Work<'_, S, F, D, H, G>) -> Worked<F, D, H>
+>(rt: &W, asked: Work<'_, C, F, D, H, G>) -> Worked<F, D, H, C::Had>
     requires none { StandsFor H.keeps F.code asked.mode asked.pass [] }
     requires long { length asked.pass.told ≡ asked.store.now.count }
+    requires waiting { map (λ rows. rows.items) asked.waiting.items ≡ replicate asked.store.now.count [] }
     ensures done { IfNone result.fault
-        (HasDone S.remaining S.failures H.keeps F.code asked.entry.mode asked.entry.feeds.items result.pass) }
-    ensures stopped { IfSome result.fault (IsStop S.remaining S.failures asked.entry.feeds.items) }
+        (HasDone (C.reads asked.entry.share result.had) H.keeps F.code asked.entry.mode result.pass) }
+    ensures stopped { IfSome result.fault (λ why. IsTold why ⊎ C.fails asked.entry.share result.had why) }
+    ensures told { C.tells asked.entry.share result.had }
 {
     let store = asked.store;
-    let worked = read_by::<W, S, F, D, H, G, Brand>(rt, asked);
+    let worked = read_by::<W, C, F, D, H, G, Brand>(rt, asked);
     rest_after(rt, store, worked)
 }
 
-impl<
-    'a,
-    S: Source + Drop,
-    F: Mergeable<Key = Name, Input = i64>,
-    D: Disk,
-    H: Recorder<F>,
-    G: Gate,
-> Job for Work<'a, S, F, D, H, G> {
-    type Output = Worked<F, D, H>;
+impl<'a, C: Share, F: Mergeable<Key = Name, Input = i64>, D: Disk, H: Recorder<F>, G: Gate> Job
+    for Work<'a, C, F, D, H, G> {
+    type Output = Worked<F, D, H, C::Had>;
 
-    ghost ready = { λ j. StandsFor H.keeps F.code j.mode j.pass [] × (length j.pass.told ≡ j.store.now.count) };
+    ghost ready = { λ j. StandsFor H.keeps F.code j.mode j.pass [] × (length j.pass.told ≡ j.store.now.count)
+        × (map (λ rows. rows.items) j.waiting.items ≡ replicate j.store.now.count []) };
 
-    ghost gives = { λ j w. IfNone w.fault
-        (HasDone S.remaining S.failures H.keeps F.code j.mode j.feeds.items w.pass)
-        × IfSome w.fault (IsStop S.remaining S.failures j.feeds.items) };
+    ghost gives = { λ j w. IfNone w.fault (HasDone (C.reads j.share w.had) H.keeps F.code j.mode w.pass)
+        × IfSome w.fault (λ why. IsTold why ⊎ C.fails j.share w.had why)
+        × C.tells j.share w.had };
 
-    fn run<W: Wait + Clock>(self, rt: &W) -> Worked<F, D, H> {
+    fn run<W: Wait + Clock>(self, rt: &W) -> Worked<F, D, H, C::Had> {
         run_work(rt, self)
     }
 }

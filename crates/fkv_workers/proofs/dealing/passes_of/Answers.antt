@@ -1,4 +1,4 @@
-use Rattle.std.proofs.Common.{rules, ◌≡◌, ◌++◌, [], ◌∷◌, None, map, sym, ap, subst, ◌∙◌, inr, append_assoc}
+use Rattle.std.proofs.Common.{◌≡◌, ◌++◌, [], ◌∷◌, None, map, sym, ap, subst, ◌∙◌, inr, append_assoc}
 use Rattle.std.specs.Vec.Iter.{into_iter_items}
 use Rattle.std.specs.List.{All}
 use Rattle.std.proofs.lemmas.List.{map-id, map_push, map-append}
@@ -10,7 +10,7 @@ use Rattle.fkv_workers.proofs.dealing.passes_of.Goals as goal
 pub loop-one-preserved : goal.loop-one-preserved
 loop-one-preserved g c =
     let old = c.loop-one.invariant in
-    let turn : into_iter_items c.loop-one.one-iterator ≡ c.in-Some.one ∷ into_iter_items c.next.new.self = search rules in
+    let turn : into_iter_items c.loop-one.one-iterator ≡ c.in-Some.one ∷ into_iter_items c.next.new.self = c.in-Some.ensures.steps.0 in
     record {
       passes =
           c.in-Ok.ensures.items
@@ -26,8 +26,8 @@ loop-one-preserved g c =
 pub returns-in-Some-fault-clause-refused : goal.returns-in-Some-fault-clause-refused
 returns-in-Some-fault-clause-refused g c =
     let old = c.loop-one.invariant in
-    let turn : into_iter_items c.loop-one.one-iterator ≡ c.in-Some.one ∷ into_iter_items c.next.new.self = search rules in
-    let all : into_iter_items c.into_iter-one-iterator.result ≡ c.args.worked.items = search rules in
+    let turn : into_iter_items c.loop-one.one-iterator ≡ c.in-Some.one ∷ into_iter_items c.next.new.self = c.in-Some.ensures.steps.0 in
+    let all : into_iter_items c.into_iter-one-iterator.result ≡ c.args.worked.items = c.into_iter-one-iterator.ensures.into_iter_gives.0 in
     let rest = map (λ w. w.fault) (into_iter_items c.next.new.self) in
     let is = ap (map (λ w. w.fault)) (sym all ∙ (sym old.whole ∙ ap (λ l. c.loop-one.yielded ++ l) turn)) in
     inr (record {

@@ -2,9 +2,10 @@ use Rattle.std.proofs.Common.{⊎_elim, inl, inr, length, map, refl, subst, IfSo
 use Rattle.std.specs.Prelude.{IfErr, IfNone}
 use Rattle.fkv_store.specs.Stores.{IsTold}
 use Rattle.fkv_functions.specs.declared.refusals.Refused.TheVariants.{NoMemory}
+use Rattle.fkv_feeds.specs.Tables.{AreFeeds, most_rows}
 use Rattle.fkv_workers.specs.Works.{HasDone, IsStop, IsFirst}
 use Rattle.fkv_workers.proofs.StoppedLemmas.{stopped, told_memory, all_read, read_before}
-use Rattle.fkv_workers.proofs.WorkedLemmas.{shared, fed_by}
+use Rattle.fkv_workers.proofs.WorkedLemmas.{hands_are, shared, fed_by}
 use Rattle.fkv_workers.proofs.running.worked.Goals as goal
 
 pub returns-in-Ok-ended : goal.returns-in-Ok-ended
@@ -14,16 +15,16 @@ returns-in-Ok-ended g c = record {
       let fails = g.S.Source.failures in
       let works = c.in-Ok-works.works.items in
       let results = c.in-Ok-run_jobs.ran.results.items in
-      let sh = shared rem fails g.F.Functions.code (λ work. work.feeds.items) (λ work. work.mode) (λ w. w.pass) (λ w. w.fault) g.H.Recorder.keeps c.args.mode
-      (λ work w. IfSome w.fault (IsStop rem fails work.feeds.items)) works results keeps c.in-Ok-run_jobs.ensures.ok.results c.in-Ok-works.ensures.modes c.in-Ok-ended.ensures.none in
+      let sh = shared rem g.F.Functions.code (λ work. work.share.items) (λ work. work.mode) (λ w. w.pass) (λ w. w.fault) g.H.Recorder.keeps c.args.mode
+      (λ work w. IfSome w.fault (IsStop rem fails work.share.items) × Unit {0}) works results keeps c.in-Ok-run_jobs.ensures.ok.results c.in-Ok-works.ensures.modes c.in-Ok-ended.ensures.none in
       rw c.in-Ok-ended.ensures.ok
-      (fed_by rem g.F.Functions.code c.args.mode (λ work. work.feeds.items) c.args.workers c.args.feeds.items works (map (λ w. w.pass) results) sh.shares c.requires.some
-      (rw c.in-Ok-works.ensures.feeds c.in-Ok.ensures.ok) sh.read sh.kept sh.made);
+      (fed_by rem g.F.Functions.code c.args.mode (λ work. work.share.items) c.args.workers c.args.feeds.items works (map (λ w. w.pass) results) sh.shares c.requires.some
+      (hands_are c.args.workers c.args.feeds.items (λ hand. hand.items) (λ work. work.share) c.in-Ok-works.works.items c.in-Ok.hands.items c.in-Ok-works.ensures.shares c.in-Ok.ensures.ok) sh.read sh.kept sh.made);
   mode = refl;
   read =
-      all_read g.S.Source.remaining g.S.Source.failures g.H.Recorder.keeps g.F.Functions.code (λ work. work.feeds.items) (λ work. work.mode) (λ w. w.pass) (λ w. w.fault)
-      (λ work w. IfSome w.fault (IsStop g.S.Source.remaining g.S.Source.failures work.feeds.items)) c.args.workers c.args.feeds.items c.in-Ok-works.works.items c.in-Ok-run_jobs.ran.results.items NoMemory
-      (rw c.in-Ok-works.ensures.feeds c.in-Ok.ensures.ok) c.in-Ok-run_jobs.ensures.ok.results c.in-Ok-ended.ensures.none;
+      all_read g.S.Source.remaining g.S.Source.failures g.H.Recorder.keeps g.F.Functions.code (λ work. work.share.items) (λ work. work.mode) (λ w. w.pass) (λ w. w.fault)
+      (λ work w. IfSome w.fault (IsStop g.S.Source.remaining g.S.Source.failures work.share.items) × Unit {0}) c.args.workers c.args.feeds.items c.in-Ok-works.works.items c.in-Ok-run_jobs.ran.results.items NoMemory
+      (hands_are c.args.workers c.args.feeds.items (λ hand. hand.items) (λ work. work.share) c.in-Ok-works.works.items c.in-Ok.hands.items c.in-Ok-works.ensures.shares c.in-Ok.ensures.ok) c.in-Ok-run_jobs.ensures.ok.results c.in-Ok-ended.ensures.none;
   refused = tt;
   first = tt;
 }
@@ -38,10 +39,10 @@ returns-clause-refused g c =
     (λ rest.
     ⊎_elim
     (λ first.
-    let at = stopped (λ work. work.feeds.items) (λ w. w.fault) (IsStop rem fails)
-    (λ work w. IfNone w.fault (HasDone rem fails g.H.Recorder.keeps g.F.Functions.code work.mode work.feeds.items w.pass))
+    let at = stopped (λ work. work.share.items) (λ w. w.fault) (IsStop rem fails)
+    (λ work w. IfNone w.fault (HasDone (AreFeeds most_rows (map (λ feed. rem feed.1) work.share.items)) g.H.Recorder.keeps g.F.Functions.code work.mode w.pass)) (λ work w. Unit {0})
     c.args.workers c.args.feeds.items works results c.in-Err-ended.refused
-    (rw c.in-Ok-works.ensures.feeds c.in-Ok.ensures.ok) c.in-Ok-run_jobs.ensures.ok.results first in
+    (hands_are c.args.workers c.args.feeds.items (λ hand. hand.items) (λ work. work.share) c.in-Ok-works.works.items c.in-Ok.hands.items c.in-Ok-works.ensures.shares c.in-Ok.ensures.ok) c.in-Ok-run_jobs.ensures.ok.results first in
     ⊎_elim (λ told. inl told) (λ unread. inr (length first.before, at.0, unread)) at.1)
     (λ kept. inl (subst (λ r. IfErr r IsTold) kept.0 c.in-Ok-run_jobs.ensures.ok.kept))
     rest)
@@ -57,20 +58,20 @@ returns-clause-first g c =
     (λ rest.
     ⊎_elim
     (λ first.
-    let at = stopped (λ work. work.feeds.items) (λ w. w.fault) (IsStop rem fails)
-    (λ work w. IfNone w.fault (HasDone rem fails g.H.Recorder.keeps g.F.Functions.code work.mode work.feeds.items w.pass))
+    let at = stopped (λ work. work.share.items) (λ w. w.fault) (IsStop rem fails)
+    (λ work w. IfNone w.fault (HasDone (AreFeeds most_rows (map (λ feed. rem feed.1) work.share.items)) g.H.Recorder.keeps g.F.Functions.code work.mode w.pass)) (λ work w. Unit {0})
     c.args.workers c.args.feeds.items works results c.in-Err-ended.refused
-    (rw c.in-Ok-works.ensures.feeds c.in-Ok.ensures.ok) c.in-Ok-run_jobs.ensures.ok.results first in
+    (hands_are c.args.workers c.args.feeds.items (λ hand. hand.items) (λ work. work.share) c.in-Ok-works.works.items c.in-Ok.hands.items c.in-Ok-works.ensures.shares c.in-Ok.ensures.ok) c.in-Ok-run_jobs.ensures.ok.results first in
     IsFirst.worker (length first.before) at.0
-    (read_before rem fails g.H.Recorder.keeps g.F.Functions.code (λ work. work.feeds.items) (λ work. work.mode) (λ w. w.pass) (λ w. w.fault)
-    (λ work w. IfSome w.fault (IsStop rem fails work.feeds.items))
+    (read_before rem fails g.H.Recorder.keeps g.F.Functions.code (λ work. work.share.items) (λ work. work.mode) (λ w. w.pass) (λ w. w.fault)
+    (λ work w. IfSome w.fault (IsStop rem fails work.share.items) × Unit {0})
     c.args.workers c.args.feeds.items works results
-    c.in-Err-ended.refused (rw c.in-Ok-works.ensures.feeds c.in-Ok.ensures.ok) c.in-Ok-run_jobs.ensures.ok.results first) at.1)
+    c.in-Err-ended.refused (hands_are c.args.workers c.args.feeds.items (λ hand. hand.items) (λ work. work.share) c.in-Ok-works.works.items c.in-Ok.hands.items c.in-Ok-works.ensures.shares c.in-Ok.ensures.ok) c.in-Ok-run_jobs.ensures.ok.results first) at.1)
     (λ kept.
     IsFirst.keeper
-    (all_read rem fails g.H.Recorder.keeps g.F.Functions.code (λ work. work.feeds.items) (λ work. work.mode) (λ w. w.pass) (λ w. w.fault)
-    (λ work w. IfSome w.fault (IsStop rem fails work.feeds.items))
+    (all_read rem fails g.H.Recorder.keeps g.F.Functions.code (λ work. work.share.items) (λ work. work.mode) (λ w. w.pass) (λ w. w.fault)
+    (λ work w. IfSome w.fault (IsStop rem fails work.share.items) × Unit {0})
     c.args.workers c.args.feeds.items works results
-    c.in-Err-ended.refused (rw c.in-Ok-works.ensures.feeds c.in-Ok.ensures.ok) c.in-Ok-run_jobs.ensures.ok.results kept.1) (subst (λ r. IfErr r IsTold) kept.0 c.in-Ok-run_jobs.ensures.ok.kept))
+    c.in-Err-ended.refused (hands_are c.args.workers c.args.feeds.items (λ hand. hand.items) (λ work. work.share) c.in-Ok-works.works.items c.in-Ok.hands.items c.in-Ok-works.ensures.shares c.in-Ok.ensures.ok) c.in-Ok-run_jobs.ensures.ok.results kept.1) (subst (λ r. IfErr r IsTold) kept.0 c.in-Ok-run_jobs.ensures.ok.kept))
     rest)
     c.in-Err-ended.ensures.refused

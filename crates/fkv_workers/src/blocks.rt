@@ -1,0 +1,300 @@
+//! Runs over feeds whose blocks all workers share.
+ghost use Rattle.std.specs.Prelude.{◌≡◌, ◌≢◌, ◌<◌, ◌⊎◌, ℕ, true, length, map, IsTrue, Err, None, Some, IfOk, IfErr, IfSome, OnOk};
+ghost use Rattle.std.specs.List.{All};
+ghost use Rattle.fkv_blocks.specs.Pieces.{AreWhole, IsFirstUnread};
+ghost use Rattle.fkv_blocks.specs.Shares.{IsStop, WereRead};
+ghost use Rattle.fkv_feeds.specs.Tables.{IsTableOf, most_rows};
+ghost use Rattle.fkv_records.specs.Records.{size_of};
+ghost use Rattle.fkv_store.specs.Stores.{IsTold};
+ghost use Rattle.fkv_workers.specs.Works.{IsMadeOf, IsRunnable, IsShared, IsUnread};
+
+use crate::dealing::works;
+use crate::keeping::keeper_of;
+use crate::running::is_runnable;
+use crate::sharing::{SharedFeeds, Tickets};
+use crate::tabling::tabled;
+use crate::working::Worked;
+use fkv_blocks::{Feeds, Origin, Stop, Ticket};
+use fkv_device::Disk;
+use fkv_feeds::{LIMIT, RowMode, Run};
+use fkv_functions::{Mergeable, Name, OrderFree, Refused};
+use fkv_histories::Recorder;
+use fkv_jobs::{Ran, run_jobs};
+use fkv_partition::Config;
+use fkv_store::{Gate, Pass, Store};
+use fkv_streams::Source;
+use std::alloc::Global;
+use std::marker::Brand;
+use std::rt::Clock;
+use std::sync::Wait;
+use std::thread::Threads;
+
+/// How many bytes a block has at least, but for the last one of a feed.
+const BLOCK: usize = 1 << 18;
+
+/// What workers hand back, apart: their passes, their tickets, and the first place at which one of them stopped.
+#[derive(Drop)]
+struct Parted<F: Mergeable, D: Disk, H: Recorder<F>> {
+    passes: Vec<Pass<F, D, H>>,
+    hands: Vec<Vec<Ticket>>,
+    first: Option<Stop>,
+}
+
+/// Whether a place lies before another one: in a feed before the other's, or before it in the same feed.
+fn lies_before(one: &Stop, other: &Stop) -> bool {
+    one.feed < other.feed || (one.feed == other.feed && one.low < other.low)
+}
+
+/// The first of two places; of one place twice the earlier worker's.
+fn first_of(first: Option<Stop>, other: Stop) -> Stop
+    ensures { (result ≡ other) ⊎ (first ≡ Some result) }
+{
+    match first {
+        None => other,
+        Some(first) => {
+            if lies_before(&other, &first) {
+                other
+            } else {
+                first
+            }
+        }
+    }
+}
+
+/// What workers hand back, apart. Refused: `NoMemory`.
+fn taken_apart<B: Origin, F: Mergeable, D: Disk, H: Recorder<F>>(
+    alloc: Global,
+    worked: Vec<Worked<F, D, H, Tickets>>,
+) -> Result<Parted<F, D, H>, Refused>
+    requires read { All (λ w. WereRead B.feeds w.had.tickets.items) worked.items }
+    requires stops { All (λ w. IfSome w.fault (λ why. IsTold why
+        ⊎ IsStop B.feeds B.counts most_rows (record { feed = w.had.feed; low = w.had.low; refused = why }))) worked.items }
+    ensures passes { IfOk result (λ p. p.passes.items ≡ map (λ w. w.pass) worked.items) }
+    ensures hands { IfOk result (λ p. map (λ hand. hand.items) p.hands.items ≡ map (λ w. w.had.tickets.items) worked.items) }
+    ensures read { IfOk result (λ p. All (WereRead B.feeds) (map (λ hand. hand.items) p.hands.items)) }
+    ensures none { IfOk result (λ p. p.first ≡ None → All (λ fault. fault ≡ None) (map (λ w. w.fault) worked.items)) }
+    ensures first { IfOk result (λ p. IfSome p.first (λ stop. IsTold stop.refused ⊎ IsStop B.feeds B.counts most_rows stop)) }
+    ensures only { IfErr result (λ e. e ≡ Refused.NoMemory) }
+{
+    let mut passes = Vec::new(alloc);
+    let mut hands = Vec::new(alloc);
+    let mut first = None;
+    for one in worked {
+        let Worked { pass, had, fault } = one;
+        let Tickets { tickets, feed, low } = had;
+        match fault {
+            None => {}
+            Some(refused) => first = Some(first_of(first, Stop { feed, low, refused })),
+        }
+        let Ok(()) = passes.push(pass) else {
+            return Err(Refused::NoMemory);
+        };
+        let Ok(()) = hands.push(tickets) else {
+            return Err(Refused::NoMemory);
+        };
+    }
+    Ok(Parted {
+        passes,
+        hands,
+        first,
+    })
+}
+
+/// What is told of the first place at which a worker stopped: what the store refused there, or what is wrong with the feed.
+fn told_of<S: Source + Drop, B: Origin>(
+    rt: &impl Wait,
+    alloc: Global,
+    feeds: &Feeds<S, B>,
+    hands: &[Vec<Ticket>],
+    stop: Stop,
+) -> Refused
+    requires read { All (WereRead B.feeds) (map (λ hand. hand.items) hands.now) }
+    requires stop { IsTold stop.refused ⊎ IsStop B.feeds B.counts most_rows stop }
+    ensures { IsTold result ⊎ (result ≡ Refused.Mismatch) ⊎ IsFirstUnread B.feeds B.counts most_rows result }
+{
+    match stop.refused {
+        Refused::BadRow { .. } | Refused::Unreadable { .. } => {
+            feeds.fault(rt, alloc, LIMIT, hands, stop)
+        }
+        other => other,
+    }
+}
+
+/// The passes of workers that have read all blocks of these feeds. Refused as the first of them is that stopped, by its place; then as
+/// the keeper is; and as the blocks are not all.
+fn joined<S: Source + Drop, B: Origin, F: Mergeable, D: Disk, H: Recorder<F>>(
+    rt: &impl Wait,
+    alloc: Global,
+    feeds: &Feeds<S, B>,
+    ran: Ran<Worked<F, D, H, Tickets>>,
+) -> Result<Vec<Pass<F, D, H>>, Refused>
+    requires read { All (λ w. WereRead B.feeds w.had.tickets.items) ran.results.items }
+    requires stops { All (λ w. IfSome w.fault (λ why. IsTold why
+        ⊎ IsStop B.feeds B.counts most_rows (record { feed = w.had.feed; low = w.had.low; refused = why }))) ran.results.items }
+    requires kept { IfErr ran.kept IsTold }
+    ensures ok { IfOk result (λ passes. passes.items ≡ map (λ w. w.pass) ran.results.items) }
+    ensures none { OnOk result (All (λ fault. fault ≡ None) (map (λ w. w.fault) ran.results.items)) }
+    ensures whole { OnOk result (AreWhole most_rows B.feeds (map (λ w. w.had.tickets.items) ran.results.items)) }
+    ensures refused { IfErr result (λ e. IsTold e ⊎ (e ≡ Refused.Mismatch) ⊎ IsFirstUnread B.feeds B.counts most_rows e) }
+{
+    let Ran { results, kept } = ran;
+    let Parted {
+        passes,
+        hands,
+        first,
+    } = match taken_apart::<B, F, D, H>(alloc, results) {
+        Ok(parted) => parted,
+        Err(refused) => return Err(refused),
+    };
+    match first {
+        None => {}
+        Some(stop) => return Err(told_of(rt, alloc, feeds, hands.as_slice(), stop)),
+    }
+    match kept {
+        Ok(()) => {}
+        Err(refused) => return Err(refused),
+    }
+    match feeds.whole(rt, alloc, LIMIT, hands.as_slice()) {
+        Ok(()) => Ok(passes),
+        Err(refused) => Err(refused),
+    }
+}
+
+/// What each worker reads of these feeds: blocks, of all. Refused: `NoMemory`.
+fn shares_of<'a, S: Source + Drop, B: Origin>(
+    alloc: Global,
+    feeds: &'a Feeds<S, B>,
+    workers: usize,
+) -> Result<Vec<SharedFeeds<'a, S, B>>, Refused>
+    ensures only { IfErr result (λ e. e ≡ Refused.NoMemory) }
+{
+    let mut shares = Vec::new(alloc);
+    for worker in 0..workers {
+        let Ok(()) = shares.push(SharedFeeds { feeds, worker }) else {
+            return Err(Refused::NoMemory);
+        };
+    }
+    Ok(shares)
+}
+
+/// The passes of workers in threads of their own that have read these feeds into a store, beside a keeper: each block is read by one of
+/// them, and each row is an update there, or, only where the mode asks for merges, a merge.
+fn worked<
+    S: Source + Drop + Send,
+    B: Origin + Send + Sync,
+    F: Mergeable + OrderFree<Key = Name, Input = i64> + Send + Sync,
+    D: Disk + Send,
+    H: Recorder<F> + Send,
+    G: Gate + Sync,
+    T: Threads + Wait + Clock + Sync,
+>(
+    rt: &T,
+    alloc: Global,
+    feeds: Vec<S>,
+    workers: usize,
+    store: &Store<F, D, H>,
+    page_bits: u64,
+    gate: &G,
+    mode: RowMode,
+) -> Result<Vec<Pass<F, D, H>>, Refused>
+where
+    F::Value: Send,
+    F::Output: Send,
+    D::Receipt: Send,
+    D::Writer: Send,
+    D::Reader: Send,
+    requires store { 0 < store.now.count }
+    requires bits { page_bits < 57 }
+    requires bytes { map S.remaining feeds.items ≡ B.feeds }
+    requires counted { map S.failures feeds.items ≡ B.counts }
+    ensures ok { IfOk result (λ passes. H.keeps ≡ true → IsShared F.code mode B.feeds passes.items) }
+    ensures refused { IfErr result (λ e. IsTold e ⊎ (e ≡ Refused.Mismatch) ⊎ IsFirstUnread B.feeds B.counts most_rows e) }
+{
+    let feeds = match Feeds::<S, B>::open(alloc, feeds, BLOCK) {
+        Ok(feeds) => feeds,
+        Err(refused) => return Err(refused),
+    };
+    let shares = match shares_of(alloc, &feeds, workers) {
+        Ok(shares) => shares,
+        Err(refused) => return Err(refused),
+    };
+    let works = match works(rt, alloc, store, gate, mode, shares) {
+        Ok(works) => works,
+        Err(refused) => return Err(refused),
+    };
+    let keeper = match keeper_of(alloc, store, gate, page_bits) {
+        Ok(keeper) => keeper,
+        Err(refused) => return Err(refused),
+    };
+    match run_jobs(rt, alloc, &keeper, works) {
+        Ok(ran) => joined(rt, alloc, &feeds, ran),
+        Err(refused) => Err(refused),
+    }
+}
+
+/// The table of these feeds, as [`fkv_feeds::run_one`] makes it, by so many workers in threads of their own, beside a keeper that moves
+/// pages: each takes blocks of whole records of any feed, one after the other, and each row is one update of a store that all share, or,
+/// as the mode says, a merge, so that no row reads a page. With a recorder that keeps, and on a device that keeps, the table is that of
+/// one worker. A worker rests while it waits for a block, so a slow feed holds up none of the others. Beside the table stand how many
+/// updates were made, one a row, and how it was made.
+///
+/// A worker holds a block of 256 KiB or more, and each feed that is being read as much again.
+///
+/// # Errors
+///
+/// In this order: `BadConfig`, where there are none of 1 to 14 workers, or none of 1 to 64 feeds, or a number of the configuration is
+/// outside its limits, and then no feed is read; `NoMemory`, and `Device` with code 1, before any feed is read; `NoMemory` where a
+/// thread can't be made, after those that were made have ended; the fault of the first feed that has one: `BadRow` with its first
+/// record that is no row, and `Unreadable`, whatever the threads did, unless a worker's pass was refused at a block before it: then
+/// what the pass refuses; the keeper's; and what the end of the store refuses.
+pub fn run_blocks<
+    S: Source + Drop + Send,
+    F: Mergeable + OrderFree<Key = Name, Input = i64> + Send + Sync,
+    D: Disk + Send,
+    H: Recorder<F> + Send,
+    G: Gate + Sync,
+    T: Threads + Wait + Clock + Sync,
+>(
+    rt: &T,
+    alloc: Global,
+    feeds: Vec<S>,
+    workers: usize,
+    functions: F,
+    config: &Config,
+    device: D,
+    gate: &G,
+    mode: RowMode,
+) -> Result<Run<F::Value>, Refused>
+where
+    F::Value: Send,
+    F::Output: Send,
+    D::Receipt: Send,
+    D::Writer: Send,
+    D::Reader: Send,
+    ensures ok { H.keeps ≡ true → IsTrue D.Receipt.keeps
+        → IfOk result (λ run. IsTableOf F.meaning (map S.remaining feeds.items) run.table) }
+    ensures made { H.keeps ≡ true → IsTrue D.Receipt.keeps → IfOk result (λ run.
+        IsMadeOf F.meaning F.code mode (map S.remaining feeds.items) run.table run.counts.rows) }
+    ensures ran { IfOk result (λ run. run.plan ≡ record { config = config.now; mode = mode; workers = workers }) }
+    ensures good { result ≢ Err Refused.BadConfig
+        → IsRunnable config.now (size_of 32 F.Value.SIZE) workers (length feeds.items) }
+    ensures refused { IfErr result (IsUnread
+        (IsRunnable config.now (size_of 32 F.Value.SIZE) workers (length feeds.items))
+        (map S.remaining feeds.items) (map S.failures feeds.items)) }
+{
+    if !is_runnable::<F::Value>(config, workers, feeds.len()) {
+        return Err(Refused::BadConfig);
+    }
+    let store = match Store::<F, D, H>::open(alloc, config, functions, device) {
+        Ok(store) => store,
+        Err(refused) => return Err(refused),
+    };
+    let bits = config.page_bits;
+    let passes = match worked::<S, Brand, F, D, H, G, T>(
+        rt, alloc, feeds, workers, &store, bits, gate, mode,
+    ) {
+        Ok(passes) => passes,
+        Err(refused) => return Err(refused),
+    };
+    tabled(rt, alloc, store, passes, config, mode, workers)
+}
