@@ -1,8 +1,8 @@
-use Rattle.std.proofs.Common.{◌≡◌, ◌++◌}
+use Rattle.std.proofs.Common.{◌≡◌, ◌++◌, map}
 use Rattle.fkv_functions.specs.Names.{name_cmp}
 use Rattle.fkv_runs.specs.Merging.{merged}
 use Rattle.fkv_runs.proofs.merging.grouped.Given as goal
 
--- the runs so far are the same list as those that were made of them with the group that is not full yet
-abbrev pub invariant-loop-run : goal.invariant-loop-run
-invariant-loop-run g l = merged name_cmp (l.fewer.items ++ l.group.items) ≡ merged name_cmp l.yielded
+-- the groups so far are the same list as what they were made of with the group that is not full yet
+abbrev pub invariant-loop-rest : goal.invariant-loop-rest
+invariant-loop-rest g l = merged name_cmp (l.groups.items ++ map g.P.Pairs.left l.group.items) ≡ merged name_cmp (map g.P.Pairs.left l.yielded)
