@@ -1,11 +1,12 @@
 -- The runs of partitions, and what they are as one.
-use Rattle.std.proofs.Common.{◌≡◌, ◌<◌, ◌+◌, ◌++◌, ◌∷◌, [], ℕ, zero, suc, Bool, List, length, map, filter, nat_eq, slice_get, Option, Some, None, Result, Ok, Err, IsTrue, IfOk, refl, sym, ap, subst, ◌∙◌, inl, inr, arith}
+use Rattle.std.proofs.Common.{◌≡◌, ◌<◌, ◌+◌, ◌++◌, ◌∷◌, [], ℕ, zero, suc, Bool, List, length, map, filter, nat_eq, slice_get, Some, Result, Ok, Err, IsTrue, IfOk, refl, sym, ap, subst, ◌∙◌, inl, inr, arith}
 use Rattle.std.specs.Prelude.{IfErr, ◌%◌, ◌⊎◌}
 use Rattle.std.specs.BTreeMap.{is_at}
 use Rattle.std.specs.List.{AllByRecursion, AllZip}
 use Rattle.std.specs.List.Sorted.{IsStrictlySortedBy}
 use Rattle.std.specs.Map.{lookup, keys_of}
 use Rattle.std.proofs.Math.Nat.{mod-lt}
+use Rattle.std.proofs.lemmas.Slice.Zip.{AllZip-long}
 use Rattle.fkv_functions.specs.Names.{name_cmp, same_names, name_ties, name_exact, name_total}
 use Rattle.fkv_functions.specs.Plain.{IsKeyOrder}
 use Rattle.fkv_functions.specs.declared.names.Name.{Name}
@@ -17,11 +18,15 @@ use Rattle.fkv_partition.specs.Unions.{live_at, union_of}
 use Rattle.fkv_partition.specs.Views.{PartitionView}
 use Rattle.fkv_closing.specs.Closing.{AreNumbered}
 use Rattle.fkv_runs.specs.Merging.{merged, AreHomed}
-use Rattle.fkv_runs.proofs.MadeLemmas.{nat_eq-refl, nat_eq-is, Those, those-homed, those-rise, those-lookup, AreRuns, AreOf, runs-rise, of-all}
+use Rattle.fkv_runs.proofs.MadeLemmas.{nat_eq-refl, nat_eq-is, those-homed, those-rise, those-lookup, AreRuns, AreOf, runs-rise, of-all}
 use Rattle.fkv_workers.specs.Listing.{IsRunOf, IsRunless, IsFirstRefusal}
 
 order : IsKeyOrder name_cmp
 order = key_order same_names name_cmp name_ties name_exact name_total
+
+-- the partition of a key in a store of so many
+abbrev home : (Name → ℕ) → ℕ → Name → ℕ
+home code count k = partition_of count (code k)
 
 module _ {V I : Type 0} (keeps : Bool) (code : Name → ℕ) where
   -- of the pairs that a partition lists, those at home
@@ -45,18 +50,15 @@ module _ {V I : Type 0} (keeps : Bool) (code : Name → ℕ) where
 
   -- ---- a run of each partition from a place on, in a store of so many
   module _ (count : ℕ) where
-    abbrev home : Name → ℕ
-    home k = partition_of count (code k)
-
     runs_homed : (first : ℕ) (views : List (PartitionView Name V I)) (runs : List (List (Name × V)))
         → ((p : ℕ) (v : PartitionView Name V I) → slice_get views p ≡ Some v → v.core.number ≡ first + p)
         → ((p : ℕ) (v : PartitionView Name V I) → slice_get views p ≡ Some v → v.core.count ≡ count)
-        → AllZip (IsRunOf keeps code) views runs → AreHomed home first runs
+        → AllZip (IsRunOf keeps code) views runs → AreHomed (home code count) first runs
     runs_homed first [] [] numbered counted all = tt
     runs_homed first [] (r ∷ runs) numbered counted all = absurd all
     runs_homed first (v ∷ views) [] numbered counted all = absurd all
     runs_homed first (v ∷ views) (r ∷ runs) numbered counted all = (
-      subst (λ n. AllByRecursion (λ q. home q ≡ n) (keys_of r)) (numbered 0 v refl ∙ (let z : first + 0 ≡ first = omega arith in z))
+      subst (λ n. AllByRecursion (λ q. home code count q ≡ n) (keys_of r)) (numbered 0 v refl ∙ (let z : first + 0 ≡ first = omega arith in z))
           (subst (λ m. AllByRecursion (λ q. partition_of m (code q) ≡ v.core.number) (keys_of r)) (counted 0 v refl) all.0.homed),
       runs_homed (suc first) views runs (λ p w at. numbered (suc p) w at ∙ (let z : first + suc p ≡ suc first + p = omega arith in z)) (λ p w at. counted (suc p) w at) all.1,
     )
@@ -79,35 +81,29 @@ module _ {V I : Type 0} (keeps : Bool) (code : Name → ℕ) where
 
   -- ---- of a whole store
   module _ (views : List (PartitionView Name V I)) (runs : List (List (Name × V))) (places : AreNumbered views) (all : AllZip (IsRunOf keeps code) views runs) where
-    are_runs : AreRuns name_cmp (home (length views)) runs
+    are_runs : AreRuns name_cmp (home code (length views)) runs
     are_runs = record {
       rising = runs_rise views runs all;
       homed = runs_homed (length views) 0 views runs (λ p v at. places.numbered p v at ∙ (let z : p ≡ 0 + p = omega arith in z)) places.counted all;
     }
 
-    are_of : IsTrue keeps → AreOf name_cmp (home (length views)) (union_of name_cmp code views) runs
+    are_of : IsTrue keeps → AreOf name_cmp (home code (length views)) (union_of name_cmp code views) runs
     are_of kept k run at =
-        let found = view_at views runs (home (length views) k) run all at in
-        let own = ap (λ m. code k % m) (places.counted (home (length views) k) found.0 found.1) ∙ sym (places.numbered (home (length views) k) found.0 found.1) in
+        let found = view_at views runs (home code (length views) k) run all at in
+        let own = ap (λ m. code k % m) (places.counted (home code (length views) k) found.0 found.1) ∙ sym (places.numbered (home code (length views) k) found.0 found.1) in
         found.2.has kept k own ∙ sym (ap (λ o. live_at name_cmp o k) found.1)
 
     pub table_rises : IsStrictlySortedBy name_cmp (keys_of (merged name_cmp runs))
-    table_rises = runs-rise name_cmp (home (length views)) name_total order runs are_runs
-
-  as_many : (views : List (PartitionView Name V I)) (runs : List (List (Name × V))) → AllZip (IsRunOf keeps code) views runs → length views ≡ length runs
-  as_many [] [] all = refl
-  as_many [] (r ∷ runs) all = absurd all
-  as_many (v ∷ views) [] all = absurd all
-  as_many (v ∷ views) (r ∷ runs) all = ap suc (as_many views runs all.1)
+    table_rises = runs-rise name_cmp (home code (length views)) name_total order runs are_runs
 
   pub table_has : (views : List (PartitionView Name V I)) (runs : List (List (Name × V))) → AreNumbered views → AllZip (IsRunOf keeps code) views runs
       → IsTrue keeps → (k : Name) → lookup (is_at (name_cmp k)) (merged name_cmp runs) ≡ union_of name_cmp code views k
   table_has [] [] places all kept k = refl
   table_has [] (r ∷ runs) places all kept k = absurd all
   table_has (v ∷ views) runs places all kept k =
-      of-all name_cmp (home (length (v ∷ views))) order (union_of name_cmp code (v ∷ views)) runs
+      of-all name_cmp (home code (length (v ∷ views))) order (union_of name_cmp code (v ∷ views)) runs
       (are_runs (v ∷ views) runs places all) (are_of (v ∷ views) runs places all kept) k
-      (subst (λ n. home (length (v ∷ views)) k < n) (as_many (v ∷ views) runs all) (mod-lt (code k) (let z : 0 < length (v ∷ views) = omega arith in z)))
+      (subst (λ n. home code (length (v ∷ views)) k < n) (sym (AllZip-long (IsRunOf keeps code) (v ∷ views) runs all)) (mod-lt (code k) (let z : 0 < length (v ∷ views) = omega arith in z)))
 
 -- ---- what jobs give, each of which lists a part
 module _ {J X V I : Type 0} (keeps : Bool) (code : Name → ℕ) (part : J → X) (view : X → PartitionView Name V I) (failures : X → ℕ) (only : Refused → Type 0) where
