@@ -1,6 +1,5 @@
 -- Lists that are merged in groups first are the same list as one.
-use Rattle.std.proofs.Common.{◌≡◌, Bool, true, false, cond, List, [], ◌∷◌, ◌++◌, map, append_assoc, refl, sym, ◌∙◌, ap}
-use Rattle.std.proofs.lemmas.List.{map-append}
+use Rattle.std.proofs.Common.{◌≡◌, Bool, true, false, cond, List, [], ◌∷◌, ◌++◌, append_assoc, refl, sym, ◌∙◌, ap}
 use Rattle.std.specs.Ordering.{is_gt, ordering_reverse}
 use Rattle.std.specs.Cmp.{IsTotalOrder}
 use Rattle.std.specs.declared.cmp.Ordering.{Ordering}
@@ -103,32 +102,11 @@ module _ {K V : Type 0} (cmp : K → K → Ordering) (o : IsTotalOrder cmp) wher
   merged-group xss group = merged-append xss (merged cmp group ∷ [])
       ∙ (ap (merged_two cmp (merged cmp xss)) (merged_nil cmp (merged cmp group)) ∙ sym (merged-append xss group))
 
-  -- one list more behind a group that is not merged yet
-  pub merged-more : (xss group yss : List (List (K × V))) (ys : List (K × V)) → merged cmp (xss ++ group) ≡ merged cmp yss
-      → merged cmp (xss ++ (group ++ ys ∷ [])) ≡ merged cmp (yss ++ ys ∷ [])
-  merged-more xss group yss ys e = ap (merged cmp) (sym (append_assoc xss group (ys ∷ [])))
-      ∙ (merged-append (xss ++ group) (ys ∷ []) ∙ (ap (λ l. merged_two cmp l (merged cmp (ys ∷ []))) e ∙ sym (merged-append yss (ys ∷ []))))
-
-  -- and behind one that is merged now
-  pub merged-next : (xss yss : List (List (K × V))) (ys : List (K × V)) → merged cmp xss ≡ merged cmp yss → merged cmp (xss ++ ys ∷ []) ≡ merged cmp (yss ++ ys ∷ [])
-  merged-next xss yss ys e = merged-append xss (ys ∷ []) ∙ (ap (λ l. merged_two cmp l (merged cmp (ys ∷ []))) e ∙ sym (merged-append yss (ys ∷ [])))
-
--- ---- groups of what several have left
-module _ {X K V : Type 0} (cmp : K → K → Ordering) (o : IsTotalOrder cmp) (left : X → List (K × V)) where
-  -- the merged groups, and a group that is not merged yet, are the same list as all so far
-  abbrev AreGrouped : List (List (K × V)) → List X → List X → Type 0
-  AreGrouped groups group all = merged cmp (groups ++ map left group) ≡ merged cmp (map left all)
-
-  -- one more of that group
-  pub grouped-more : (groups : List (List (K × V))) (group all : List X) (x : X) → AreGrouped groups group all → AreGrouped groups (group ++ x ∷ []) (all ++ x ∷ [])
-  grouped-more groups group all x e =
-      rw (map-append left group (x ∷ []), map-append left all (x ∷ [])) (merged-more cmp o groups (map left group) (map left all) (left x) e)
-
-  module _ (groups : List (List (K × V))) (group all : List X) (one : List (K × V)) (is : one ≡ merged cmp (map left group)) (e : AreGrouped groups group all) where
-    -- that group is merged
-    pub grouped-all : merged cmp (groups ++ one ∷ []) ≡ merged cmp (map left all)
-    grouped-all = ap (λ l. merged cmp (groups ++ l ∷ [])) is ∙ merged-group cmp o groups (map left group) ∙ e
-
-    -- and one more begins the next
-    pub grouped-next : (x : X) → AreGrouped (groups ++ one ∷ []) (x ∷ []) (all ++ x ∷ [])
-    grouped-next x = rw (map-append left all (x ∷ [])) (merged-next cmp o (groups ++ one ∷ []) (map left all) (left x) grouped-all)
+  -- a group that is merged, with others behind it
+  pub merged-split : (xss group behind : List (List (K × V))) (one : List (K × V)) → one ≡ merged cmp group
+      → merged cmp ((xss ++ one ∷ []) ++ behind) ≡ merged cmp (xss ++ (group ++ behind))
+  merged-split xss group behind one is =
+      ap (merged cmp) (append_assoc xss (one ∷ []) behind)
+      ∙ (merged-append xss (one ∷ behind)
+      ∙ (ap (λ l. merged_two cmp (merged cmp xss) (merged_two cmp l (merged cmp behind))) is
+      ∙ (ap (merged_two cmp (merged cmp xss)) (sym (merged-append group behind)) ∙ sym (merged-append xss (group ++ behind)))))
