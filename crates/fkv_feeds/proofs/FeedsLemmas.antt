@@ -10,12 +10,10 @@ use Rattle.fkv_feed_rows.specs.Feeds.{IsFeed, TellsUnread, TellsWhy}
 use Rattle.fkv_feeds.specs.Tables.{AreFeeds, most_rows}
 use Rattle.std.specs.Prelude.{Result, Ok, Err, IfOk, IfErr, OnOk}
 use Rattle.fkv_partition.specs.declared.limits.Config.{Config}
-use Rattle.std.specs.declared.cmp.Ordering.{Ordering}
 use Rattle.fkv_device.specs.Failing.{FailsOnlyBy, ReadFailsBy}
 use Rattle.fkv_hybrid.specs.Scans.{IsScanRefusal}
 use Rattle.fkv_local.specs.Causing.{IsCausedBy}
 use Rattle.fkv_local.specs.Listing.{ListsView, IsUnlisted}
-use Rattle.fkv_partition.specs.Views.{PartitionView}
 use Rattle.fkv_feeds.specs.Faults.{IsFault, IsDeviceFault}
 use Rattle.fkv_feeds.specs.Refusing.{IsRowRefusal, IsReached, counted_at, TellsStopped, TellsWhyNone}
 

@@ -1,6 +1,7 @@
 -- The text of a table, row by row.
 use Rattle.std.proofs.Common.{arith, ◌≡◌, ◌<◌, ◌≤◌, ◌+◌, ◌-◌, zero, suc, true, false, ℕ, List, [], ◌∷◌, ◌++◌, Option, Some, None, Result, take, drop, get_or, length, refl, sym, ap, subst, ◌∙◌, append_assoc}
-use Rattle.std.specs.Prelude.{OnErr}
+use Rattle.std.specs.Prelude.{OnOk, OnErr}
+use Rattle.std.specs.Io.KnownBytes.{Appends}
 use Rattle.std.proofs.lemmas.List.{append-nil, take_more, take_all, take-append-drop}
 use Rattle.csv.specs.Writing.{default_writer, escaped, field_text, fields_text, is_blank, needs_quotes, row_text}
 use Rattle.csv.proofs.WriteFacts.{escaped-append, fields-snoc}
@@ -9,7 +10,7 @@ use Rattle.fkv_functions.specs.declared.names.Name.{Name}
 use Rattle.fkv_runs.specs.Merging.{first_pair}
 use Rattle.fkv_feeds.specs.Writing.{fields_of, pair_text, table_text}
 use Rattle.fkv_streams.specs.Streams.{AppendsPrefix, PassesOn}
-use Rattle.fkv_streams.proofs.BufferLemmas.{prefix-more, prefix-longer, passes-behind, passes-front, front-out, passes-none}
+use Rattle.fkv_streams.proofs.BufferLemmas.{prefix-more, prefix-longer, passes-behind, passes-front, passes-out, front-out, passes-none}
 
 -- a field in quotes, and one without
 pub field-plain : (field : List ℕ) → needs_quotes default_writer field ≡ false → field_text default_writer field ≡ field
@@ -139,6 +140,10 @@ module _ {V : Type 0} (value : V → List (List ℕ)) where
   whole : (a b : Option (List ℕ)) (held : List ℕ) (left all : List (Name × V)) → first_pair left ≡ None → Written a b held left all → PassesOn a b held (table_text value all)
   whole a b held [] all e w = subst (PassesOn a b held) (sym (append-nil w.0) ∙ w.2) w.1
   whole a b held (y ∷ ys) all e w = absurd (cc)
+
+  pub written-whole : {T E : Type 0} (a b c : Option (List ℕ)) (held : List ℕ) (left all : List (Name × V)) (r : Result T E) → first_pair left ≡ None
+      → Written a b held left all → OnOk r (Appends b c held) → OnOk r (Appends a c (table_text value all))
+  written-whole a b c held left all r e w p = passes-out a b c held (table_text value all) r (whole a b held left all e w) p
 
   pub written-out : {T E : Type 0} (a b c : Option (List ℕ)) (held : List ℕ) (left all : List (Name × V)) (r : Result T E) → first_pair left ≡ None
       → Written a b held left all → OnErr r (AppendsPrefix b c held) → OnErr r (AppendsPrefix a c (table_text value all))

@@ -1,5 +1,5 @@
 -- What rows leave of the store of a run as it is.
-use Rattle.std.specs.Prelude.{ℕ, Bool, cond, List, Option, Some, None, ◌&&◌}
+use Rattle.std.specs.Prelude.{Bool, cond, List, Option, Some, None, ◌&&◌}
 use Rattle.fkv_partition.specs.declared.limits.Config.{Config}
 use Rattle.fkv_local.specs.Storing.{StoreView}
 use Rattle.fkv_feeds.specs.declared.modes.RowMode.{RowMode}

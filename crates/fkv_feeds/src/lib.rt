@@ -10,7 +10,7 @@ mod tabling;
 pub mod writing;
 
 pub use counting::{Counts, Plan, Run};
-pub use fkv_runs::Table;
+pub use fkv_runs::{Pairs, Table};
 pub use modes::RowMode;
 pub use running::{LIMIT, run_alone, run_alone_by, run_one, run_one_by};
 pub use shown::Shown;

@@ -74,5 +74,5 @@ pub fn table_of<F: Mergeable<Key = Name>, D: Disk>(
             return Err(Refused::NoMemory);
         };
     }
-    Table::new(alloc, runs)
+    Table::new(runs)
 }

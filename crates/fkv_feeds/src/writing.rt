@@ -9,7 +9,7 @@ ghost use Rattle.fkv_feeds.specs.Writing.{fields_of, pair_text, table_text};
 
 use crate::shown::Shown;
 use fkv_functions::{Name, Refused};
-use fkv_runs::Table;
+use fkv_runs::{Pairs, Table};
 use fkv_streams::{Sink, WriteBuffer};
 use itoa::Buffer;
 use std::alloc::Global;

@@ -102,12 +102,11 @@ module _ {K V : Type 0} (cmp : K → K → Ordering) (o : IsTotalOrder cmp) wher
   merged-group xss group = merged-append xss (merged cmp group ∷ [])
       ∙ (ap (merged_two cmp (merged cmp xss)) (merged_nil cmp (merged cmp group)) ∙ sym (merged-append xss group))
 
-  -- one list more behind a group that is not merged yet
-  pub merged-more : (xss group yss : List (List (K × V))) (ys : List (K × V)) → merged cmp (xss ++ group) ≡ merged cmp yss
-      → merged cmp (xss ++ (group ++ ys ∷ [])) ≡ merged cmp (yss ++ ys ∷ [])
-  merged-more xss group yss ys e = ap (merged cmp) (sym (append_assoc xss group (ys ∷ [])))
-      ∙ (merged-append (xss ++ group) (ys ∷ []) ∙ (ap (λ l. merged_two cmp l (merged cmp (ys ∷ []))) e ∙ sym (merged-append yss (ys ∷ []))))
-
-  -- and behind one that is merged now
-  pub merged-next : (xss yss : List (List (K × V))) (ys : List (K × V)) → merged cmp xss ≡ merged cmp yss → merged cmp (xss ++ ys ∷ []) ≡ merged cmp (yss ++ ys ∷ [])
-  merged-next xss yss ys e = merged-append xss (ys ∷ []) ∙ (ap (λ l. merged_two cmp l (merged cmp (ys ∷ []))) e ∙ sym (merged-append yss (ys ∷ [])))
+  -- a group that is merged, with others behind it
+  pub merged-split : (xss group behind : List (List (K × V))) (one : List (K × V)) → one ≡ merged cmp group
+      → merged cmp ((xss ++ one ∷ []) ++ behind) ≡ merged cmp (xss ++ (group ++ behind))
+  merged-split xss group behind one is =
+      ap (merged cmp) (append_assoc xss (one ∷ []) behind)
+      ∙ (merged-append xss (one ∷ behind)
+      ∙ (ap (λ l. merged_two cmp (merged cmp xss) (merged_two cmp l (merged cmp behind))) is
+      ∙ (ap (merged_two cmp (merged cmp xss)) (sym (merged-append group behind)) ∙ sym (merged-append xss (group ++ behind)))))

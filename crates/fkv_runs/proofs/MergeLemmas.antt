@@ -1,13 +1,15 @@
 -- What the merge of lists gives first, and what it holds.
 use Rattle.std.proofs.Common.{◌≡◌, ℕ, zero, suc, ◌+◌, ◌<◌, drop, length, get_or, Bool, true, false, cond, List, [], ◌∷◌, map, Option, Some, None, slice_get, slice_set, refl, sym, ◌∙◌, ap, subst, arith}
-use Rattle.std.proofs.lemmas.List.{drop_more}
+use Rattle.std.proofs.lemmas.List.{drop_more, length-map, map-set}
+use Rattle.std.proofs.lemmas.Option.{slice_get-get_or, slice_get-map, slice_get_within}
+use Rattle.std.specs.Option.{option_map}
 use Rattle.std.specs.Ordering.{is_gt}
 use Rattle.std.specs.BTreeMap.{is_at}
 use Rattle.std.specs.Map.{lookup, keys_of}
 use Rattle.std.specs.List.{AllByRecursion}
 use Rattle.std.specs.Cmp.{IsTotalOrder}
 use Rattle.std.specs.declared.cmp.Ordering.{Ordering}
-use Rattle.fkv_runs.specs.Merging.{merged_from, merged_two, merged, chosen, first_from, behind, sooner, first_of, first_key}
+use Rattle.fkv_runs.specs.Merging.{merged_from, merged_two, merged, chosen, first_from, behind, sooner, first_of, first_key, first_pair}
 
 module _ {K V : Type 0} (cmp : K → K → Ordering) where
   pub merged_nil : (xs : List (K × V)) → merged_two cmp xs [] ≡ xs
@@ -180,16 +182,18 @@ module _ {K : Type 0} (cmp : K → K → Ordering) where
   first_is_first ks = first_moved ks 0 ∙ moved_none (first_of cmp ks)
 
 -- ---- the first of the keys, found from the end
-module _ {K V : Type 0} (cmp : K → K → Ordering) where
-  pub first_step : (xss : List (List (K × V))) (i : ℕ) (d : List (K × V)) → i < length xss
-      → first_from cmp i (map first_key (drop i xss)) ≡ chosen cmp i (first_key (get_or xss i d)) (first_from cmp (i + 1) (map first_key (drop (i + 1) xss)))
-  first_step xss i d h =
-      ap (λ zs. first_from cmp i (map first_key zs)) (drop_more xss i d h)
-      ∙ ap (λ m. chosen cmp i (first_key (get_or xss i d)) (first_from cmp m (map first_key (drop (i + 1) xss)))) (suc_is i)
+module _ {X K V : Type 0} (cmp : K → K → Ordering) (left : X → List (K × V)) where
+  pub first_step : (rests : List X) (i : ℕ) (d : X) → i < length rests
+      → first_from cmp i (map first_key (map left (drop i rests)))
+      ≡ chosen cmp i (first_key (left (get_or rests i d))) (first_from cmp (i + 1) (map first_key (map left (drop (i + 1) rests))))
+  first_step rests i d h =
+      ap (λ zs. first_from cmp i (map first_key (map left zs))) (drop_more rests i d h)
+      ∙ ap (λ m. chosen cmp i (first_key (left (get_or rests i d))) (first_from cmp m (map first_key (map left (drop (i + 1) rests))))) (suc_is i)
     where
       suc_is : (n : ℕ) → suc n ≡ n + 1
       suc_is n = omega arith
 
+module _ {K V : Type 0} (cmp : K → K → Ordering) where
   abbrev pub Tells : List (List (K × V)) → Option (ℕ × K) → Type 0
   Tells xss None = merged cmp xss ≡ []
   Tells xss (Some p) = Gives cmp xss p.0 p.1
@@ -200,3 +204,35 @@ module _ {K V : Type 0} (cmp : K → K → Ordering) where
       as_told : (o : Option (ℕ × K)) → Told cmp xss o → Tells xss o
       as_told None t = t
       as_told (Some p) t = t
+
+-- ---- the merge of what several have left
+module _ {X K V : Type 0} (cmp : K → K → Ordering) (left : X → List (K × V)) (rests : List X) where
+  abbrev IsFirst : Option (ℕ × K) → Type 0
+  IsFirst o = o ≡ first_from cmp 0 (map first_key (map left rests))
+
+  pub none_left : IsFirst None → merged cmp (map left rests) ≡ []
+  none_left e = tells cmp (map left rests) None e
+
+  module _ (p : ℕ) (k : K) (e : IsFirst (Some (p, k))) where
+    given : Gives cmp (map left rests) p k
+    given = tells cmp (map left rests) (Some (p, k)) e
+
+    pub next_key : Some k ≡ first_key (merged cmp (map left rests))
+    next_key = ap (λ q. Some q) given.key ∙ ap first_key (sym given.next)
+
+    pub next_within : p < length rests
+    next_within = subst (λ n. p < n) (length-map rests left) (slice_get_within (map left rests) p (given.first ∷ given.rest) given.here)
+
+    module _ (one : X) (at : one ≡ get_or rests p one) where
+      has : left one ≡ given.first ∷ given.rest
+      has = (let there : slice_get rests p ≡ Some one = slice_get-get_or rests p one next_within ∙ ap (λ x. Some x) (sym at) in
+          let same : Some (left one) ≡ Some (given.first ∷ given.rest) = sym (slice_get-map left rests p ∙ ap (option_map left) there) ∙ given.here in cc)
+
+      pub next_pair : first_pair (left one) ≡ first_pair (merged cmp (map left rests))
+      next_pair = ap first_pair has ∙ ap first_pair (sym given.next)
+
+      -- one that has all but its first pair left, in its place
+      pub next_rest : (other : X) → left other ≡ drop 1 (left one) → merged cmp (map left (slice_set rests p other)) ≡ drop 1 (merged cmp (map left rests))
+      next_rest other less =
+          ap (merged cmp) (map-set left rests p other ∙ ap (slice_set (map left rests) p) (less ∙ ap (drop 1) has))
+          ∙ ap (drop 1) (sym given.next)

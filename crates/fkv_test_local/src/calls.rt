@@ -45,8 +45,8 @@ fn bad_configurations(rt: HostRuntime) {
     }
 }
 
-/// The answers to two updates, a read, a delete and a read of one key.
-fn answers(alloc: Global, key: Name) -> Result<[Answer<i128>; 5], Refused> {
+/// The answers to two updates, a read, a delete, a read and two updates that may be merges, of one key.
+fn answers(alloc: Global, key: Name) -> Result<[Answer<i128>; 7], Refused> {
     let mut store = opened(alloc, &SMALL)?;
     Ok([
         store.rmw(&key, &12)?,
@@ -54,15 +54,20 @@ fn answers(alloc: Global, key: Name) -> Result<[Answer<i128>; 5], Refused> {
         store.read(&key, &0)?,
         store.delete(&key)?,
         store.read(&key, &0)?,
+        store.update_or_merge(&key, &5)?,
+        store.update_or_merge(&key, &4)?,
     ])
 }
 
-const ANSWERS: [Answer<i128>; 5] = [
+/// None of them needs a page, so no update is a merge.
+const ANSWERS: [Answer<i128>; 7] = [
     Answer::Value(12),
     Answer::Value(10),
     Answer::Value(10),
     Answer::Deleted,
     Answer::Absent,
+    Answer::Value(5),
+    Answer::Value(9),
 ];
 
 /// What a merge is refused by of functions that don't merge, and what an update is answered then.
@@ -88,8 +93,8 @@ fn waiting(alloc: Global) -> Result<u64, Refused> {
     Ok(taken)
 }
 
-/// The bytes of a log, and those below Head, and the pairs of the map at the end of so many updates of three keys.
-fn counted(alloc: Global, updates: u64) -> Result<(u64, u64, usize), Refused> {
+/// The bytes of a log, those below Head, its records, and the pairs of the map at the end of so many updates of three keys.
+fn counted(alloc: Global, updates: u64) -> Result<(u64, u64, u64, usize), Refused> {
     let mut store = opened(alloc, &SMALL)?;
     for at in 0..updates {
         let Some(key) = name_of(at % 3) else {
@@ -99,16 +104,21 @@ fn counted(alloc: Global, updates: u64) -> Result<(u64, u64, usize), Refused> {
         store.upsert(&key, &i128::from(at))?;
     }
     let counts = store.counts();
-    Ok((counts.bytes, counts.evicted, store.into_map()?.len()))
+    Ok((
+        counts.bytes,
+        counts.evicted,
+        counts.records,
+        store.into_map()?.len(),
+    ))
 }
 
 /// Numbers of updates, and what is counted: the first record stands at 64, and each has 56 bytes, so that the fourth stands at 256,
 /// where the next page begins. Before the 64th update all below that page is frozen, written and evicted, so each key has one more
 /// record there, which changes in place from then on: the tail stands at 424.
-const COUNTED: [(u64, (u64, u64, usize)); 3] = [
-    (0, (0, 0, 0)),
-    (3, (256 - 64, 0, 3)),
-    (600, (424 - 64, 256 - 64, 3)),
+const COUNTED: [(u64, (u64, u64, u64, usize)); 3] = [
+    (0, (0, 0, 0, 0)),
+    (3, (256 - 64, 0, 3, 3)),
+    (600, (424 - 64, 256 - 64, 6, 3)),
 ];
 
 #[test]
@@ -202,8 +212,32 @@ fn each_page_is_written_once(rt: HostRuntime) {
     assert!(rt; refused(rt.alloc(), 3) == Some(fourth));
 }
 
-/// The bytes of a log after so many updates of 40 keys in turn, whose records leave memory in between, so that each appends one.
-fn held(alloc: Global, updates: u64) -> Result<u64, Refused> {
+/// How many pages a list of nineteen keys may take, if it is made: its reader fails after so many.
+fn is_listed(alloc: Global, reads: u64) -> Result<bool, Refused> {
+    let mut device = UnsureDevice::new(alloc);
+    device.reads = reads;
+    let mut store = LocalStore::open(alloc, &SMALL, SumFns, &mut device)?;
+    for number in 0..19u64 {
+        let Some(key) = name_of(number) else {
+            return Err(Refused::Stalled);
+        };
+        store.upsert(&key, &1)?;
+    }
+    Ok(store.into_lists().next().is_ok())
+}
+
+/// Four pages left memory, and a list reads each of them.
+#[test]
+fn each_page_is_read_once_for_a_list(rt: HostRuntime) {
+    for reads in 0..9u64 {
+        let come = is_listed(rt.alloc(), reads);
+        assert!(rt; come == Ok(reads >= 4), "{reads}: {come:?}");
+    }
+}
+
+/// The bytes and the records of a log after so many updates of 40 keys in turn, whose records leave memory in between, so that each
+/// appends one.
+fn held(alloc: Global, updates: u64) -> Result<(u64, u64), Refused> {
     let mut store = opened(alloc, &SMALL)?;
     for at in 0..updates {
         let Some(key) = name_of(at % 40) else {
@@ -211,15 +245,17 @@ fn held(alloc: Global, updates: u64) -> Result<u64, Refused> {
         };
         store.rmw(&key, &1)?;
     }
-    Ok(store.counts().bytes)
+    let counts = store.counts();
+    Ok((counts.bytes, counts.records))
 }
 
-/// Some 750 pages are written in these updates; by itself the log is cut each time Head has moved 64 of them.
+/// Some 750 pages are written in these updates; by itself the log is cut each time Head has moved 64 of them, and not more often: of
+/// the records that live each time, some 40, few are appended again.
 #[test]
 fn a_log_is_compacted_by_itself(rt: HostRuntime) {
-    let bytes = held(rt.alloc(), 3_000);
+    let held = held(rt.alloc(), 3_000);
     assert!(rt;
-        bytes.is_ok_and(|bytes| bytes < 100 << SMALL.page_bits),
-        "{bytes:?}"
+        held.is_ok_and(|(bytes, records)| bytes < 100 << SMALL.page_bits && records < 3_600),
+        "{held:?}"
     );
 }

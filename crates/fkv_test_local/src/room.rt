@@ -3,6 +3,7 @@ use crate::beside::{SMALL, name_of};
 use fkv_device::{Disk, FileDevice, MemoryDevice};
 use fkv_functions::{Refused, SumFns};
 use fkv_local::LocalStore;
+use fkv_test_devices::UnsureDevice;
 use std::alloc::Global;
 use std::fs;
 use std::test::Fail;
@@ -59,6 +60,62 @@ fn a_log_is_short_after_a_compaction(rt: HostRuntime) {
             && *before < most
             && *after <= LIVE);
         assert!(rt; is_right, "{updates}: {come:?}");
+    }
+}
+
+/// What a compaction comes to of a log of so many upserts of so many keys in turn, by a reader that fails once after so many pages:
+/// the bytes that it gives back, and how it was refused.
+fn compacted(
+    alloc: Global,
+    updates: u64,
+    keys: u64,
+    reads: u64,
+) -> Result<(u64, Option<Refused>), Refused> {
+    let mut device = UnsureDevice::new(alloc);
+    device.reads = reads;
+    let mut store = LocalStore::open(alloc, &SMALL, SumFns, &mut device)?;
+    store.keep_log();
+    for at in 0..updates {
+        let Some(key) = at.checked_rem(keys).and_then(name_of) else {
+            return Err(Refused::Stalled);
+        };
+        store.upsert(&key, &1)?;
+    }
+    let before = store.counts().bytes;
+    let refused = store.compact().err();
+    let after = store.counts().bytes;
+    Ok((before.saturating_sub(after), refused))
+}
+
+/// How many upserts of how many keys in turn, and the pages that a compaction of their log reads: each that left memory once where
+/// each key's last record stands in memory, else those too that the entries of the keys lead to.
+const READ: [(u64, u64, u64); 2] = [(200, 6, 11), (60, 40, 429)];
+
+#[test]
+fn pages_that_a_compaction_reads(rt: HostRuntime) {
+    for (updates, keys, reads) in READ {
+        for fewer in 0..2u64 {
+            let come = compacted(rt.alloc(), updates, keys, reads.saturating_sub(fewer));
+            let is_right = come
+                .as_ref()
+                .is_ok_and(|(_, refused)| refused.is_some() == (fewer == 1));
+            assert!(rt; is_right, "{keys} {fewer}: {come:?}");
+        }
+    }
+}
+
+/// The pages that are read before a read fails in a compaction of 400 upserts of 40 keys, and the bytes that it gives back, at least:
+/// page 0 has 192, and the others 256.
+const FAILING: [(u64, u64); 3] = [(20, 0), (60, 192), (195, 1_216)];
+
+/// What is cleared before a read fails is given back.
+#[test]
+fn a_compaction_that_fails_cuts(rt: HostRuntime) {
+    for (reads, least) in FAILING {
+        let come = compacted(rt.alloc(), 400, 40, reads);
+        let is_right = come.as_ref().is_ok_and(|(given, refused)| *given >= least
+            && matches!(refused, Some(Refused::Device { code: 3, .. })));
+        assert!(rt; is_right, "{reads}: {come:?}");
     }
 }
 

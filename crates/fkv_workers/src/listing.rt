@@ -1,8 +1,7 @@
 //! The table of a store that has ended: some threads list its partitions, each some that stand one behind another, one after the
-//! other. A partition goes as its run is made.
-ghost use Rattle.std.specs.Prelude.{◌≡◌, ◌<◌, ◌≤◌, ◌⊎◌, ◌∷◌, [], ℕ, Ok, map, vec_len, flat_map, IsTrue, IfOk, IfErr};
+//! other. A partition goes as its run is made, and the table is these runs.
+ghost use Rattle.std.specs.Prelude.{◌≡◌, ◌<◌, ◌⊎◌, ◌∷◌, [], Ok, map, IsTrue, IfOk, IfErr};
 ghost use Rattle.std.specs.BTreeMap.{is_at};
-ghost use Rattle.std.specs.List.{All};
 ghost use Rattle.std.specs.List.Sorted.{IsStrictlySortedBy};
 ghost use Rattle.std.specs.Map.{lookup, keys_of};
 ghost use Rattle.fkv_functions.specs.Names.{name_cmp};
@@ -23,12 +22,12 @@ use std::rt::Clock;
 use std::sync::Wait;
 use std::thread::Threads;
 
-/// Partitions of a store that one thread lists.
+/// A partition of a store that is to be listed.
 #[derive(Drop)]
 struct Listing<'a, F: Mergeable, D: Disk> {
     alloc: Global,
     functions: &'a F,
-    parts: Vec<Unlisted<F, D>>,
+    part: Unlisted<F, D>,
 }
 
 /// The run of a partition, which goes then. A key whose hash names another partition is left out: no device that keeps brings
@@ -38,7 +37,7 @@ fn list_one<F: Mergeable<Key = Name>, D: Disk>(
     functions: &F,
     part: Unlisted<F, D>,
 ) -> Result<Run<F::Value>, Refused>
-    ensures ok { IfOk result (IsRunOf D.Receipt.keeps F.code (part.partition ∷ [])) }
+    ensures ok { IfOk result (IsRunOf D.Receipt.keeps F.code part.partition) }
     ensures refused { IfErr result (λ why. (why ≡ Refused.NoMemory) ⊎ IsRunless D.Receipt.keeps (λ part. part.partition)
         (λ part. D.Reader.failures part.reader) (part ∷ []) why) }
     ensures only { IfErr result IsUnlisted }
@@ -54,92 +53,41 @@ fn list_one<F: Mergeable<Key = Name>, D: Disk>(
     Run::of_home(alloc, functions, number, count, &map)
 }
 
-/// The run of partitions, which go one after the other. Refused: `NoMemory`, and as a device refuses pages of the first of which
-/// it does.
-fn list_all<F: Mergeable<Key = Name>, D: Disk>(
-    alloc: Global,
-    functions: &F,
-    parts: Vec<Unlisted<F, D>>,
-) -> Result<Run<F::Value>, Refused>
-    ensures ok { IfOk result (IsRunOf D.Receipt.keeps F.code (map (λ part. part.partition) parts.items)) }
-    ensures refused { IfErr result (λ why. (why ≡ Refused.NoMemory) ⊎ IsRunless D.Receipt.keeps (λ part. part.partition)
-        (λ part. D.Reader.failures part.reader) parts.items why) }
-    ensures only { IfErr result IsUnlisted }
-{
-    let mut runs = Vec::new(alloc);
-    for part in parts {
-        let run = match list_one(alloc, functions, part) {
-            Ok(run) => run,
-            Err(refused) => return Err(refused),
-        };
-        let Ok(()) = runs.push(run) else {
-            return Err(Refused::NoMemory);
-        };
-    }
-    Run::merged(alloc, runs)
-}
-
 impl<'a, F: Mergeable<Key = Name>, D: Disk> Job for Listing<'a, F, D> {
     type Output = Result<Run<F::Value>, Refused>;
 
     ghost ready = { λ _. Unit {0} };
 
-    ghost gives = { λ j result. IfOk result (IsRunOf D.Receipt.keeps F.code (map (λ part. part.partition) j.parts.items))
+    ghost gives = { λ j result. IfOk result (IsRunOf D.Receipt.keeps F.code j.part.partition)
         × IfErr result (λ why. (why ≡ refused.NoMemory) ⊎ IsRunless D.Receipt.keeps (λ part. part.partition)
-        (λ part. D.Reader.failures part.reader) j.parts.items why)
+        (λ part. D.Reader.failures part.reader) (j.part ∷ []) why)
         × IfErr result IsUnlisted };
 
     fn run<W: Wait + Clock>(self, _rt: &W) -> Result<Run<F::Value>, Refused> {
         let Listing {
             alloc,
             functions,
-            parts,
+            part,
         } = self;
-        list_all(alloc, functions, parts)
+        list_one(alloc, functions, part)
     }
 }
 
-/// Items in groups of so many, of which the last may have fewer, in their order. Refused: `NoMemory`.
-fn grouped<T: Drop>(alloc: Global, items: Vec<T>, most: usize) -> Result<Vec<Vec<T>>, Refused>
-    requires { 0 < most }
-    ensures ok { IfOk result (λ groups. flat_map (λ group. group.items) groups.items ≡ items.items) }
-    ensures small { IfOk result (λ groups. All (λ group. vec_len group ≤ most) groups.items) }
-    ensures only { IfErr result (λ refused. refused ≡ Refused.NoMemory) }
-{
-    let mut groups = Vec::new(alloc);
-    let mut group = Vec::new(alloc);
-    for item in items {
-        if group.len() == most {
-            let Ok(()) = groups.push(group) else {
-                return Err(Refused::NoMemory);
-            };
-            group = Vec::new(alloc);
-        }
-        let Ok(()) = group.push(item) else {
-            return Err(Refused::NoMemory);
-        };
-    }
-    let Ok(()) = groups.push(group) else {
-        return Err(Refused::NoMemory);
-    };
-    Ok(groups)
-}
-
-/// What is to be listed of each of these groups, in order. Refused: `NoMemory`.
+/// What is to be listed of each of these partitions, in order. Refused: `NoMemory`.
 fn listings<'a, F: Mergeable, D: Disk>(
     alloc: Global,
     functions: &'a F,
-    groups: Vec<Vec<Unlisted<F, D>>>,
+    parts: Vec<Unlisted<F, D>>,
 ) -> Result<Vec<Listing<'a, F, D>>, Refused>
-    ensures ok { IfOk result (λ listings. map (λ listing. listing.parts) listings.items ≡ groups.items) }
+    ensures ok { IfOk result (λ listings. map (λ listing. listing.part) listings.items ≡ parts.items) }
     ensures only { IfErr result (λ refused. refused ≡ Refused.NoMemory) }
 {
     let mut listings = Vec::new(alloc);
-    for parts in groups {
+    for part in parts {
         let listing = Listing {
             alloc,
             functions,
-            parts,
+            part,
         };
         let Ok(()) = listings.push(listing) else {
             return Err(Refused::NoMemory);
@@ -170,7 +118,7 @@ fn runs_of<V: Drop>(
 }
 
 /// The table of all that is live in these partitions of a store, which so many threads list: each has some that stand one behind
-/// another, and makes one run of them. Refused: `NoMemory`, and as a device refuses pages, of the first partition of which it does.
+/// another. Refused: `NoMemory`, and as a device refuses pages, of the first partition of which it does.
 pub(crate) fn table_of<
     F: Mergeable<Key = Name> + Send + Sync,
     D: Disk + Send,
@@ -198,12 +146,7 @@ where
         (λ part. D.Reader.failures part.reader) parts.items why) }
     ensures only { IfErr result IsUnlisted }
 {
-    let most = parts.len().div_ceil(threads).max(1);
-    let groups = match grouped(alloc, parts, most) {
-        Ok(groups) => groups,
-        Err(refused) => return Err(refused),
-    };
-    let listings = match listings(alloc, functions, groups) {
+    let listings = match listings(alloc, functions, parts) {
         Ok(listings) => listings,
         Err(refused) => return Err(refused),
     };
@@ -212,7 +155,7 @@ where
         Err(refused) => return Err(refused),
     };
     match runs_of(alloc, results) {
-        Ok(runs) => Table::new(alloc, runs),
+        Ok(runs) => Table::new(runs),
         Err(refused) => Err(refused),
     }
 }

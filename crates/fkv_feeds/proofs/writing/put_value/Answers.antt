@@ -1,6 +1,4 @@
-use Rattle.std.proofs.Common.{refl, ◌∙◌, ◌≡◌, sym, subst, ◌++◌, ◌∷◌, List, ℕ}
-use Rattle.csv.specs.Writing.{default_writer, field_text}
-use Rattle.fkv_streams.specs.Streams.{AppendsPrefix, PassesOn}
+use Rattle.std.proofs.Common.{refl, ◌∙◌}
 use Rattle.fkv_feeds.proofs.WritingLemmas.{fields-start, fields-more, fields-front}
 use Rattle.fkv_feeds.proofs.writing.put_value.Goals as goal
 

@@ -1,7 +1,7 @@
 use Rattle.std.proofs.Common.{rules, ◌≡◌, None, ◌∙◌}
 use Rattle.fkv_runs.specs.Merging.{first_pair}
 use Rattle.fkv_feeds.specs.Writing.{fields_of}
-use Rattle.fkv_feeds.proofs.WritingLemmas.{written-more, written-front, written-out}
+use Rattle.fkv_feeds.proofs.WritingLemmas.{written-more, written-front, written-whole, written-out}
 use Rattle.fkv_feeds.proofs.writing.write_table.Goals as goal
 
 pub loop-pair-preserved : goal.loop-pair-preserved
@@ -13,6 +13,11 @@ loop-pair-preserved g c = record {
 pub returns-in-Err-put_row-clause-unwritable : goal.returns-in-Err-put_row-clause-unwritable
 returns-in-Err-put_row-clause-unwritable g c =
     λ e. written-front (fields_of g.V.Shown.FIELDS g.V.Shown.field_at) _ _ _ c.loop-pair.buffer c.loop-pair.pairs c.args.table.now c.in-Some.pair c.in-Some.ensures.pair c.loop-pair.invariant.put c.in-Err-put_row.ensures.refused
+
+pub returns-clause-ok : goal.returns-clause-ok
+returns-clause-ok g c =
+    let none : first_pair c.loop-pair.pairs ≡ None = search rules in
+    written-whole (fields_of g.V.Shown.FIELDS g.V.Shown.field_at) _ _ _ c.loop-pair.buffer c.loop-pair.pairs c.args.table.now c.finish.result none c.loop-pair.invariant.put c.finish.ensures.ok
 
 pub returns-clause-unwritable : goal.returns-clause-unwritable
 returns-clause-unwritable g c =

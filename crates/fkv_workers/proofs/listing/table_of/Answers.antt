@@ -3,57 +3,44 @@ use Rattle.std.specs.BTreeMap.{is_at}
 use Rattle.std.specs.Map.{lookup}
 use Rattle.std.proofs.lemmas.Result.{IfOk-weaker}
 use Rattle.fkv_functions.specs.Names.{name_cmp}
-use Rattle.fkv_runs.specs.Merging.{merged}
 use Rattle.fkv_store.specs.Stores.{IsUnlisted}
-use Rattle.fkv_workers.proofs.ListingLemmas.{flat_of, table_run, table_rises, table_has, first_refused}
+use Rattle.fkv_workers.proofs.ListingLemmas.{runs_listed, table_rises, table_has, first_refused}
 use Rattle.fkv_workers.proofs.listing.table_of.Goals as goal
 
 pub new-requires : goal.new-requires
 new-requires g c =
     let keeps = g.D.Receipt.Receipt.keeps in
     let code = g.F.Functions.code in
-    let jobs = c.in-Ok-listings.listings.items in
-    let flat = flat_of (λ group. group.items) (λ listing. listing.parts) jobs c.in-Ok.groups.items c.args.parts.items c.in-Ok-listings.ensures.ok c.in-Ok.ensures.ok in
-    let run = table_run keeps (λ part. part.partition) (λ part. g.D.Reader.PageReader.failures part.reader) code (λ listing. listing.parts.items) IsUnlisted
-    jobs c.in-Ok-run_spread.results.items c.in-Ok-runs_of.runs.items c.args.parts.items flat c.in-Ok-run_spread.ensures.ok c.in-Ok-runs_of.ensures.ok in
-    record {
-      rising = table_rises keeps code (map (λ part. part.partition) c.args.parts.items) (merged name_cmp c.in-Ok-runs_of.runs.items) c.requires.numbered run;
-    }
+    let runs = c.in-Ok-runs_of.runs.items in
+    let each = runs_listed keeps code (λ listing. listing.part) (λ part. part.partition) (λ part. g.D.Reader.PageReader.failures part.reader) IsUnlisted
+    c.in-Ok.listings.items c.args.parts.items c.in-Ok-run_spread.results.items c.in-Ok.ensures.ok c.in-Ok-run_spread.ensures.ok runs c.in-Ok-runs_of.ensures.ok in
+    record { rising = table_rises keeps code (map (λ part. part.partition) c.args.parts.items) runs c.requires.numbered each }
 
 pub returns-in-Ok-runs_of-clause-value : goal.returns-in-Ok-runs_of-clause-value
 returns-in-Ok-runs_of-clause-value g c kept =
     let keeps = g.D.Receipt.Receipt.keeps in
     let code = g.F.Functions.code in
-    let jobs = c.in-Ok-listings.listings.items in
-    let flat = flat_of (λ group. group.items) (λ listing. listing.parts) jobs c.in-Ok.groups.items c.args.parts.items c.in-Ok-listings.ensures.ok c.in-Ok.ensures.ok in
-    let run = table_run keeps (λ part. part.partition) (λ part. g.D.Reader.PageReader.failures part.reader) code (λ listing. listing.parts.items) IsUnlisted
-    jobs c.in-Ok-run_spread.results.items c.in-Ok-runs_of.runs.items c.args.parts.items flat c.in-Ok-run_spread.ensures.ok c.in-Ok-runs_of.ensures.ok in
+    let runs = c.in-Ok-runs_of.runs.items in
+    let each = runs_listed keeps code (λ listing. listing.part) (λ part. part.partition) (λ part. g.D.Reader.PageReader.failures part.reader) IsUnlisted
+    c.in-Ok.listings.items c.args.parts.items c.in-Ok-run_spread.results.items c.in-Ok.ensures.ok c.in-Ok-run_spread.ensures.ok runs c.in-Ok-runs_of.ensures.ok in
     IfOk-weaker c.new.result _ _
     (λ table is k.
     ap (lookup (is_at (name_cmp k))) is
-    ∙ table_has keeps code (map (λ part. part.partition) c.args.parts.items) (merged name_cmp c.in-Ok-runs_of.runs.items) c.requires.numbered run kept k)
+    ∙ table_has keeps code (map (λ part. part.partition) c.args.parts.items) runs c.requires.numbered each kept k)
     c.new.ensures.pairs
 
 pub returns-in-Err-runs_of-clause-refused : goal.returns-in-Err-runs_of-clause-refused
-returns-in-Err-runs_of-clause-refused g c =
-    let keeps = g.D.Receipt.Receipt.keeps in
-    let jobs = c.in-Ok-listings.listings.items in
-    let flat = flat_of (λ group. group.items) (λ listing. listing.parts) jobs c.in-Ok.groups.items c.args.parts.items c.in-Ok-listings.ensures.ok c.in-Ok.ensures.ok in
-    elim c.in-Err-runs_of.ensures.refused [
-      | inl memory ↦ inl memory
-      | inr first ↦
-          (first_refused keeps (λ part. part.partition) (λ part. g.D.Reader.PageReader.failures part.reader) g.F.Functions.code (λ listing. listing.parts.items) IsUnlisted
-          jobs c.in-Ok-run_spread.results.items c.args.parts.items c.in-Err-runs_of.refused flat c.in-Ok-run_spread.ensures.ok first).0
-    ]
+returns-in-Err-runs_of-clause-refused g c = elim c.in-Err-runs_of.ensures.refused [
+  | inl memory ↦ inl memory
+  | inr first ↦
+      (first_refused g.D.Receipt.Receipt.keeps g.F.Functions.code (λ listing. listing.part) (λ part. part.partition) (λ part. g.D.Reader.PageReader.failures part.reader) IsUnlisted
+      c.in-Ok.listings.items c.args.parts.items c.in-Ok-run_spread.results.items c.in-Ok.ensures.ok c.in-Ok-run_spread.ensures.ok c.in-Err-runs_of.refused first).0
+]
 
 pub returns-in-Err-runs_of-clause-only : goal.returns-in-Err-runs_of-clause-only
-returns-in-Err-runs_of-clause-only g c =
-    let keeps = g.D.Receipt.Receipt.keeps in
-    let jobs = c.in-Ok-listings.listings.items in
-    let flat = flat_of (λ group. group.items) (λ listing. listing.parts) jobs c.in-Ok.groups.items c.args.parts.items c.in-Ok-listings.ensures.ok c.in-Ok.ensures.ok in
-    elim c.in-Err-runs_of.ensures.refused [
-      | inl memory ↦ rw memory tt
-      | inr first ↦
-          (first_refused keeps (λ part. part.partition) (λ part. g.D.Reader.PageReader.failures part.reader) g.F.Functions.code (λ listing. listing.parts.items) IsUnlisted
-          jobs c.in-Ok-run_spread.results.items c.args.parts.items c.in-Err-runs_of.refused flat c.in-Ok-run_spread.ensures.ok first).1
-    ]
+returns-in-Err-runs_of-clause-only g c = elim c.in-Err-runs_of.ensures.refused [
+  | inl memory ↦ rw memory tt
+  | inr first ↦
+      (first_refused g.D.Receipt.Receipt.keeps g.F.Functions.code (λ listing. listing.part) (λ part. part.partition) (λ part. g.D.Reader.PageReader.failures part.reader) IsUnlisted
+      c.in-Ok.listings.items c.args.parts.items c.in-Ok-run_spread.results.items c.in-Ok.ensures.ok c.in-Ok-run_spread.ensures.ok c.in-Err-runs_of.refused first).1
+]

@@ -2,7 +2,7 @@ use Rattle.std.proofs.Common.{◌≡◌, slice_index_or, length, take, drop, Lis
 use Rattle.std.proofs.lemmas.List.{take_all}
 use Rattle.fkv_runs.specs.Spelling.{pairs_in}
 use Rattle.fkv_runs.proofs.SpellLemmas.{some_value, rest_pairs}
-use Rattle.fkv_runs.proofs.rests.Rest.next.Goals as goal
+use Rattle.fkv_runs.proofs.rests.RestPairs.next.Goals as goal
 
 -- what is behind a place, as a slice from there to the end
 cut : {A : Type 0} (n : ℕ) (xs : List A) → take (length xs - n) (drop n xs) ≡ drop n xs
