@@ -8,7 +8,8 @@ use Rattle.std.proofs.Math.Nat.{mod-lt}
 use Rattle.fkv_functions.specs.declared.names.Name.{Name}
 use Rattle.fkv_feed_rows.specs.Feeds.{IsFeed}
 use Rattle.fkv_feeds.specs.Tables.{AreFeeds}
-use Rattle.fkv_workers.specs.Shares.{AreFed, AreFedInTurn, Piece, rows_of}
+use Rattle.fkv_blocks.specs.Pieces.{AreFed, Piece, rows_of}
+use Rattle.fkv_workers.specs.Shares.{AreFedInTurn}
 use Rattle.fkv_workers.proofs.FoldLemmas.{owned, owned_here, owned_other}
 
 -- the items of a worker, from the one of this place on

@@ -7,7 +7,7 @@ use Rattle.std.proofs.lemmas.List.Sums.{fold-append}
 use Rattle.std.proofs.Math.Dec.{ltb}
 use Rattle.fkv_functions.specs.declared.names.Name.{Name}
 use Rattle.fkv_feeds.specs.Tables.{AreFeeds}
-use Rattle.fkv_workers.specs.Shares.{AreFed, Piece, rows_of}
+use Rattle.fkv_blocks.specs.Pieces.{AreFed, Piece, rows_of}
 use Rattle.fkv_workers.proofs.FeedLemmas.{feeds_more}
 use Rattle.fkv_workers.proofs.FoldLemmas.{AllR, AllR-back, AllR-each, AllR-filter, AllR-weaker, all_of, fold_swap, folds_stay, joined, joined_alike}
 use Rattle.fkv_workers.proofs.PieceLemmas.{behind, texts_by_hands}

@@ -20,7 +20,8 @@ use Rattle.fkv_histories.specs.Merges.{Told, told, IsShuffle}
 use Rattle.fkv_partition.specs.CoreViews.{partition_of}
 use Rattle.fkv_store.specs.Passes.{IsUpdateBy}
 use Rattle.fkv_feeds.specs.Tables.{AreFeeds, amounts_of, folded}
-use Rattle.fkv_workers.specs.Shares.{rows_at, HasRows, HasShare, AreFed, AreShuffled, value_by}
+use Rattle.fkv_blocks.specs.Pieces.{AreFed}
+use Rattle.fkv_workers.specs.Shares.{rows_at, HasRows, HasShare, AreShuffled, value_by}
 use Rattle.fkv_workers.proofs.FoldLemmas.{AllR, AllR-each, AllR-filter, AllR-weaker, filter-all, joined, joined_alike}
 use Rattle.fkv_workers.proofs.KeyLemmas.{on_key, by_row, row_here, fold_rows, after_all_here, fold_at, fold_amounts, row_stays, rows_commute}
 use Rattle.fkv_workers.proofs.OwnerLemmas.{part, all_told, by_lists}

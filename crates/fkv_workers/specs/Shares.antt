@@ -1,12 +1,11 @@
 -- Rows that workers share out among them, and the histories that they make of them.
-use Rattle.std.specs.Prelude.{◌≡◌, ◌<◌, ◌==◌, ◌%◌, ℕ, ℤ, List, [], length, map, slice_get, slice_index_or, Option, Some, None, FitsSigned, flat_map}
+use Rattle.std.specs.Prelude.{◌≡◌, ◌<◌, ◌==◌, ◌%◌, ℕ, ℤ, List, [], length, map, slice_get, slice_index_or, Option, Some, FitsSigned}
 use Rattle.std.specs.List.{All, AllZip, filter, enumerate_from}
 use Rattle.std.specs.Int.{w64}
 use Rattle.std.specs.declared.cmp.Ordering.{Ordering}
 use Rattle.fkv_functions.specs.Meanings.{Meanings}
 use Rattle.fkv_functions.specs.Plain.{PlainMap}
 use Rattle.fkv_functions.specs.declared.names.Name.{Name}
-use Rattle.fkv_feed_rows.specs.Feeds.{IsFeed}
 use Rattle.fkv_histories.specs.declared.entries.Entry.{Entry}
 use Rattle.fkv_histories.specs.Histories.{updates, map_of}
 use Rattle.fkv_histories.specs.Merges.{IsShuffle}
@@ -34,29 +33,6 @@ rows_at code count p rows = filter (λ r. partition_of count (code r.0) == p) ro
 -- an own list has one update or merge for each of these rows, in their order, and nothing else
 abbrev pub HasRows : {K V I O : Type 0} → List (Entry K V I O) → List (K × I) → Type 0
 HasRows own rows = AllZip (λ e r. IsUpdateBy r.0 r.1 e.op) own rows
-
--- rows of a feed that stand one behind another there, and were read by one worker: the places of both, counted from 0
-pub record Piece : Type 0 where
-  pub worker : ℕ
-  pub feed : ℕ
-  pub rows : List (Name × ℤ)
-
--- the rows of these pieces, one behind another
-abbrev pub rows_of : List Piece → List (Name × ℤ)
-rows_of pieces = flat_map (λ piece. piece.rows) pieces
-
--- workers share the rows of feeds out among them, piece by piece: the pieces of each feed, in its order, are its rows, of which there
--- are no more than `limit`; those of each worker, in the order in which it read them, are its share; and what a worker has of a feed
--- it read in the feed's order
-pub record AreFed (limit : ℕ) (feeds : List (Option (List ℕ))) (shares : List (List (Name × ℤ))) : Type 0 where
-  pub order : ℕ → List Piece
-  pub hand : ℕ → List Piece
-  pub read : (f : ℕ) → f < length feeds → IsFeed limit (slice_index_or feeds f None) (rows_of (order f))
-  pub share : (w : ℕ) → w < length shares → slice_index_or shares w [] ≡ rows_of (hand w)
-  pub held : (f w : ℕ) → f < length feeds → w < length shares
-      → filter (λ piece. piece.worker == w) (order f) ≡ filter (λ piece. piece.feed == f) (hand w)
-  pub some_worker : (f : ℕ) → f < length feeds → All (λ piece. piece.worker < length shares) (order f)
-  pub some_feed : (w : ℕ) → w < length shares → All (λ piece. piece.feed < length feeds) (hand w)
 
 -- each worker has the rows of the feeds that it takes in turn, of which there are no more than `limit` a feed
 pub record AreFedInTurn (limit : ℕ) (feeds : List (Option (List ℕ))) (shares : List (List (Name × ℤ))) : Type 0 where

@@ -21,7 +21,8 @@ use Rattle.fkv_partition.specs.declared.limits.Config.{Config}
 use Rattle.fkv_partition.specs.CoreViews.{partition_of}
 use Rattle.fkv_store.specs.Stores.{IsTold, IsUnopened, IsClosing}
 use Rattle.fkv_store.specs.Passes.{PassView, IsUpdateBy, Answers}
-use Rattle.fkv_workers.specs.Shares.{AreFed, AreFedInTurn, HasShare, dealt, rows_at}
+use Rattle.fkv_blocks.specs.Pieces.{AreFed}
+use Rattle.fkv_workers.specs.Shares.{AreFedInTurn, HasShare, dealt, rows_at}
 
 -- a pass made a row by one operation on its key, with its amount: by an update, or, only where the mode asks for merges, by a
 -- merge

@@ -11,7 +11,8 @@ ghost use Rattle.fkv_histories.specs.declared.entries.Entry.{Entry};
 ghost use Rattle.fkv_partition.specs.CoreViews.{partition_of};
 ghost use Rattle.fkv_store.specs.Passes.{IsUpdateBy};
 ghost use Rattle.fkv_feeds.specs.Tables.{AreFeeds, IsTableOf, amounts_of, folded, most_rows};
-ghost use Rattle.fkv_workers.specs.Shares.{AreFed, AreShuffled, HasShare, value_by};
+ghost use Rattle.fkv_blocks.specs.Pieces.{AreFed};
+ghost use Rattle.fkv_workers.specs.Shares.{AreShuffled, HasShare, value_by};
 
 use fkv_functions::{Mergeable, Name, OrderFree};
 
