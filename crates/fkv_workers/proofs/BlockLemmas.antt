@@ -1,6 +1,6 @@
 -- Workers that share the blocks of feeds.
 use Rattle.std.proofs.Common.{◌≡◌, ◌⊎◌, inl, inr, ℕ, ℤ, Bool, true, List, [], ◌∷◌, ◌<◌, get_or, map, flat_map, Option, Some, None, Result, Ok, Err, refl, sym, ap, subst, ◌∙◌, length}
-use Rattle.std.specs.Prelude.{IfNone, IfSome, IfOk, IfErr}
+use Rattle.std.specs.Prelude.{IfNone, IfSome, IfOk, IfErr, OnOk}
 use Rattle.std.specs.List.{All, AllZip}
 use Rattle.std.proofs.lemmas.List.Elements.{All-nil, All-cons, All-head, All-tail}
 use Rattle.fkv_functions.specs.declared.names.Name.{Name}
@@ -43,6 +43,13 @@ each_second A B P [] (r ∷ rs) all = absurd all
 each_second A B P (w ∷ ws) [] all = absurd all
 each_second A B P (w ∷ ws) (r ∷ rs) all = All-cons B r rs all.0.1 (each_second A B P ws rs all.1)
 
+-- what is said of each in other words
+pub map_zip : {W R : Type 0} (P Q : W → R → Type 0) (works : List W) (results : List R) → AllZip P works results → ((w : W) (r : R) → P w r → Q w r) → AllZip Q works results
+map_zip P Q [] [] all f = tt
+map_zip P Q [] (r ∷ rs) all f = absurd all
+map_zip P Q (w ∷ ws) [] all f = absurd all
+map_zip P Q (w ∷ ws) (r ∷ rs) all f = (f w r all.0, map_zip P Q ws rs all.1 f)
+
 -- ---- workers without a fault
 module _ {W R V O : Type 0} (feeds : List (Option (List ℕ))) (code : Name → ℕ) (keeps : Bool) (mode : RowMode) (mode_of : W → RowMode) (pass_of : R → PassView Name V ℤ O)
     (fault_of : R → Option Refused) (tickets_of : R → List Ticket) (others : W → R → Type 0) where
@@ -84,6 +91,17 @@ module _ {W R V O : Type 0} (feeds : List (Option (List ℕ))) (code : Name → 
   shared_whole works results k each modes none whole =
       let m = made_by works results k each modes none in
       record { shares = map (flat_map (λ part. part)) m.parts; fed = whole m.parts m.read; kept = m.kept; made = m.made }
+
+  -- where the passes are handed on
+  pub shared_ok : {T E : Type 0} (r : Result T E) (items : T → List (PassView Name V ℤ O)) (works : List W) (results : List R)
+      → AllZip (λ work r. IfNone (fault_of r) (HasDone (Reads r) keeps code (mode_of work) (pass_of r)) × others work r) works results
+      → All (λ work. mode_of work ≡ mode) works
+      → IfOk r (λ x. items x ≡ map pass_of results)
+      → OnOk r (All (λ fault. fault ≡ None) (map fault_of results))
+      → OnOk r (AreWhole most_rows feeds (map tickets_of results))
+      → IfOk r (λ x. keeps ≡ true → IsShared code mode feeds (items x))
+  shared_ok (Ok x) items works results each modes is none whole = λ k. subst (IsShared code mode feeds) (sym is) (shared_whole works results k each modes none whole)
+  shared_ok (Err e) items works results each modes is none whole = tt
 
 -- ---- what stopped the first worker
 module _ (feeds : List (Option (List ℕ))) (counts : List ℕ) (limit feed low : ℕ) where

@@ -1,12 +1,11 @@
 -- Rows that workers share out among them, and the histories that they make of them.
-use Rattle.std.specs.Prelude.{◌≡◌, ◌<◌, ◌==◌, ◌%◌, ℕ, ℤ, List, [], length, map, slice_get, slice_index_or, Option, Some, None, FitsSigned, flat_map}
+use Rattle.std.specs.Prelude.{◌≡◌, ◌<◌, ◌==◌, ◌%◌, ℕ, ℤ, List, [], length, map, slice_get, slice_index_or, Option, Some, FitsSigned}
 use Rattle.std.specs.List.{All, AllZip, filter, enumerate_from}
 use Rattle.std.specs.Int.{w64}
 use Rattle.std.specs.declared.cmp.Ordering.{Ordering}
 use Rattle.fkv_functions.specs.Meanings.{Meanings}
 use Rattle.fkv_functions.specs.Plain.{PlainMap}
 use Rattle.fkv_functions.specs.declared.names.Name.{Name}
-use Rattle.fkv_feed_rows.specs.Feeds.{IsFeed}
 use Rattle.fkv_histories.specs.declared.entries.Entry.{Entry}
 use Rattle.fkv_histories.specs.Histories.{updates, map_of}
 use Rattle.fkv_histories.specs.Merges.{IsShuffle}

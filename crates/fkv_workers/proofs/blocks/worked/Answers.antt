@@ -1,0 +1,29 @@
+use Rattle.std.proofs.Common.{◌≡◌, ◌⊎◌, ℤ, List, flat_map}
+use Rattle.std.specs.Prelude.{IfNone, IfSome}
+use Rattle.std.specs.List.{AllZip}
+use Rattle.fkv_functions.specs.declared.names.Name.{Name}
+use Rattle.fkv_blocks.specs.Shares.{AreRowsIn, IsStop, WereRead}
+use Rattle.fkv_feeds.specs.Tables.{most_rows}
+use Rattle.fkv_store.specs.Stores.{IsTold}
+use Rattle.fkv_workers.specs.Works.{HasDone}
+use Rattle.fkv_workers.proofs.BlockLemmas.{each_second, each_third, map_zip, shared_ok}
+use Rattle.fkv_workers.proofs.blocks.worked.Goals as goal
+
+pub joined-requires-clause-read : goal.joined-requires-clause-read
+joined-requires-clause-read g c =
+    each_third _ _ (λ w. WereRead g.B.Origin.feeds w.had.tickets.items) c.in-Ok-works.works.items c.in-Ok-run_jobs.ran.results.items c.in-Ok-run_jobs.ensures.ok.results
+
+pub joined-requires-clause-stops : goal.joined-requires-clause-stops
+joined-requires-clause-stops g c =
+    each_second _ _ (λ w. WereRead g.B.Origin.feeds w.had.tickets.items) c.in-Ok-works.works.items c.in-Ok-run_jobs.ran.results.items c.in-Ok-run_jobs.ensures.ok.results
+
+pub returns-in-Ok-run_jobs-clause-ok : goal.returns-in-Ok-run_jobs-clause-ok
+returns-in-Ok-run_jobs-clause-ok g c =
+    let feeds = g.B.Origin.feeds in
+    let others = λ work r. IfSome r.fault (λ why. IsTold why ⊎ IsStop feeds g.B.Origin.counts most_rows (record { feed = r.had.feed; low = r.had.low; refused = why })) × WereRead feeds r.had.tickets.items in
+    let each = map_zip _
+    (λ work r. IfNone r.fault (HasDone (λ rows. (parts : List (List (Name × ℤ))) × AllZip (AreRowsIn feeds) r.had.tickets.items parts × (rows ≡ flat_map (λ part. part) parts)) g.H.Recorder.keeps g.F.Functions.code work.mode r.pass) × others work r)
+    c.in-Ok-works.works.items c.in-Ok-run_jobs.ran.results.items c.in-Ok-run_jobs.ensures.ok.results (λ work r h. (h.0, h.1, h.2)) in
+    shared_ok feeds g.F.Functions.code g.H.Recorder.keeps c.args.mode (λ work. work.mode) (λ w. w.pass) (λ w. w.fault) (λ w. w.had.tickets.items) others
+    c.joined.result (λ passes. passes.items) c.in-Ok-works.works.items c.in-Ok-run_jobs.ran.results.items each c.in-Ok-works.ensures.modes
+    c.joined.ensures.ok c.joined.ensures.none c.joined.ensures.whole
