@@ -4,19 +4,25 @@ use Rattle.fkv_store.specs.Stores.{IsTold}
 use Rattle.fkv_functions.specs.declared.refusals.Refused.TheVariants.{NoMemory}
 use Rattle.fkv_feeds.specs.Tables.{AreFeeds, most_rows}
 use Rattle.fkv_workers.specs.Works.{HasDone, IsStop, IsFirst}
+use Rattle.fkv_workers.proofs.BlockLemmas.{map_zip}
 use Rattle.fkv_workers.proofs.StoppedLemmas.{stopped, told_memory, all_read, read_before}
 use Rattle.fkv_workers.proofs.WorkedLemmas.{hands_are, shared, fed_by}
 use Rattle.fkv_workers.proofs.running.worked.Goals as goal
 
 pub returns-in-Ok-ended : goal.returns-in-Ok-ended
-returns-in-Ok-ended g c = record {
+returns-in-Ok-ended g c =
+    let each = map_zip _
+    (λ work w. IfNone w.fault (HasDone (AreFeeds most_rows (map (λ feed. g.S.Source.remaining feed.1) work.share.items)) g.H.Recorder.keeps g.F.Functions.code work.mode w.pass)
+    × (IfSome w.fault (IsStop g.S.Source.remaining g.S.Source.failures work.share.items) × Unit {0}))
+    c.in-Ok-works.works.items c.in-Ok-run_jobs.ran.results.items c.in-Ok-run_jobs.ensures.ok.results (λ work w h. (h.0, (h.1, h.2))) in
+    record {
   ok = λ keeps.
       let rem = g.S.Source.remaining in
       let fails = g.S.Source.failures in
       let works = c.in-Ok-works.works.items in
       let results = c.in-Ok-run_jobs.ran.results.items in
       let sh = shared rem g.F.Functions.code (λ work. work.share.items) (λ work. work.mode) (λ w. w.pass) (λ w. w.fault) g.H.Recorder.keeps c.args.mode
-      (λ work w. IfSome w.fault (IsStop rem fails work.share.items) × Unit {0}) works results keeps c.in-Ok-run_jobs.ensures.ok.results c.in-Ok-works.ensures.modes c.in-Ok-ended.ensures.none in
+      (λ work w. IfSome w.fault (IsStop rem fails work.share.items) × Unit {0}) works results keeps each c.in-Ok-works.ensures.modes c.in-Ok-ended.ensures.none in
       rw c.in-Ok-ended.ensures.ok
       (fed_by rem g.F.Functions.code c.args.mode (λ work. work.share.items) c.args.workers c.args.feeds.items works (map (λ w. w.pass) results) sh.shares c.requires.some
       (hands_are c.args.workers c.args.feeds.items (λ hand. hand.items) (λ work. work.share) c.in-Ok-works.works.items c.in-Ok.hands.items c.in-Ok-works.ensures.shares c.in-Ok.ensures.ok) sh.read sh.kept sh.made);
@@ -24,7 +30,7 @@ returns-in-Ok-ended g c = record {
   read =
       all_read g.S.Source.remaining g.S.Source.failures g.H.Recorder.keeps g.F.Functions.code (λ work. work.share.items) (λ work. work.mode) (λ w. w.pass) (λ w. w.fault)
       (λ work w. IfSome w.fault (IsStop g.S.Source.remaining g.S.Source.failures work.share.items) × Unit {0}) c.args.workers c.args.feeds.items c.in-Ok-works.works.items c.in-Ok-run_jobs.ran.results.items NoMemory
-      (hands_are c.args.workers c.args.feeds.items (λ hand. hand.items) (λ work. work.share) c.in-Ok-works.works.items c.in-Ok.hands.items c.in-Ok-works.ensures.shares c.in-Ok.ensures.ok) c.in-Ok-run_jobs.ensures.ok.results c.in-Ok-ended.ensures.none;
+      (hands_are c.args.workers c.args.feeds.items (λ hand. hand.items) (λ work. work.share) c.in-Ok-works.works.items c.in-Ok.hands.items c.in-Ok-works.ensures.shares c.in-Ok.ensures.ok) each c.in-Ok-ended.ensures.none;
   refused = tt;
   first = tt;
 }
@@ -50,6 +56,10 @@ returns-clause-refused g c =
 
 pub returns-clause-first : goal.returns-clause-first
 returns-clause-first g c =
+    let each = map_zip _
+    (λ work w. IfNone w.fault (HasDone (AreFeeds most_rows (map (λ feed. g.S.Source.remaining feed.1) work.share.items)) g.H.Recorder.keeps g.F.Functions.code work.mode w.pass)
+    × (IfSome w.fault (IsStop g.S.Source.remaining g.S.Source.failures work.share.items) × Unit {0}))
+    c.in-Ok-works.works.items c.in-Ok-run_jobs.ran.results.items c.in-Ok-run_jobs.ensures.ok.results (λ work w h. (h.0, (h.1, h.2))) in
     let rem = g.S.Source.remaining in
     let fails = g.S.Source.failures in
     let works = c.in-Ok-works.works.items in
@@ -66,12 +76,12 @@ returns-clause-first g c =
     (read_before rem fails g.H.Recorder.keeps g.F.Functions.code (λ work. work.share.items) (λ work. work.mode) (λ w. w.pass) (λ w. w.fault)
     (λ work w. IfSome w.fault (IsStop rem fails work.share.items) × Unit {0})
     c.args.workers c.args.feeds.items works results
-    c.in-Err-ended.refused (hands_are c.args.workers c.args.feeds.items (λ hand. hand.items) (λ work. work.share) c.in-Ok-works.works.items c.in-Ok.hands.items c.in-Ok-works.ensures.shares c.in-Ok.ensures.ok) c.in-Ok-run_jobs.ensures.ok.results first) at.1)
+    c.in-Err-ended.refused (hands_are c.args.workers c.args.feeds.items (λ hand. hand.items) (λ work. work.share) c.in-Ok-works.works.items c.in-Ok.hands.items c.in-Ok-works.ensures.shares c.in-Ok.ensures.ok) each first) at.1)
     (λ kept.
     IsFirst.keeper
     (all_read rem fails g.H.Recorder.keeps g.F.Functions.code (λ work. work.share.items) (λ work. work.mode) (λ w. w.pass) (λ w. w.fault)
     (λ work w. IfSome w.fault (IsStop rem fails work.share.items) × Unit {0})
     c.args.workers c.args.feeds.items works results
-    c.in-Err-ended.refused (hands_are c.args.workers c.args.feeds.items (λ hand. hand.items) (λ work. work.share) c.in-Ok-works.works.items c.in-Ok.hands.items c.in-Ok-works.ensures.shares c.in-Ok.ensures.ok) c.in-Ok-run_jobs.ensures.ok.results kept.1) (subst (λ r. IfErr r IsTold) kept.0 c.in-Ok-run_jobs.ensures.ok.kept))
+    c.in-Err-ended.refused (hands_are c.args.workers c.args.feeds.items (λ hand. hand.items) (λ work. work.share) c.in-Ok-works.works.items c.in-Ok.hands.items c.in-Ok-works.ensures.shares c.in-Ok.ensures.ok) each kept.1) (subst (λ r. IfErr r IsTold) kept.0 c.in-Ok-run_jobs.ensures.ok.kept))
     rest)
     c.in-Err-ended.ensures.refused
