@@ -30,13 +30,13 @@ loop-one-preserved g c =
       read = rw grown (All-push (WereRead g.B.Origin.feeds) (map (λ hand. hand.items) c.loop-one.hands.items) one.had.tickets.items old.read read);
       none = elim c.match-fault.branch [
         | in-None-fault w ↦ (λ none. rw (map_push (λ w. w.fault) c.loop-one.yielded one)
-              (All-push (λ fault. fault ≡ None) (map (λ w. w.fault) c.loop-one.yielded) one.fault (old.none (sym w.first-is ∙ none)) w.in-None-fault.is))
+            (All-push (λ fault. fault ≡ None) (map (λ w. w.fault) c.loop-one.yielded) one.fault (old.none (sym w.first-is ∙ none)) w.in-None-fault.is))
         | in-Some-fault w ↦ (λ none. let bad = sym w.first-is ∙ none in absurd (cc))
       ];
       first = elim c.match-fault.branch [
         | in-None-fault w ↦ rw w.first-is old.first
         | in-Some-fault w ↦ rw w.first-is (first_some (λ stop. IsTold stop.refused ⊎ IsStop g.B.Origin.feeds g.B.Origin.counts most_rows stop) c.loop-one.first _ w.first_of.result w.first_of.ensures old.first
-              (rw w.in-Some-fault.is at stops))
+            (rw w.in-Some-fault.is at stops))
       ];
     }
 

@@ -16,24 +16,24 @@ returns-in-Ok-ended g c =
     × (IfSome w.fault (IsStop g.S.Source.remaining g.S.Source.failures work.share.items) × Unit {0}))
     c.in-Ok-works.works.items c.in-Ok-run_jobs.ran.results.items c.in-Ok-run_jobs.ensures.ok.results (λ work w h. (h.0, (h.1, h.2))) in
     record {
-  ok = λ keeps.
-      let rem = g.S.Source.remaining in
-      let fails = g.S.Source.failures in
-      let works = c.in-Ok-works.works.items in
-      let results = c.in-Ok-run_jobs.ran.results.items in
-      let sh = shared rem g.F.Functions.code (λ work. work.share.items) (λ work. work.mode) (λ w. w.pass) (λ w. w.fault) g.H.Recorder.keeps c.args.mode
-      (λ work w. IfSome w.fault (IsStop rem fails work.share.items) × Unit {0}) works results keeps each c.in-Ok-works.ensures.modes c.in-Ok-ended.ensures.none in
-      rw c.in-Ok-ended.ensures.ok
-      (fed_by rem g.F.Functions.code c.args.mode (λ work. work.share.items) c.args.workers c.args.feeds.items works (map (λ w. w.pass) results) sh.shares c.requires.some
-      (hands_are c.args.workers c.args.feeds.items (λ hand. hand.items) (λ work. work.share) c.in-Ok-works.works.items c.in-Ok.hands.items c.in-Ok-works.ensures.shares c.in-Ok.ensures.ok) sh.read sh.kept sh.made);
-  mode = refl;
-  read =
-      all_read g.S.Source.remaining g.S.Source.failures g.H.Recorder.keeps g.F.Functions.code (λ work. work.share.items) (λ work. work.mode) (λ w. w.pass) (λ w. w.fault)
-      (λ work w. IfSome w.fault (IsStop g.S.Source.remaining g.S.Source.failures work.share.items) × Unit {0}) c.args.workers c.args.feeds.items c.in-Ok-works.works.items c.in-Ok-run_jobs.ran.results.items NoMemory
-      (hands_are c.args.workers c.args.feeds.items (λ hand. hand.items) (λ work. work.share) c.in-Ok-works.works.items c.in-Ok.hands.items c.in-Ok-works.ensures.shares c.in-Ok.ensures.ok) each c.in-Ok-ended.ensures.none;
-  refused = tt;
-  first = tt;
-}
+      ok = λ keeps.
+          let rem = g.S.Source.remaining in
+          let fails = g.S.Source.failures in
+          let works = c.in-Ok-works.works.items in
+          let results = c.in-Ok-run_jobs.ran.results.items in
+          let sh = shared rem g.F.Functions.code (λ work. work.share.items) (λ work. work.mode) (λ w. w.pass) (λ w. w.fault) g.H.Recorder.keeps c.args.mode
+          (λ work w. IfSome w.fault (IsStop rem fails work.share.items) × Unit {0}) works results keeps each c.in-Ok-works.ensures.modes c.in-Ok-ended.ensures.none in
+          rw c.in-Ok-ended.ensures.ok
+          (fed_by rem g.F.Functions.code c.args.mode (λ work. work.share.items) c.args.workers c.args.feeds.items works (map (λ w. w.pass) results) sh.shares c.requires.some
+          (hands_are c.args.workers c.args.feeds.items (λ hand. hand.items) (λ work. work.share) c.in-Ok-works.works.items c.in-Ok.hands.items c.in-Ok-works.ensures.shares c.in-Ok.ensures.ok) sh.read sh.kept sh.made);
+      mode = refl;
+      read =
+          all_read g.S.Source.remaining g.S.Source.failures g.H.Recorder.keeps g.F.Functions.code (λ work. work.share.items) (λ work. work.mode) (λ w. w.pass) (λ w. w.fault)
+          (λ work w. IfSome w.fault (IsStop g.S.Source.remaining g.S.Source.failures work.share.items) × Unit {0}) c.args.workers c.args.feeds.items c.in-Ok-works.works.items c.in-Ok-run_jobs.ran.results.items NoMemory
+          (hands_are c.args.workers c.args.feeds.items (λ hand. hand.items) (λ work. work.share) c.in-Ok-works.works.items c.in-Ok.hands.items c.in-Ok-works.ensures.shares c.in-Ok.ensures.ok) each c.in-Ok-ended.ensures.none;
+      refused = tt;
+      first = tt;
+    }
 
 pub returns-clause-refused : goal.returns-clause-refused
 returns-clause-refused g c =
