@@ -1,13 +1,40 @@
 //! Blocks of every size, and streams that fail.
-use crate::sinks::Text;
-use fkv_blocks::Feeds;
-use fkv_feed_rows::read_feed;
-use fkv_functions::Refused;
+use fkv_blocks::{BlockSource, Blocks, take_block};
+use fkv_feed_rows::{RowSink, read_feed};
+use fkv_functions::{Name, Refused};
 use fkv_streams::CountedReader;
 use fkv_test_streams::Breaking;
 use std::alloc::Global;
 use std::marker::Brand;
-use std::sync::Wait;
+use std::sync::{Mutex, Wait};
+
+/// The text of the rows that came.
+#[derive(Drop)]
+struct Text {
+    text: Vec<u8>,
+}
+
+impl RowSink for Text {
+    ghost use Rattle.std.specs.Prelude.{◌≡◌};
+    ghost use Rattle.fkv_functions.specs.declared.refusals.Refused.TheVariants.{NoMemory};
+
+    ghost stands = { λ t rows. Unit {0} };
+
+    ghost fault = { λ e. e ≡ NoMemory };
+
+    ghost kept = { λ t. tt };
+
+    fn add(&mut self, key: &Name, amount: i64) -> Result<(), Refused> {
+        let digit = [b' ', b'0' + (amount % 10).unsigned_abs() as u8];
+        match (
+            self.text.extend_from_slice(key.bytes()),
+            self.text.extend_from_slice(&digit),
+        ) {
+            (Ok(()), Ok(())) => Ok(()),
+            _ => Err(Refused::NoMemory),
+        }
+    }
+}
 
 /// What comes of a feed in blocks of so many bytes at least: how many blocks there were, or why it is refused, and the rows.
 #[derive(Drop)]
@@ -25,47 +52,37 @@ fn in_blocks(
     calls: u64,
     size: usize,
 ) -> Came {
-    let mut sink = Text::new(alloc);
-    let told = match read_whole(rt, alloc, text, piece, calls, size, &mut sink) {
-        Ok(told) => told,
-        Err(refused) => Err(refused),
+    let source = CountedReader::new(Breaking::new(text.as_bytes(), piece, calls));
+    let feed = Mutex::new(Blocks::<_, Brand>::begin(alloc, source, 2, size));
+    let mut sink = Text {
+        text: Vec::new(alloc),
     };
+    let mut block = Vec::new(alloc);
+    let mut told = Ok(0);
+    for count in 0..1_000 {
+        match take_block(rt, &feed, &mut block) {
+            Ok(Some(_place)) => {}
+            Ok(None) => {
+                told = Ok(count);
+                break;
+            }
+            Err(stop) => {
+                told = Err(stop.refused);
+                break;
+            }
+        }
+        let mut source = BlockSource::new(block.as_slice());
+        match read_feed(alloc, &mut source, 3, 1_000, &mut sink) {
+            Ok(_rows) => {}
+            Err(refused) => {
+                told = Err(refused);
+                break;
+            }
+        }
+    }
     Came {
         told,
         rows: sink.text,
-    }
-}
-
-/// Reads a text in blocks by one worker. How many there are, or what is told of the feed; refused: `NoMemory`.
-fn read_whole(
-    rt: &impl Wait,
-    alloc: Global,
-    text: &str,
-    piece: usize,
-    calls: u64,
-    size: usize,
-    sink: &mut Text,
-) -> Result<Result<usize, Refused>, Refused> {
-    let mut sources = Vec::new(alloc);
-    let source = CountedReader::new(Breaking::new(text.as_bytes(), piece, calls));
-    let Ok(()) = sources.push(source) else {
-        return Err(Refused::NoMemory);
-    };
-    let feeds = Feeds::<_, Brand>::open(alloc, sources, size)?;
-    let mut tickets = Vec::new(alloc);
-    let read = feeds.read(rt, alloc, 0, 1_000, sink, &mut tickets);
-    let count = tickets.len();
-    let mut hands = Vec::new(alloc);
-    let Ok(()) = hands.push(tickets) else {
-        return Err(Refused::NoMemory);
-    };
-    match read {
-        Ok(()) => Ok(
-            feeds
-                .whole(rt, alloc, 1_000, hands.as_slice())
-                .map(|()| count),
-        ),
-        Err(stop) => Ok(Err(feeds.fault(rt, alloc, 1_000, hands.as_slice(), stop))),
     }
 }
 
@@ -96,9 +113,11 @@ const TEXTS: [(&str, &str); 14] = [
 #[test]
 fn blocks_of_every_size(rt: HostRuntime) {
     for (text, rows) in TEXTS {
-        let mut sink = Text::new(rt.alloc());
+        let mut sink = Text {
+            text: Vec::new(rt.alloc()),
+        };
         let mut source = CountedReader::new(text.as_bytes());
-        let told = read_feed(rt.alloc(), &mut source, 1, 1_000, &mut sink);
+        let told = read_feed(rt.alloc(), &mut source, 3, 1_000, &mut sink);
         assert!(rt;
             told.is_ok() && sink.text.as_slice() == rows.as_bytes(),
             "{text}"
@@ -116,7 +135,7 @@ fn blocks_of_every_size(rt: HostRuntime) {
     }
 }
 
-const FAILED: Result<usize, Refused> = Err(Refused::Unreadable { number: 1 });
+const FAILED: Result<usize, Refused> = Err(Refused::Unreadable { number: 3 });
 
 /// A text, the bytes that a call gives, the calls before the one that fails, how many bytes a block has at least; and what comes of it.
 type Row = (
@@ -140,13 +159,13 @@ const ROWS: [Row; 12] = [
     ("a,1\nb,2\nc,3\n", 4, 2, 100, FAILED, "a 1b 2"),
     ("a,1\nb,2\nc,3\n", 6, 1, 100, FAILED, "a 1"),
     ("a,1\nb,2\nc,3\n", 6, 2, 100, FAILED, "a 1b 2c 3"),
-    // so a bad row before it is told first; a bad row is told by its number in the feed, whatever the blocks are
+    // so a bad row before it is told first, by its number in its block
     (
         "a,1\nb\nc,3\n",
         4,
         2,
         100,
-        Err(Refused::BadRow { feed: 1, row: 2 }),
+        Err(Refused::BadRow { feed: 3, row: 2 }),
         "a 1",
     ),
     (
@@ -154,7 +173,7 @@ const ROWS: [Row; 12] = [
         4,
         100,
         1,
-        Err(Refused::BadRow { feed: 1, row: 2 }),
+        Err(Refused::BadRow { feed: 3, row: 1 }),
         "a 1",
     ),
     (
@@ -162,7 +181,7 @@ const ROWS: [Row; 12] = [
         4,
         100,
         1,
-        Err(Refused::BadRow { feed: 1, row: 2 }),
+        Err(Refused::BadRow { feed: 3, row: 1 }),
         "a 1",
     ),
 ];

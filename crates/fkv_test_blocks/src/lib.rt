@@ -5,7 +5,3 @@
 mod cuts;
 #[cfg(test)]
 mod orders;
-#[cfg(test)]
-mod shares;
-#[cfg(test)]
-mod sinks;

@@ -263,8 +263,8 @@ impl Read for Pipe<'_> {
     }
 }
 
-/// How many rows of a partition are made updates together.
-const TOGETHER: u64 = 64;
+/// The number of the last of the rows of a partition that are made updates together, counted from 0.
+const LAST_TOGETHER: u64 = 63;
 
 impl Gate for Pausing {
     fn pass(&self, worker: u32, place: Place) {
@@ -274,7 +274,7 @@ impl Gate for Pausing {
         match place {
             Place::Start => hold(&self.has_paused, &self.failed),
             Place::Answered => {
-                if self.answers.fetch_add(1, Ordering::SeqCst) + 1 == TOGETHER {
+                if self.answers.fetch_add(1, Ordering::SeqCst) == LAST_TOGETHER {
                     self.goes_on.store(true, Ordering::SeqCst);
                 }
             }
