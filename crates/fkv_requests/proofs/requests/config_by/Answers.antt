@@ -22,7 +22,7 @@ returns c =
     let share = c.share_of-share.ensures ∙ ap (share_of c.in-Some.memory) partition in
     let bucket =
     c.number_or-bucket_bits.ensures ∙ ap (given_or (codes "bucket-bits") rows) (c.bucket_bits_in.ensures ∙ ap bucket_bits_in share) in
-    let merge : c.flag_by.result ≡ merge_of rows = c.flag_by.ensures ∙ ap is_set (first_value-rows (found_of c.args.options.now) (codes "merge")) in
+    let merge : c.flag_by-merge.result ≡ merge_of rows = c.flag_by-merge.ensures ∙ ap is_set (first_value-rows (found_of c.args.options.now) (codes "merge")) in
     let page =
     c.number_or-page_bits.ensures
     ∙ ap (given_or (codes "page-bits") rows) (c.page_bits_in.ensures ∙ (λ i. page_bits_in (share i) (merge i))) in
