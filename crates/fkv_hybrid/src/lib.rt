@@ -14,7 +14,10 @@
 //! from their frames.
 #![tactic(auto)]
 
+mod bytes;
+mod differences;
 pub mod laws;
+mod loads;
 pub mod log;
 pub mod scan;
 

@@ -2,7 +2,7 @@
 ghost use Rattle.std.specs.Prelude.{◌≡◌, ◌≤◌, ◌↔◌, IsTrue, length};
 ghost use Rattle.fkv_records.specs.Places.{page_at, IsRecordStart};
 ghost use Rattle.fkv_records.specs.Records.{size_of, IsPrevious};
-ghost use Rattle.fkv_pages.specs.Loads.{HasReceipt};
+ghost use Rattle.fkv_hybrid.specs.Loads.{HasReceipt};
 
 use crate::lines::{Line, Subject};
 use fkv_device::{Disk, FileDevice, FlushJob, Loaded, MemoryDevice, Page, Receipt, Written};
