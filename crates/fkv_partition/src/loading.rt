@@ -154,11 +154,7 @@ impl<F: Mergeable, R: Receipt> Core<F, R> {
             Err(refused) => return Err(refused),
             Ok(receipt) => receipt,
         };
-        Loaded::fetch(
-            reader,
-            &receipt,
-            self.records.log().shape().page_size(),
-        )
+        Loaded::fetch(reader, &receipt, self.records.log().shape().page_size())
     }
 
     /// Takes a page that came for an operation, where it is the one that is kept.

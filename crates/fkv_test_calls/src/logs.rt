@@ -1,22 +1,21 @@
-//! Calls on pages of 256 bytes in a ring of frames, with a writer and a reader of a device: records take 48 bytes.
-ghost use Rattle.std.specs.Prelude.{◌≡◌, ◌≤◌, ◌↔◌, IsTrue, length};
-ghost use Rattle.fkv_records.specs.Places.{page_at, IsRecordStart};
-ghost use Rattle.fkv_records.specs.Records.{size_of, IsPrevious};
+//! Calls on a log of pages of 256 bytes in a ring of frames, with a writer and a reader of a device: records take 48 bytes.
+ghost use Rattle.std.specs.Prelude.{◌↔◌, IsTrue};
+ghost use Rattle.fkv_records.specs.Records.{IsPrevious};
 ghost use Rattle.fkv_hybrid.specs.Loads.{HasReceipt};
 
 use crate::lines::{Line, Subject};
 use fkv_device::{Disk, FileDevice, FlushJob, Loaded, MemoryDevice, Page, Receipt, Written};
 use fkv_functions::{Fixed, Name, Refused};
-use fkv_pages::Pages;
+use fkv_hybrid::Log;
 use fkv_records::{Address, Shape, record_size};
 use fkv_texts::{ChainPosition, Entry};
 use std::alloc::{AllocError, Global};
 
-/// Pages, a writer and a reader.
+/// A log, a writer and a reader.
 #[derive(Drop)]
 pub struct Driven<D: Disk> {
     alloc: Global,
-    pages: Pages<Name, u64, D::Receipt>,
+    log: Log<Name, u64, D::Receipt>,
     writer: D::Writer,
     reader: D::Reader,
 }
@@ -25,7 +24,7 @@ pub struct Driven<D: Disk> {
 #[derive(Clone, Copy, Debug, PartialEq)]
 enum Told {
     Done,
-    /// An address, or a page.
+    /// An address, a page, or a session's slot.
     At(u64),
     Full,
     /// The first letter of a record's key, its previous address and its value.
@@ -46,6 +45,20 @@ fn record_told(read: Result<Entry<Name, u64>, Refused>) -> Told {
     }
 }
 
+fn done_told(done: Result<(), Refused>) -> Told {
+    match done {
+        Ok(()) => Told::Done,
+        Err(refused) => Told::Refused(refused),
+    }
+}
+
+fn slot_told(done: Result<usize, Refused>) -> Told {
+    match done {
+        Ok(slot) => Told::At(slot as u64),
+        Err(refused) => Told::Refused(refused),
+    }
+}
+
 fn page_told(done: Result<u64, Refused>) -> Told {
     match done {
         Ok(page) => Told::At(page),
@@ -60,24 +73,12 @@ fn is_previous(address: Address, previous: Address) -> bool
     previous == 1 || (64 <= previous && previous < address)
 }
 
-/// Whether an address is a place whose page is at most the first that is not flushed.
-fn is_low<K: Fixed, V: Fixed, R: Receipt>(pages: &Pages<K, V, R>, address: Address) -> bool
-    ensures place { IsTrue result → IsRecordStart pages.now.bits (size_of K.SIZE V.SIZE) address }
-    ensures flushed { IsTrue result → page_at pages.now.bits address ≤ length pages.now.receipts }
-    ensures frozen { IsTrue result → address ≤ pages.now.frozen }
-{
-    let shape = pages.shape();
-    shape.is_record_start(address)
-        && shape.page_of(address) <= pages.unflushed()
-        && address <= pages.frozen()
-}
-
 /// Whether a page is flushed, and its receipt was not let go.
-fn has_receipt<K: Fixed, V: Fixed, R: Receipt>(pages: &Pages<K, V, R>, page: u64) -> bool
-    ensures { IsTrue result → HasReceipt pages.now.receipts page }
+fn has_receipt<K: Fixed, V: Fixed, R: Receipt>(log: &Log<K, V, R>, page: u64) -> bool
+    ensures { IsTrue result → HasReceipt log.now.receipts page }
 {
-    pages.known();
-    pages.shape().page_of(pages.begin()) <= page && page < pages.unflushed()
+    log.known();
+    log.shape().page_of(log.begin()) <= page && page < log.unflushed()
 }
 
 /// A page as it was taken; or with another number, with another byte at a place, or without its last byte, as the line
@@ -113,11 +114,11 @@ impl<D: Disk> Driven<D> {
         let Some(key) = Name::new(line.texts[0].as_bytes()) else {
             return Told::Never;
         };
-        if !is_previous(self.pages.tail(), previous) {
+        if !is_previous(self.log.tail(), previous) {
             return Told::Never;
         }
         let value = line.texts[2].parse::<u64>().ok();
-        match self.pages.append(previous, key, value, false) {
+        match self.log.append(previous, key, value, false) {
             Ok(Some(address)) => Told::At(address),
             Ok(None) => Told::Full,
             Err(refused) => Told::Refused(refused),
@@ -125,56 +126,32 @@ impl<D: Disk> Driven<D> {
     }
 
     fn read(&self, address: Address) -> Told {
-        if !self.pages.has_entry(address) {
+        if !self.log.has_entry(address) {
             return Told::Never;
         }
-        record_told(Ok(self.pages.record_at(address)))
+        record_told(Ok(self.log.record_at(address)))
     }
 
     /// Gives a record another value, or makes it a tombstone, where it is not frozen and has a value.
     fn change(&mut self, address: Address, value: Option<u64>) -> Told {
-        if !self.pages.has_entry(address) || address < self.pages.frozen() {
+        if !self.log.has_entry(address) || address < self.log.regions().offsets().safe_read_only {
             return Told::Never;
         }
-        let entry = self.pages.record_at(address);
+        let entry = self.log.record_at(address);
         if entry.delta {
             return Told::Never;
         }
         match (entry.value, value) {
-            (Some(_), Some(value)) => self.pages.write_value(address, value),
-            (_, None) => self.pages.set_tombstone(address),
+            (Some(_), Some(value)) => self.log.write_value(address, value),
+            (_, None) => self.log.set_tombstone(address),
             (None, Some(_)) => return Told::Never,
         }
         Told::Done
     }
 
-    fn freeze(&mut self, address: Address) -> Told {
-        if address < self.pages.frozen() || self.pages.tail() < address {
-            return Told::Never;
-        }
-        self.pages.freeze(address);
-        Told::Done
-    }
-
-    fn close(&mut self, address: Address) -> Told {
-        if address < self.pages.closed() || !is_low(&self.pages, address) {
-            return Told::Never;
-        }
-        self.pages.close(address);
-        Told::Done
-    }
-
-    fn truncate(&mut self, address: Address) -> Told {
-        if address < self.pages.begin() || !is_low(&self.pages, address) {
-            return Told::Never;
-        }
-        self.pages.truncate(address);
-        Told::Done
-    }
-
     /// Takes a page, writes it as the line says, and hands it in.
     fn flush(&mut self, line: &Line) -> Result<u64, Refused> {
-        let taken = match self.pages.flush_take(self.alloc) {
+        let taken = match self.log.flush_take(self.alloc) {
             Ok(job) => changed(self.alloc, job, line),
             Err(refused) => Err(refused),
         };
@@ -187,7 +164,7 @@ impl<D: Disk> Driven<D> {
             Ok(written) => written,
             Err(refused) => return Err(refused),
         };
-        match self.pages.flush_done(written) {
+        match self.log.flush_done(written) {
             Ok(()) => Ok(page),
             Err(refused) => Err(refused),
         }
@@ -195,10 +172,10 @@ impl<D: Disk> Driven<D> {
 
     /// Reads a flushed page by its receipt.
     fn fetch(&mut self, page: u64) -> Result<Loaded<D::Receipt>, Refused> {
-        if !has_receipt(&self.pages, page) {
+        if !has_receipt(&self.log, page) {
             return Err(Refused::NotReady);
         }
-        match self.pages.receipt(page) {
+        match self.log.receipt(page) {
             Ok(receipt) => Loaded::fetch(&mut self.reader, &receipt, 256),
             Err(refused) => Err(refused),
         }
@@ -211,21 +188,18 @@ impl<D: Disk> Driven<D> {
             Ok(loaded) => loaded,
             Err(refused) => return Told::Refused(refused),
         };
-        let own = self.pages.shape().page_of(address);
-        if !has_receipt(&self.pages, own) {
+        let own = self.log.shape().page_of(address);
+        if !has_receipt(&self.log, own) {
             return Told::Refused(Refused::NotReady);
         }
         let Some(key) = Name::new(line.texts[2].as_bytes()) else {
-            return record_told(self.pages.record_in(&loaded, address));
+            return record_told(self.log.record_in(&loaded, address));
         };
-        if let Err(refused) = self.pages.is_own(&loaded, own) {
+        if let Err(refused) = self.log.is_own(&loaded, own) {
             return Told::Refused(refused);
         }
-        let low = self.pages.first_of(own);
-        match self
-            .pages
-            .own_first_in_page(&loaded, &key, address, own, low)
-        {
+        let low = self.log.first_of(own);
+        match self.log.own_first_in_page(&loaded, &key, address, own, low) {
             Ok(ChainPosition::Found(entry)) => record_told(Ok(entry)),
             Ok(ChainPosition::Below(address)) => Told::Below(address),
             Err(refused) => Told::Refused(refused),
@@ -239,13 +213,15 @@ impl<D: Disk> Driven<D> {
             "read" => self.read(address),
             "write" => self.change(address, Some(line.numbers[1])),
             "bury" => self.change(address, None),
-            "freeze" => self.freeze(address),
-            "close" => self.close(address),
-            "truncate" => self.truncate(address),
+            "enter" => slot_told(self.log.enter()),
+            "refresh" => done_told(self.log.refresh(address as usize)),
+            "readonly" => done_told(self.log.shift_read_only(address)),
+            "head" => done_told(self.log.shift_head(address)),
+            "truncate" => done_told(self.log.truncate(address)),
             "flush" | "flush_as" | "flush_with" | "flush_short" => page_told(self.flush(line)),
             "load" => self.load(line),
-            "tail" => Told::At(self.pages.tail()),
-            "next" => Told::At(self.pages.next(address)),
+            "tail" => Told::At(self.log.tail()),
+            "next" => Told::At(self.log.next(address)),
             _ => Told::Never,
         }
     }
@@ -255,7 +231,7 @@ impl<D: Disk> Subject for Driven<D> {
     fn call(&mut self, line: &Line, out: &mut String) -> Result<(), AllocError> {
         if line.word == "entries" {
             for address in 0..line.numbers[0].min(1 << 20) {
-                if self.pages.has_entry(address) {
+                if self.log.has_entry(address) {
                     write!(out, "{address} ")?;
                 }
             }
@@ -269,7 +245,7 @@ impl<D: Disk> Subject for Driven<D> {
     }
 }
 
-/// Pages, and partition 3 of a device.
+/// A log, and partition 3 of a device.
 fn make_driven<D: Disk>(alloc: Global, mut disk: D, frames: u64) -> Result<Driven<D>, Refused> {
     let Some(size) = record_size::<Name, u64>() else {
         return Err(Refused::BadConfig);
@@ -280,28 +256,28 @@ fn make_driven<D: Disk>(alloc: Global, mut disk: D, frames: u64) -> Result<Drive
     if frames == 0 {
         return Err(Refused::BadConfig);
     }
-    let made = match Pages::new(alloc, shape, frames) {
-        Err(Refused::NoMemory) => Pages::new(alloc, shape, frames),
+    let made = match Log::new(alloc, shape, frames) {
+        Err(Refused::NoMemory) => Log::new(alloc, shape, frames),
         made => made,
     };
-    let (pages, writer, reader) = match (made, disk.writer(3), disk.reader(3)) {
-        (Ok(pages), Ok(writer), Ok(reader)) => (pages, writer, reader),
+    let (log, writer, reader) = match (made, disk.writer(3), disk.reader(3)) {
+        (Ok(log), Ok(writer), Ok(reader)) => (log, writer, reader),
         _ => return Err(Refused::NoMemory),
     };
     Ok(Driven {
         alloc,
-        pages,
+        log,
         writer,
         reader,
     })
 }
 
-/// Pages in so many frames over a device in memory.
+/// A log in so many frames over a device in memory.
 pub fn memory_calls(alloc: Global, frames: u64) -> Option<Driven<MemoryDevice>> {
     make_driven(alloc, MemoryDevice::new(alloc), frames).ok()
 }
 
-/// Pages in so many frames over files.
+/// A log in so many frames over files.
 pub fn file_calls(rt: &HostRuntime, frames: u64) -> Option<Driven<FileDevice<HostRuntime>>> {
     let own: Result<HostRuntime, AllocError> = rt.clone();
     let folder = String::from_str(rt.alloc(), "device_files/pages");
