@@ -106,7 +106,10 @@ impl<F: Mergeable, R: Receipt> Records<F, R> {
         };
         while let Some(last) = delta_at(&position) {
             parts = onto(functions, last.value, parts);
-            position = match self.log.own_first_in_page(loaded, key, last.previous, page, low) {
+            position = match self
+                .log
+                .own_first_in_page(loaded, key, last.previous, page, low)
+            {
                 Ok(position) => position,
                 Err(refused) => return Err(refused),
             };
