@@ -21,8 +21,8 @@ use Rattle.fkv_texts.specs.declared.entries.Entry.{Entry}
 use Rattle.fkv_texts.specs.declared.entries.ChainPosition.{ChainPosition}
 use Rattle.fkv_texts.specs.declared.entries.ChainPosition.TheVariants.{Found, Below}
 use Rattle.fkv_regions.specs.declared.offsets.View.{View}
-use Rattle.fkv_pages.specs.Loads.{IsReached, first_place}
-use Rattle.fkv_pages.specs.Views.{text_begin}
+use Rattle.fkv_hybrid.specs.Loads.{IsReached, first_place}
+use Rattle.fkv_hybrid.specs.Views.{text_begin}
 use Rattle.fkv_operations.specs.After.{key_of, shown_of}
 use Rattle.fkv_operations.specs.Classes.{same_class}
 use Rattle.fkv_operations.specs.declared.classes.Class.{Class}

@@ -12,8 +12,8 @@ use Rattle.fkv_device.specs.Failing.{ReadFailsBy}
 use Rattle.fkv_texts.specs.declared.entries.Entry.{Entry}
 use Rattle.fkv_texts.specs.Text.{live, newest, value_of}
 use Rattle.fkv_index.specs.Words.{address_of}
-use Rattle.fkv_pages.specs.Loads.{IsHeldBy}
-use Rattle.fkv_pages.specs.Views.{receipt_at}
+use Rattle.fkv_hybrid.specs.Loads.{IsHeldBy}
+use Rattle.fkv_hybrid.specs.Views.{receipt_at}
 use Rattle.fkv_operations.specs.After.{key_of, after, answer, shown_of}
 use Rattle.fkv_operations.specs.declared.entries.IndexEntry.{IndexEntry}
 use Rattle.fkv_operations.specs.declared.operations.KeyedOp.{KeyedOp}

@@ -9,7 +9,7 @@ use Rattle.fkv_records.specs.Places.{page_at}
 use Rattle.fkv_device.specs.Standing.{Standing}
 use Rattle.fkv_index.specs.declared.places.Place.{Place}
 use Rattle.fkv_index.specs.Places.{word_at}
-use Rattle.fkv_pages.specs.Loads.{IsHeldBy}
+use Rattle.fkv_hybrid.specs.Loads.{IsHeldBy}
 use Rattle.fkv_operations.specs.After.{key_of, after, answer}
 use Rattle.fkv_operations.specs.declared.entries.IndexEntry.{IndexEntry}
 use Rattle.fkv_operations.specs.declared.operations.KeyedOp.{KeyedOp}

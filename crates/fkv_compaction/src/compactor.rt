@@ -2,7 +2,7 @@
 ghost use Rattle.std.specs.Prelude.{◌≡◌, ◌≢◌, ◌+◌, ◌^◌, ◌<◌, ◌≤◌, ◌⊎◌, ℕ, IsTrue, IfOk, IfErr, IfSome, OnOk, OnErr, Ok, Some, None};
 ghost use Rattle.fkv_functions.specs.Plain.{Same};
 ghost use Rattle.fkv_records.specs.Places.{page_at, start_at};
-ghost use Rattle.fkv_pages.specs.Spelled.{IsEntryIn};
+ghost use Rattle.fkv_hybrid.specs.Spelled.{IsEntryIn};
 ghost use Rattle.fkv_operations.specs.declared.operations.KeyedOp.{KeyedOp};
 ghost use Rattle.fkv_operations.specs.declared.operations.Answer.TheVariants.{Cleared};
 ghost use Rattle.fkv_operations.specs.Operations.{keyed};

@@ -3,16 +3,16 @@ use Rattle.std.proofs.Common.{◌≡◌, ◌^◌, ◌*◌, ◌+◌, ◌/◌, ◌
 use Rattle.std.specs.Prelude.{IsTrue, IfSome, IfOk, Result, Ok, Err}
 use Rattle.std.proofs.lemmas.Nat.{div-add-mod'}
 use Rattle.fkv_device.specs.Standing.{Standing}
-use Rattle.fkv_pages.specs.Loads.{HasReceipt, IsHeldBy}
+use Rattle.fkv_hybrid.specs.Loads.{HasReceipt, IsHeldBy}
 use Rattle.fkv_records.specs.Places.{IsRecordStart, page_at, start_at}
 use Rattle.fkv_texts.specs.Text.{entry_at}
 use Rattle.fkv_texts.specs.Places.{tail_after}
 use Rattle.fkv_texts.proofs.PlaceLemmas.{after}
 use Rattle.fkv_regions.specs.Agree.{IsMark}
 use Rattle.fkv_regions.proofs.MoveLemmas.{mark-place, closed-flushed}
-use Rattle.fkv_pages.specs.Views.{text_begin}
-use Rattle.fkv_pages.proofs.FrameLemmas.{page_low, page_rises, start_rises}
-use Rattle.fkv_pages.proofs.PageLemmas.{begins_low}
+use Rattle.fkv_hybrid.specs.Views.{text_begin}
+use Rattle.fkv_hybrid.proofs.FrameLemmas.{page_low, page_rises, start_rises}
+use Rattle.fkv_hybrid.proofs.PageLemmas.{begins_low}
 use Rattle.fkv_hybrid.specs.Views.{LogView}
 use Rattle.fkv_hybrid.specs.Logs.{IsLogOf}
 use Rattle.fkv_hybrid.specs.Scans.{ScanView, IsScanOf}

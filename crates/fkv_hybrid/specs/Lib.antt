@@ -1,5 +1,7 @@
 pub mod Views
-pub mod Tied
+pub mod Spelled
+pub mod Pages
+pub mod Loads
 pub mod Flushes
 pub mod Logs
 pub mod Scans

@@ -6,9 +6,8 @@ use Rattle.fkv_texts.specs.Text.{entry_at, IsRising, IsFrom, IsBelow}
 use Rattle.fkv_texts.specs.Deltas.{AreValued}
 use Rattle.fkv_epoch.specs.Timely.{IsTimely}
 use Rattle.fkv_regions.specs.Agree.{IsRegions, IsMark}
-use Rattle.fkv_pages.specs.Loads.{HasReceipt}
-use Rattle.fkv_pages.specs.Views.{text_begin, receipt_at}
-use Rattle.fkv_hybrid.specs.Views.{LogView}
+use Rattle.fkv_hybrid.specs.Loads.{HasReceipt}
+use Rattle.fkv_hybrid.specs.Views.{LogView, text_begin, receipt_at}
 
 -- on a device that keeps or not, a log of records of this size
 pub record IsLogOf {K V : Type 0} (keeps : Bool) (size : ℕ) (log : LogView K V) : Type 0 where

@@ -5,7 +5,7 @@ use Rattle.fkv_functions.specs.declared.refusals.Refused.TheVariants.{Damaged, N
 use Rattle.fkv_records.specs.Places.{IsRecordStart}
 use Rattle.fkv_device.specs.Failing.{ReadFailsBy}
 use Rattle.fkv_device.specs.Standing.{Standing}
-use Rattle.fkv_pages.specs.Loads.{IsHeldBy}
+use Rattle.fkv_hybrid.specs.Loads.{IsHeldBy}
 use Rattle.fkv_hybrid.specs.Views.{LogView}
 
 -- the address of the entry that is read next, and what the receipt stands for of the page that was loaded last

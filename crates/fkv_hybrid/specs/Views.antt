@@ -1,11 +1,10 @@
 -- What a contract sees of a log.
-use Rattle.std.specs.Prelude.{◌≡◌, ◌<◌, ◌≤◌, ◌+◌, ◌^◌, ℕ, Bool, IsTrue, List, [], ◌∷◌, ◌++◌, drop, Option, Some}
+use Rattle.std.specs.Prelude.{◌≡◌, ◌<◌, ◌≤◌, ◌+◌, ◌^◌, ℕ, zero, suc, Bool, cond, IsTrue, List, [], ◌∷◌, ◌++◌, drop, Option, Some, None, unwrap_or, slice_get, nat_le}
 use Rattle.fkv_records.specs.Places.{page_at, offset_at, start_at}
 use Rattle.fkv_device.specs.Standing.{Standing}
 use Rattle.fkv_texts.specs.declared.entries.Entry.{Entry}
 use Rattle.fkv_texts.specs.Places.{tail_after}
 use Rattle.fkv_texts.specs.Text.{entry_at, changed, text_from}
-use Rattle.fkv_pages.specs.Views.{PagesView, text_begin, let_go}
 use Rattle.fkv_regions.specs.RegionsView.{RegionsView, fresh_regions, with_flushed}
 
 -- A log of pages of 2 ^ bits bytes, in so many frames and on a device. Its text has an entry at each place from `from`
@@ -23,34 +22,20 @@ pub record LogView (K V : Type 0) : Type 0 where
   pub waiting : List (List ℕ)
   pub text : List (Entry K V)
 
--- what a log of these pages and regions is seen as
-abbrev pub log_view : {K V : Type 0} → PagesView K V → RegionsView → LogView K V
-log_view pages regions = record {
-  bits = pages.bits;
-  frames = pages.frames;
-  begin = pages.begin;
-  from = pages.from;
-  tail = pages.tail;
-  regions = regions;
-  receipts = pages.receipts;
-  waiting = pages.waiting;
-  text = pages.text;
-}
+-- where the text begins: at Begin where the device keeps, else no lower than what is closed, since then nothing is
+-- known of the pages that may have left their frames
+abbrev pub text_begin : Bool → ℕ → ℕ → ℕ
+text_begin keeps begin closed = cond keeps begin (cond (nat_le begin closed) closed begin)
 
--- the pages of a log
-abbrev pub pages_of : {K V : Type 0} → LogView K V → PagesView K V
-pages_of log = record {
-  bits = log.bits;
-  frames = log.frames;
-  begin = log.begin;
-  from = log.from;
-  closed = log.regions.offsets.closed;
-  frozen = log.regions.offsets.safe_read_only;
-  tail = log.tail;
-  receipts = log.receipts;
-  waiting = log.waiting;
-  text = log.text;
-}
+-- what the receipt of a page stands for, if it is held
+abbrev pub receipt_at : List (Option Standing) → ℕ → Option Standing
+receipt_at receipts page = unwrap_or (slice_get receipts page) None
+
+-- of so many pages from page 0 on the receipts are let go
+abbrev pub let_go : ℕ → List (Option Standing) → List (Option Standing)
+let_go zero receipts = receipts
+let_go (suc n) [] = []
+let_go (suc n) (r ∷ receipts) = None ∷ let_go n receipts
 
 -- a log of no records and no sessions
 abbrev pub empty_log : {K V : Type 0} → ℕ → ℕ → LogView K V

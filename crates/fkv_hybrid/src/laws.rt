@@ -5,6 +5,7 @@ ghost use Rattle.fkv_regions.specs.RegionsView.{RegionsView};
 ghost use Rattle.fkv_hybrid.specs.Views.{LogView, with_entry, with_value, with_receipt, with_regions};
 ghost use Rattle.fkv_hybrid.specs.Views.{moved, truncated, FrozenStay};
 ghost use Rattle.fkv_hybrid.specs.WrongLogs.{AppendsItWhole, ClosesFrames, TruncatesBelow};
+ghost use Rattle.fkv_hybrid.specs.WrongLogs.{SpelledInItsPage, TakesPagesInTurn, BeginsWhereKnown, DiffersFirst, RefusesInTurn};
 
 /// No change of a log changes what is frozen: an entry is appended at the tail, which is no lower than the safe
 /// read-only offset, or gets another value at or above that offset, or a page is flushed, the regions move or Begin
@@ -40,4 +41,9 @@ pub fn wrong_logs()
     ensures appended { AppendsItWhole }
     ensures closed { ClosesFrames }
     ensures truncated { TruncatesBelow }
+    ensures spelled { SpelledInItsPage }
+    ensures pages { TakesPagesInTurn }
+    ensures begin { BeginsWhereKnown }
+    ensures differences { DiffersFirst }
+    ensures refusals { RefusesInTurn }
 {}

@@ -8,7 +8,7 @@ ghost use Rattle.fkv_records.specs.Records.{size_of};
 ghost use Rattle.fkv_device.specs.Failing.{ReadFailsBy};
 ghost use Rattle.fkv_texts.specs.Places.{tail_after};
 ghost use Rattle.fkv_texts.specs.Text.{entry_at};
-ghost use Rattle.fkv_pages.specs.Loads.{HasReceipt, IsHeldBy};
+ghost use Rattle.fkv_hybrid.specs.Loads.{HasReceipt, IsHeldBy};
 ghost use Rattle.fkv_hybrid.specs.Scans.{IsScanOf, HasPage, MayFail, IsStepRefusal};
 
 use crate::log::Log;
@@ -51,7 +51,7 @@ impl<K: Fixed, V: Fixed, R: Receipt> Log<K, V, R> {
     {
         self.known();
         Scan {
-            address: self.pages().begin(),
+            address: self.begin(),
             loaded: None,
         }
     }
@@ -91,21 +91,20 @@ impl<K: Fixed, V: Fixed, R: Receipt> Log<K, V, R> {
     {
         self.known();
         let address = scan.address;
-        let pages = self.pages();
-        let page = pages.shape().page_of(address);
-        if page >= pages.unflushed() {
-            scan.address = pages.next(address);
-            return Ok(pages.record_at(address));
+        let page = self.shape().page_of(address);
+        if page >= self.unflushed() {
+            scan.address = self.next(address);
+            return Ok(self.record_at(address));
         }
         let held = scan.loaded.take();
         let loaded = match self.turned(reader, held, page) {
             Ok(loaded) => loaded,
             Err(refused) => return Err(refused),
         };
-        match pages.own_record_in(&loaded, address) {
+        match self.own_record_in(&loaded, address) {
             Ok(entry) => {
                 scan.loaded = Some(loaded);
-                scan.address = pages.next(address);
+                scan.address = self.next(address);
                 Ok(entry)
             }
             Err(refused) => Err(refused),
@@ -159,10 +158,10 @@ impl<K: Fixed, V: Fixed, R: Receipt> Log<K, V, R> {
             → MayFail R.stands P.can_fail self.now.receipts self.now.bits page) }
     {
         self.known();
-        let receipt = match self.pages().receipt(page) {
+        let receipt = match self.receipt(page) {
             Ok(receipt) => receipt,
             Err(refused) => return Err(refused),
         };
-        Loaded::fetch(reader, &receipt, self.pages().shape().page_size())
+        Loaded::fetch(reader, &receipt, self.shape().page_size())
     }
 }

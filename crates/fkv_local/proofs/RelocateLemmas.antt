@@ -9,8 +9,8 @@ use Rattle.fkv_functions.proofs.ListLemmas.{get-set_same}
 use Rattle.fkv_records.specs.Places.{page_at}
 use Rattle.fkv_device.specs.Standing.{Standing, Joined}
 use Rattle.fkv_texts.specs.declared.entries.Entry.{Entry}
-use Rattle.fkv_pages.specs.Loads.{IsHeldBy}
-use Rattle.fkv_pages.specs.Views.{receipt_at}
+use Rattle.fkv_hybrid.specs.Loads.{IsHeldBy}
+use Rattle.fkv_hybrid.specs.Views.{receipt_at}
 use Rattle.fkv_operations.specs.declared.entries.IndexEntry.{IndexEntry}
 use Rattle.fkv_operations.specs.declared.operations.Op.TheVariants.{Relocate}
 use Rattle.fkv_operations.specs.declared.operations.Answer.{Answer}

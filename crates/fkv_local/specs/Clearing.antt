@@ -2,7 +2,7 @@
 use Rattle.std.specs.Prelude.{◌≡◌, ◌<◌, ◌≤◌, ℕ, Bool, true, false, IsTrue, List, Option, Some, None, IfSome, slice_get, option_map}
 use Rattle.fkv_records.specs.Places.{page_at, start_at}
 use Rattle.fkv_device.specs.Standing.{Standing, Joined}
-use Rattle.fkv_pages.specs.Loads.{IsHeldBy}
+use Rattle.fkv_hybrid.specs.Loads.{IsHeldBy}
 use Rattle.fkv_partition.specs.declared.contexts.Progress.{Progress}
 use Rattle.fkv_partition.specs.declared.contexts.Progress.TheVariants.{Done, Next, NeedsBuild, NeedsLoad, Waits}
 use Rattle.fkv_partition.specs.Going.{awaited}

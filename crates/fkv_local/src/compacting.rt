@@ -6,7 +6,7 @@
 ghost use Rattle.std.specs.Prelude.{◌≡◌, ◌≢◌, ◌≤◌, ◌+◌, ◌^◌, ◌<◌, IfOk, IfErr, IfSome, OnOk, IsTrue, List, Option, None, Some, option_map, false};
 ghost use Rattle.fkv_device.specs.Failing.{ReadFailsBy};
 ghost use Rattle.fkv_device.specs.Standing.{Standing};
-ghost use Rattle.fkv_pages.specs.Loads.{IsHeldBy};
+ghost use Rattle.fkv_hybrid.specs.Loads.{IsHeldBy};
 ghost use Rattle.fkv_alone.specs.Causes.{CanFailToRead, CanFailToWrite};
 ghost use Rattle.fkv_local.specs.Causing.{IsCausedBy};
 ghost use Rattle.fkv_local.specs.Clearing.{IsWanted, WantsThen, IsKeptBy, WasCut, IsAllCut, IsGivenBack};

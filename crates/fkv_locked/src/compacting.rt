@@ -2,7 +2,7 @@
 //! are operations on no key: none stands in the history, so a compactor's session has no number as a caller's has.
 ghost use Rattle.std.specs.Prelude.{◌≡◌, ◌+◌, ◌-◌, ◌^◌, ◌<◌, ◌⊎◌, ℕ, Ok, Err, Some, IfOk, IfErr, IfSome, OnOk, OnErr};
 ghost use Rattle.fkv_records.specs.Places.{page_at, start_at};
-ghost use Rattle.fkv_pages.specs.Spelled.{IsEntryIn};
+ghost use Rattle.fkv_hybrid.specs.Spelled.{IsEntryIn};
 ghost use Rattle.fkv_operations.specs.declared.operations.Answer.TheVariants.{Cleared};
 ghost use Rattle.fkv_partition.specs.Beginning.{IsFirstOpen};
 ghost use Rattle.fkv_partition.specs.Events.{Enters, Refreshes};

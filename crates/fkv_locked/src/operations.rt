@@ -1,6 +1,6 @@
 //! Operations of callers in a locked partition: each call is one event, and what it finishes is noted in the same call.
 ghost use Rattle.std.specs.Prelude.{◌≡◌, ◌≢◌, ◌+◌, ◌-◌, ◌^◌, ◌<◌, ◌≤◌, ◌⊎◌, ◌↔◌, ℕ, IsTrue, Some, Ok, Err, IfOk, IfErr, OnOk, OnErr, length, slice_index};
-ghost use Rattle.fkv_pages.specs.Spelled.{IsEntryIn};
+ghost use Rattle.fkv_hybrid.specs.Spelled.{IsEntryIn};
 ghost use Rattle.fkv_operations.specs.Operations.{op_of};
 ghost use Rattle.fkv_partition.specs.Effect.{asked, IsGiveUp};
 ghost use Rattle.fkv_partition.specs.Events.{Issues, Goes, Installs, Loads, GivesUp};

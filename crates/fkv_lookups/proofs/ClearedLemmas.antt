@@ -16,7 +16,7 @@ use Rattle.fkv_texts.proofs.LastWhere.{last_where-in}
 use Rattle.fkv_texts.proofs.TextLemmas.{live-append}
 use Rattle.fkv_texts.proofs.CoverLemmas.{covered-new}
 use Rattle.fkv_texts.proofs.PlaceLemmas.{stands, after-nearest}
-use Rattle.fkv_pages.proofs.PageLemmas.{begin_place, begins_low}
+use Rattle.fkv_hybrid.proofs.PageLemmas.{begin_place, begins_low}
 use Rattle.fkv_lookups.specs.RecordsViews.{RecordsView}
 use Rattle.fkv_lookups.specs.Traced.{IsTraced}
 use Rattle.fkv_texts.specs.Deltas.{IsSuperseded, IsCleared}

@@ -8,7 +8,7 @@ use Rattle.fkv_functions.specs.Plain.{PlainMap}
 use Rattle.fkv_records.specs.Places.{page_at}
 use Rattle.fkv_texts.specs.Places.{tail_after}
 use Rattle.fkv_texts.proofs.PlaceLemmas.{after}
-use Rattle.fkv_pages.proofs.FrameLemmas.{page_rises}
+use Rattle.fkv_hybrid.proofs.FrameLemmas.{page_rises}
 use Rattle.fkv_lookups.proofs.ScanLemmas.{IsScanned}
 use Rattle.fkv_hybrid.specs.Views.{LogView}
 use Rattle.fkv_hybrid.specs.Logs.{IsLogOf}

@@ -8,8 +8,8 @@ use Rattle.std.proofs.Math.Pow.{pow_mono}
 use Rattle.fkv_records.specs.Places.{page_at, IsShape}
 use Rattle.fkv_regions.specs.Agree.{IsMark}
 use Rattle.fkv_regions.proofs.OffsetLemmas.{starts-rise}
-use Rattle.fkv_pages.specs.Loads.{first_place}
-use Rattle.fkv_pages.proofs.FrameLemmas.{page_rises}
+use Rattle.fkv_hybrid.specs.Loads.{first_place}
+use Rattle.fkv_hybrid.proofs.FrameLemmas.{page_rises}
 use Rattle.fkv_texts.specs.declared.entries.Entry.{Entry}
 use Rattle.std.specs.declared.cmp.Ordering.{Ordering}
 use Rattle.fkv_functions.specs.Plain.{IsKeyOrder}
@@ -20,7 +20,7 @@ use Rattle.fkv_texts.specs.Deltas.{onto, risen, stood, gathered, AreValued}
 use Rattle.fkv_texts.specs.Chains.{IsIn, IsChainFrom, has_class, last_of_class, last_below, Leads, falling, leads_to, reached}
 use Rattle.fkv_texts.specs.Chains.IsChainFrom.{ends, goes}
 use Rattle.fkv_texts.proofs.CutLemmas.{filter-in, filter-one, highest, cut-rising, cut-from, cut-leads, cut-chained}
-use Rattle.fkv_pages.specs.Views.{text_begin}
+use Rattle.fkv_hybrid.specs.Views.{text_begin}
 use Rattle.fkv_texts.proofs.LastWhere.{last_where-in, last_where-found, last_where-none, none-passes}
 use Rattle.fkv_texts.proofs.ChainLemmas.{ended, met_from, meets, finds}
 use Rattle.fkv_texts.proofs.GatherLemmas.{joined_end, filter-same}

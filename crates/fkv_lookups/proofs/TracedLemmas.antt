@@ -36,8 +36,7 @@ use Rattle.fkv_lookups.specs.Traced.{AreRegionsBelow, IsTraced, IsStood}
 use Rattle.fkv_operations.proofs.ClassLemmas.{class_test, entry-set}
 use Rattle.std.specs.Prelude.{Result, Ok, Err, OnOk, OnErr}
 use Rattle.fkv_texts.proofs.CutLemmas.{cut-leads, cut-chained}
-use Rattle.fkv_pages.specs.Views.{text_begin}
-use Rattle.fkv_hybrid.specs.Views.{LogView}
+use Rattle.fkv_hybrid.specs.Views.{text_begin, LogView}
 use Rattle.fkv_hybrid.specs.Views as log
 use Rattle.fkv_hybrid.specs.Logs.{IsLogOf}
 use Rattle.fkv_lookups.specs.Inside.{view_of}

@@ -8,9 +8,8 @@ use Rattle.fkv_texts.specs.Text.{text_from}
 use Rattle.fkv_texts.specs.Chains.{has_class, last_of_class, Leads}
 use Rattle.fkv_texts.proofs.LastWhere.{last_where-in}
 use Rattle.fkv_texts.proofs.CutLemmas.{cut-leads, cut-chained, cut-from}
-use Rattle.fkv_pages.specs.Views.{text_begin}
-use Rattle.fkv_pages.proofs.PageLemmas.{begins_rise, begins_high}
-use Rattle.fkv_hybrid.specs.Views.{LogView}
+use Rattle.fkv_hybrid.specs.Views.{text_begin, LogView}
+use Rattle.fkv_hybrid.proofs.PageLemmas.{begins_rise, begins_high}
 use Rattle.fkv_hybrid.specs.Views as log
 use Rattle.fkv_hybrid.specs.Logs.{IsLogOf}
 use Rattle.fkv_index.specs.declared.words.Word.{Word}

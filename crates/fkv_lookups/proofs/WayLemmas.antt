@@ -14,10 +14,10 @@ use Rattle.fkv_texts.specs.Chains.IsChainFrom.{ends, goes}
 use Rattle.fkv_texts.specs.Deltas.{onto, stood}
 use Rattle.fkv_records.specs.Places.{page_at, IsShape}
 use Rattle.fkv_records.specs.Records.{size_of}
-use Rattle.fkv_pages.specs.Spelled.{IsEntryIn}
-use Rattle.fkv_pages.specs.Loads.{IsReached, first_place}
-use Rattle.fkv_pages.proofs.ReadLemmas.{entry_falls}
-use Rattle.fkv_pages.specs.Loads.IsReached.{below as reached_below, none as reached_none, found as reached_found, on as reached_on}
+use Rattle.fkv_hybrid.specs.Spelled.{IsEntryIn}
+use Rattle.fkv_hybrid.specs.Loads.{IsReached, first_place}
+use Rattle.fkv_hybrid.proofs.ReadLemmas.{entry_falls}
+use Rattle.fkv_hybrid.specs.Loads.IsReached.{below as reached_below, none as reached_none, found as reached_found, on as reached_on}
 use Rattle.fkv_lookups.specs.declared.chain_results.ChainResult.{ChainResult}
 use Rattle.fkv_lookups.specs.RecordsViews.{RecordsView, class_in, entry_of}
 use Rattle.fkv_lookups.specs.Traced.{IsTraced}

@@ -3,7 +3,7 @@ use Rattle.std.specs.Prelude.{◌==◌, ℕ, List, length, Option, Some, if◌th
 use Rattle.fkv_functions.specs.declared.refusals.Refused.{Refused}
 use Rattle.fkv_functions.specs.declared.refusals.Refused.TheVariants.{Stranger}
 use Rattle.fkv_functions.specs.declared.refusals.What.TheVariants.{Page}
-use Rattle.fkv_pages.specs.Flushes.{bytes_refusal}
+use Rattle.fkv_hybrid.specs.Flushes.{bytes_refusal}
 use Rattle.fkv_lookups.specs.RecordsViews.{RecordsView}
 
 -- why a page with these bytes is not taken in: another page is the lowest that is not flushed, or that one does not wait

@@ -8,7 +8,7 @@ use Rattle.fkv_texts.specs.declared.entries.ChainPosition.TheVariants.{Found, Be
 use Rattle.fkv_texts.specs.Text.{entry_at, has_key, last_of, newest, value_of, text_from}
 use Rattle.fkv_texts.specs.Chains.{falling, leads_to, reached}
 use Rattle.fkv_texts.specs.Deltas.{onto, gathered}
-use Rattle.fkv_pages.specs.Loads.{IsReached}
+use Rattle.fkv_hybrid.specs.Loads.{IsReached}
 use Rattle.fkv_operations.specs.Classes.{same_class}
 use Rattle.fkv_lookups.specs.declared.chain_results.ChainResult.{ChainResult}
 use Rattle.fkv_lookups.specs.RecordsViews.{RecordsView, class_in}

@@ -4,8 +4,7 @@ use Rattle.std.specs.Prelude.{drop, replicate, map}
 use Rattle.std.specs.declared.cmp.Ordering.{Ordering}
 use Rattle.fkv_records.specs.Places.{page_at, offset_at, start_at}
 use Rattle.fkv_device.specs.Standing.{Standing}
-use Rattle.fkv_pages.specs.Views.{text_begin, let_go}
-use Rattle.fkv_hybrid.specs.Views.{LogView}
+use Rattle.fkv_hybrid.specs.Views.{text_begin, let_go, LogView}
 use Rattle.fkv_texts.specs.declared.entries.Entry.{Entry}
 use Rattle.fkv_texts.specs.Places.{tail_after}
 use Rattle.fkv_texts.specs.Text.{changed, text_from}

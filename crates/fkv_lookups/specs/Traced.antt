@@ -1,8 +1,8 @@
 -- What the records of a partition always keep: each record leads to the one before it in its class, and the entry of a
 -- class to the last; and the views of the sessions agree with the offsets of the log.
 use Rattle.std.specs.Prelude.{◌≡◌, ◌^◌, ◌<◌, ◌≤◌, ℕ, Bool, None, length}
-use Rattle.fkv_pages.specs.Loads.{HasReceipt}
-use Rattle.fkv_pages.specs.Views.{text_begin, receipt_at}
+use Rattle.fkv_hybrid.specs.Loads.{HasReceipt}
+use Rattle.fkv_hybrid.specs.Views.{text_begin, receipt_at}
 use Rattle.fkv_records.specs.Places.{IsShape, page_at}
 use Rattle.fkv_records.specs.Records.{IsPrevious}
 use Rattle.fkv_texts.specs.Places.{IsLaidOut}

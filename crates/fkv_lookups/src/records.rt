@@ -162,7 +162,7 @@ impl<F: Mergeable, R: Receipt> Records<F, R> {
         ensures { result ≡ newest_above F.Key.cmp F.code self.now low key.now entry }
     {
         chains::<F::Key, F::Value, Class>();
-        self.log.pages().first_on_chain(key, entry, low)
+        self.log.first_on_chain(key, entry, low)
     }
 
     /// What a look-up of a key comes to that reads no lower than an address: from its last record there
@@ -185,7 +185,7 @@ impl<F: Mergeable, R: Receipt> Records<F, R> {
         let mut position = first;
         while let Some(last) = delta_at(&position) {
             parts = onto(functions, last.value, parts);
-            position = self.log.pages().first_on_chain(key, last.previous, low);
+            position = self.log.first_on_chain(key, last.previous, low);
         }
         ChainResult { parts, position }
     }
@@ -243,7 +243,7 @@ impl<F: Mergeable, R: Receipt> Records<F, R> {
 
     /// Appends a record of a key, behind the last of the key's class, and moves the class's entry to it: a value, a
     /// tombstone, or a part, which is joined with what the key has. Answers the record's
-    /// address, or `None` where there is no room for one ([`fkv_pages::Pages::is_full`]), and then nothing changes. No memory is
+    /// address, or `None` where there is no room for one ([`fkv_hybrid::Log::is_full`]), and then nothing changes. No memory is
     /// taken. Refused, and then nothing changes: `Worn` where no address is left.
     pub fn append(
         &mut self,
@@ -268,7 +268,7 @@ impl<F: Mergeable, R: Receipt> Records<F, R> {
     {
         chains::<F::Key, F::Value, Class>();
         self.log.known();
-        let address = self.log.pages().tail();
+        let address = self.log.tail();
         match self
             .log
             .append(entry.address(), key, payload.value(), payload.is_part())
@@ -286,7 +286,7 @@ impl<F: Mergeable, R: Receipt> Records<F, R> {
     pub fn begin(&self) -> Address
         ensures { result ≡ self.now.begin }
     {
-        self.log.pages().begin()
+        self.log.begin()
     }
 
     /// The log of the records.

@@ -21,9 +21,9 @@ use Rattle.fkv_texts.specs.declared.entries.ChainPosition.{ChainPosition}
 use Rattle.fkv_texts.specs.declared.entries.ChainPosition.TheVariants.{Found, Below}
 use Rattle.fkv_texts.specs.Text.{has_key, last_of}
 use Rattle.fkv_texts.proofs.LastWhere.{last_where-found}
-use Rattle.fkv_pages.specs.Loads.{HasReceipt, first_place}
-use Rattle.fkv_pages.proofs.FrameLemmas.{page_rises}
-use Rattle.fkv_pages.proofs.ReceiptLemmas.{receipt-within}
+use Rattle.fkv_hybrid.specs.Loads.{HasReceipt, first_place}
+use Rattle.fkv_hybrid.proofs.FrameLemmas.{page_rises}
+use Rattle.fkv_hybrid.proofs.ReceiptLemmas.{receipt-within}
 use Rattle.fkv_operations.specs.After.{key_of}
 use Rattle.fkv_operations.specs.declared.operations.KeyedOp.{KeyedOp}
 use Rattle.fkv_operations.specs.declared.operations.Answer.{Answer}

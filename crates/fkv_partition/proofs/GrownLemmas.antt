@@ -8,7 +8,7 @@ use Rattle.fkv_records.proofs.PlaceLemmas.{next_start}
 use Rattle.std.specs.declared.cmp.Ordering.{Ordering}
 use Rattle.fkv_records.specs.Places.{behind, end_at}
 use Rattle.fkv_device.specs.Standing.{Standing}
-use Rattle.fkv_pages.specs.Views.{text_begin}
+use Rattle.fkv_hybrid.specs.Views.{text_begin}
 use Rattle.fkv_regions.specs.Agree.{IsInOrder, IsRaised}
 use Rattle.fkv_regions.specs.RegionsView.{RegionsView}
 use Rattle.fkv_texts.specs.declared.entries.Entry.{Entry}

@@ -8,7 +8,7 @@ use Rattle.fkv_texts.specs.declared.entries.Entry.{Entry}
 use Rattle.fkv_texts.specs.Places.{IsLaidOut, tail_after}
 use Rattle.fkv_texts.specs.Text.{entry_at}
 use Rattle.fkv_texts.proofs.PlaceLemmas.{entry_there}
-use Rattle.fkv_pages.proofs.PageLemmas.{begin_place, begins_low}
+use Rattle.fkv_hybrid.proofs.PageLemmas.{begin_place, begins_low}
 use Rattle.fkv_lookups.specs.RecordsViews.{RecordsView}
 use Rattle.fkv_lookups.specs.Traced.{IsTraced}
 

@@ -7,7 +7,7 @@ use Rattle.std.specs.declared.cmp.Ordering.{Ordering}
 use Rattle.fkv_records.specs.Places.{IsShape, IsRecordStart, first}
 use Rattle.fkv_regions.specs.Agree.{IsMark}
 use Rattle.fkv_regions.proofs.MoveLemmas.{mark-place}
-use Rattle.fkv_pages.specs.Views.{text_begin}
+use Rattle.fkv_hybrid.specs.Views.{text_begin}
 use Rattle.fkv_texts.specs.declared.entries.Entry.{Entry}
 use Rattle.fkv_texts.specs.Places.{tail_after, IsLaidOut}
 use Rattle.fkv_texts.specs.Text.{has_key}

@@ -18,9 +18,9 @@ use Rattle.fkv_texts.specs.declared.entries.ChainPosition.TheVariants.{Below}
 use Rattle.fkv_texts.specs.Text.{newest, value_of}
 use Rattle.fkv_texts.specs.Deltas.{onto, AreDeltasBetween}
 use Rattle.fkv_lookups.specs.declared.chain_results.ChainResult.{ChainResult}
-use Rattle.fkv_pages.specs.Views.{text_begin, receipt_at}
-use Rattle.fkv_pages.specs.Loads.{HasReceipt, IsHeldBy, IsReached, first_place}
-use Rattle.fkv_pages.proofs.FrameLemmas.{page_rises}
+use Rattle.fkv_hybrid.specs.Views.{text_begin, receipt_at}
+use Rattle.fkv_hybrid.specs.Loads.{HasReceipt, IsHeldBy, IsReached, first_place}
+use Rattle.fkv_hybrid.proofs.FrameLemmas.{page_rises}
 use Rattle.fkv_operations.specs.After.{key_of, shown_of}
 use Rattle.fkv_operations.specs.declared.operations.KeyedOp.{KeyedOp}
 use Rattle.fkv_operations.specs.declared.operations.KeyedOp.TheVariants.{Read, Upsert, Rmw, Delete, Merge}

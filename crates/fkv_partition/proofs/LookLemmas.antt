@@ -7,7 +7,7 @@ use Rattle.fkv_texts.specs.declared.entries.Entry.{Entry}
 use Rattle.fkv_texts.specs.Text.{entry_at}
 use Rattle.fkv_texts.proofs.LastWhere.{last_where-found}
 use Rattle.fkv_lookups.proofs.TracedLemmas.{raw, traced-raw}
-use Rattle.fkv_pages.specs.Loads.{HasReceipt}
+use Rattle.fkv_hybrid.specs.Loads.{HasReceipt}
 use Rattle.fkv_partition.specs.CoreSound.{IsSound}
 use Rattle.fkv_partition.proofs.DecidedLemmas.{page_flushed}
 use Rattle.fkv_partition.specs.declared.relocations.Relocation.{Relocation}

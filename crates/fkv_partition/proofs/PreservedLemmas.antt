@@ -9,7 +9,7 @@ use Rattle.fkv_functions.specs.declared.asks.Ask.{Ask}
 use Rattle.fkv_functions.specs.declared.refusals.Refused.{Refused}
 use Rattle.fkv_records.specs.Places.{start_at}
 use Rattle.fkv_device.specs.Standing.{Standing, Joined}
-use Rattle.fkv_pages.specs.Views.{text_begin}
+use Rattle.fkv_hybrid.specs.Views.{text_begin}
 use Rattle.fkv_epoch.specs.Timely.{IsOrdered}
 use Rattle.fkv_regions.specs.declared.offsets.Offsets.{Offsets}
 use Rattle.fkv_regions.specs.Agree.{IsRaised}
@@ -43,7 +43,7 @@ use Rattle.fkv_texts.specs.Deltas.{IsCleared}
 use Rattle.fkv_lookups.specs.declared.payloads.Payload.{Payload}
 use Rattle.fkv_lookups.specs.declared.payloads.Payload.TheVariants.{Whole}
 use Rattle.fkv_lookups.specs.Payloads.{value_in, is_part, standing}
-use Rattle.fkv_pages.proofs.ReceiptLemmas.{more-left, receipt-within, let_go-high}
+use Rattle.fkv_hybrid.proofs.ReceiptLemmas.{more-left, receipt-within, let_go-high}
 use Rattle.fkv_records.specs.Places.{page_at}
 use Rattle.fkv_partition.specs.declared.changes.Write.{Write}
 use Rattle.fkv_partition.specs.declared.contexts.Context.{Context}

@@ -14,9 +14,9 @@ use Rattle.fkv_texts.specs.declared.entries.Entry.{Entry}
 use Rattle.fkv_texts.specs.Places.{IsLaidOut, tail_after}
 use Rattle.fkv_texts.specs.Text.{entry_at}
 use Rattle.fkv_texts.proofs.PlaceLemmas.{entry_there, entry_stands}
-use Rattle.fkv_pages.specs.Views.{text_begin, receipt_at}
-use Rattle.fkv_pages.specs.Loads.{HasReceipt}
-use Rattle.fkv_pages.proofs.PageLemmas.{begin_place, begins_low}
+use Rattle.fkv_hybrid.specs.Views.{text_begin, receipt_at}
+use Rattle.fkv_hybrid.specs.Loads.{HasReceipt}
+use Rattle.fkv_hybrid.proofs.PageLemmas.{begin_place, begins_low}
 use Rattle.fkv_lookups.specs.RecordsViews.{RecordsView}
 use Rattle.fkv_lookups.specs.Traced.{IsTraced}
 use Rattle.fkv_lookups.proofs.TracedLemmas.{raw, traced-raw}

@@ -8,7 +8,7 @@ use Rattle.std.specs.declared.cmp.Ordering.{Ordering}
 use Rattle.fkv_texts.specs.declared.entries.Entry.{Entry}
 use Rattle.std.proofs.Common.{Bool, nat_le}
 use Rattle.fkv_device.specs.Standing.{Standing}
-use Rattle.fkv_pages.specs.Views.{text_begin}
+use Rattle.fkv_hybrid.specs.Views.{text_begin}
 use Rattle.fkv_regions.specs.Agree.{IsRaised}
 use Rattle.fkv_texts.specs.Text.{newest}
 use Rattle.fkv_texts.proofs.CutLemmas.{filter-in}

@@ -14,8 +14,8 @@ use Rattle.fkv_texts.specs.Text.{entry_at, has_key, newest, last_of, value_of}
 use Rattle.fkv_texts.specs.Chains.{IsIn}
 use Rattle.fkv_texts.specs.Deltas.{onto, IsSuperseded}
 use Rattle.fkv_texts.proofs.CoverLemmas.{cleared-lower}
-use Rattle.fkv_pages.specs.Loads.{HasReceipt, IsHeldBy, first_place}
-use Rattle.fkv_pages.proofs.FrameLemmas.{page_rises}
+use Rattle.fkv_hybrid.specs.Loads.{HasReceipt, IsHeldBy, first_place}
+use Rattle.fkv_hybrid.proofs.FrameLemmas.{page_rises}
 use Rattle.fkv_index.specs.Words.{address_of}
 use Rattle.fkv_index.specs.Places.{word_at}
 use Rattle.fkv_lookups.specs.declared.chain_results.ChainResult.{ChainResult}

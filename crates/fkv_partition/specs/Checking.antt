@@ -9,7 +9,7 @@ use Rattle.fkv_texts.specs.declared.entries.Entry.{Entry}
 use Rattle.fkv_texts.specs.declared.entries.ChainPosition.{ChainPosition}
 use Rattle.fkv_texts.specs.declared.entries.ChainPosition.TheVariants.{Found, Below}
 use Rattle.fkv_texts.specs.Deltas.{onto}
-use Rattle.fkv_pages.specs.Loads.{IsHeldBy}
+use Rattle.fkv_hybrid.specs.Loads.{IsHeldBy}
 use Rattle.fkv_lookups.specs.declared.chain_results.ChainResult.{ChainResult}
 use Rattle.fkv_lookups.specs.Decisions.{low_of}
 use Rattle.fkv_index.specs.Places.{word_at}

@@ -10,7 +10,7 @@ use Rattle.fkv_functions.specs.declared.refusals.Refused.TheVariants.{Unknown, N
 use Rattle.fkv_operations.specs.After.{key_of}
 use Rattle.fkv_records.specs.Places.{page_at}
 use Rattle.fkv_device.specs.Standing.{Standing}
-use Rattle.fkv_pages.specs.Loads.{IsHeldBy}
+use Rattle.fkv_hybrid.specs.Loads.{IsHeldBy}
 use Rattle.fkv_index.specs.declared.places.Place.{Place}
 use Rattle.fkv_index.specs.Words.{is_empty}
 use Rattle.fkv_index.specs.Places.{words_of}

@@ -12,7 +12,7 @@ use Rattle.fkv_device.specs.Failing.{ReadFailsBy}
 use Rattle.fkv_texts.specs.declared.entries.Entry.{Entry}
 use Rattle.fkv_texts.specs.declared.entries.ChainPosition.TheVariants.{Found, Below}
 use Rattle.fkv_texts.specs.Deltas.{onto}
-use Rattle.fkv_pages.specs.Loads.{IsHeldBy, first_place}
+use Rattle.fkv_hybrid.specs.Loads.{IsHeldBy, first_place}
 use Rattle.fkv_lookups.specs.declared.chain_results.ChainResult.{ChainResult}
 use Rattle.fkv_lookups.specs.Lookups.{ComesToInPage}
 use Rattle.fkv_operations.specs.After.{key_of, shown_of}

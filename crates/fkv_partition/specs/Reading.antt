@@ -9,7 +9,7 @@ use Rattle.fkv_records.specs.Places.{page_at, IsRecordStart}
 use Rattle.fkv_device.specs.Standing.{Standing, Joined}
 use Rattle.fkv_texts.specs.declared.entries.Entry.{Entry}
 use Rattle.fkv_texts.specs.declared.entries.ChainPosition.TheVariants.{Below}
-use Rattle.fkv_pages.specs.Loads.{IsHeldBy, first_place}
+use Rattle.fkv_hybrid.specs.Loads.{IsHeldBy, first_place}
 use Rattle.fkv_lookups.specs.declared.chain_results.ChainResult.{ChainResult}
 use Rattle.fkv_lookups.specs.Lookups.{ComesToInPage}
 use Rattle.fkv_partition.specs.CoreLoading.{ReadsBy}

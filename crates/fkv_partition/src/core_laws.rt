@@ -6,7 +6,7 @@ ghost use Rattle.fkv_functions.specs.Plain.{IsKeyOrder};
 ghost use Rattle.fkv_functions.specs.declared.asks.Ask.{Ask};
 ghost use Rattle.fkv_functions.specs.declared.refusals.Refused.{Refused};
 ghost use Rattle.fkv_device.specs.Standing.{Standing, Joined};
-ghost use Rattle.fkv_pages.specs.Spelled.{IsEntryIn};
+ghost use Rattle.fkv_hybrid.specs.Spelled.{IsEntryIn};
 ghost use Rattle.fkv_operations.specs.After.{is_merge};
 ghost use Rattle.fkv_partition.specs.declared.contexts.Progress.{Progress};
 ghost use Rattle.fkv_partition.specs.CoreViews.{CoreView, context_at};

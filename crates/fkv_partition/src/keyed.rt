@@ -1,6 +1,6 @@
 //! Events of operations on keys: they are the core's, and leave relocations and what is cleared.
 ghost use Rattle.std.specs.Prelude.{◌≡◌, ◌≢◌, ◌+◌, ◌<◌, ◌≤◌, ℕ, None, Err, IsTrue, IfOk, OnOk, OnErr};
-ghost use Rattle.fkv_pages.specs.Spelled.{IsEntryIn};
+ghost use Rattle.fkv_hybrid.specs.Spelled.{IsEntryIn};
 ghost use Rattle.fkv_hybrid.specs.Scans.{MayFail};
 ghost use Rattle.fkv_partition.specs.CoreGoing.{Goes};
 ghost use Rattle.fkv_partition.specs.CoreInstalling.{Installs};

@@ -6,7 +6,7 @@ ghost use Rattle.fkv_functions.specs.Meanings.{Meanings};
 ghost use Rattle.fkv_functions.specs.declared.asks.Ask.{Ask};
 ghost use Rattle.fkv_functions.specs.declared.refusals.Refused.{Refused};
 ghost use Rattle.fkv_device.specs.Standing.{Standing, Joined};
-ghost use Rattle.fkv_pages.specs.Spelled.{IsEntryIn};
+ghost use Rattle.fkv_hybrid.specs.Spelled.{IsEntryIn};
 ghost use Rattle.fkv_texts.specs.Text.{last_of};
 ghost use Rattle.fkv_lookups.specs.RecordsViews.{class_in, IsEntryOf};
 ghost use Rattle.fkv_operations.specs.declared.entries.IndexEntry.{IndexEntry};

@@ -2,8 +2,8 @@
 ghost use Rattle.std.specs.Prelude.{◌≡◌, ◌≢◌, ◌+◌, ◌<◌, ◌≤◌, ◌↔◌, ℕ, Some, None, Ok, Err, IsTrue, IfOk, IfErr, OnOk, OnErr};
 ghost use Rattle.fkv_records.specs.Places.{page_at};
 ghost use Rattle.fkv_device.specs.Failing.{ReadFailsBy};
-ghost use Rattle.fkv_pages.specs.Spelled.{IsEntryIn};
-ghost use Rattle.fkv_pages.specs.Loads.{HasReceipt, IsHeldBy};
+ghost use Rattle.fkv_hybrid.specs.Spelled.{IsEntryIn};
+ghost use Rattle.fkv_hybrid.specs.Loads.{HasReceipt, IsHeldBy};
 ghost use Rattle.fkv_hybrid.specs.Scans.{MayFail};
 ghost use Rattle.fkv_operations.specs.After.{key_of, shown_of};
 ghost use Rattle.fkv_operations.specs.declared.operations.KeyedOp.TheVariants.{Read, Rmw};
@@ -154,11 +154,7 @@ impl<F: Mergeable, R: Receipt> Core<F, R> {
             Err(refused) => return Err(refused),
             Ok(receipt) => receipt,
         };
-        Loaded::fetch(
-            reader,
-            &receipt,
-            self.records.log().pages().shape().page_size(),
-        )
+        Loaded::fetch(reader, &receipt, self.records.log().shape().page_size())
     }
 
     /// Takes a page that came for an operation, where it is the one that is kept.

@@ -1,8 +1,8 @@
 //! Operations: on keys, which are the core's, and relocations. Each stands in a context of a session from its issue on, and
 //! goes on by events of its own session.
 ghost use Rattle.std.specs.Prelude.{◌≡◌, ◌≢◌, ◌+◌, ◌<◌, ◌≤◌, ◌⊎◌, ℕ, IsTrue, None, Ok, Err, IfOk, IfErr, IfSome, IsSome, OnOk, OnErr};
-ghost use Rattle.fkv_pages.specs.Loads.{IsHeldBy};
-ghost use Rattle.fkv_pages.specs.Spelled.{IsEntryIn};
+ghost use Rattle.fkv_hybrid.specs.Loads.{IsHeldBy};
+ghost use Rattle.fkv_hybrid.specs.Spelled.{IsEntryIn};
 ghost use Rattle.fkv_hybrid.specs.Scans.{MayFail};
 ghost use Rattle.fkv_operations.specs.declared.operations.Answer.TheVariants.{Cleared};
 ghost use Rattle.fkv_operations.specs.declared.operations.Op.TheVariants.{Relocate};

@@ -5,8 +5,8 @@ ghost use Rattle.std.specs.Map.{lookup, keys_of};
 ghost use Rattle.std.specs.List.Sorted.{IsStrictlySortedBy};
 ghost use Rattle.fkv_records.specs.Places.{page_at, start_at};
 ghost use Rattle.fkv_device.specs.Standing.{Standing};
-ghost use Rattle.fkv_pages.specs.Spelled.{IsPageOf};
-ghost use Rattle.fkv_pages.specs.Loads.{IsHeldBy};
+ghost use Rattle.fkv_hybrid.specs.Spelled.{IsPageOf};
+ghost use Rattle.fkv_hybrid.specs.Loads.{IsHeldBy};
 ghost use Rattle.fkv_functions.specs.Plain.{Same};
 ghost use Rattle.fkv_hybrid.specs.Scans.{IsScanRefusal, MayFail};
 ghost use Rattle.fkv_lookups.specs.Overlays.{with_text, HasFront};
@@ -69,7 +69,7 @@ impl<F: Mergeable, R: Receipt> Partition<F, R> {
     pub fn unflushed(&self) -> u64
         ensures { result ≡ length self.now.core.records.receipts }
     {
-        self.core.records().log().pages().unflushed()
+        self.core.records().log().unflushed()
     }
 
     /// What holds of all pages that are kept or wait. It does nothing when it runs.
@@ -104,7 +104,7 @@ impl<F: Mergeable, R: Receipt> Partition<F, R> {
         ensures unchanged { OnErr result (self.new ≡ self.old) }
         ensures moment { self.new.core.moment ≤ now }
     {
-        let job = match self.core.records().log().pages().flush_take(alloc) {
+        let job = match self.core.records().log().flush_take(alloc) {
             Err(refused) => return Err(refused),
             Ok(job) => job,
         };

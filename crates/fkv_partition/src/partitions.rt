@@ -108,7 +108,7 @@ impl<F: Mergeable, R: Receipt> Partition<F, R> {
     pub fn tail(&self) -> Address
         ensures { result ≡ self.now.core.records.tail }
     {
-        self.core.records().log().pages().tail()
+        self.core.records().log().tail()
     }
 
     /// Head: records below it are read from the device by sessions that are refreshed from now on.
@@ -123,14 +123,14 @@ impl<F: Mergeable, R: Receipt> Partition<F, R> {
         ensures value { result ≡ self.now.core.records.frames }
         ensures some { 0 < result }
     {
-        self.core.records().log().pages().frame_count()
+        self.core.records().log().frame_count()
     }
 
     /// The bytes of a page.
     pub fn page_size(&self) -> usize
         ensures { result ≡ 2 ^ self.now.core.records.page_bits }
     {
-        self.core.records().log().pages().shape().page_size()
+        self.core.records().log().shape().page_size()
     }
 
     /// The number of the partition.

@@ -8,7 +8,7 @@ ghost use Rattle.fkv_functions.specs.declared.asks.Ask.{Ask};
 ghost use Rattle.fkv_functions.specs.declared.refusals.Refused.{Refused};
 ghost use Rattle.fkv_records.specs.Places.{start_at};
 ghost use Rattle.fkv_device.specs.Standing.{Standing, Joined};
-ghost use Rattle.fkv_pages.specs.Spelled.{IsEntryIn};
+ghost use Rattle.fkv_hybrid.specs.Spelled.{IsEntryIn};
 ghost use Rattle.fkv_operations.specs.declared.operations.KeyedOp.{KeyedOp};
 ghost use Rattle.fkv_lookups.specs.RecordsViews.{IsTruncationDue};
 ghost use Rattle.fkv_texts.specs.Deltas.{IsCleared};

@@ -1,8 +1,8 @@
 //! What a relocation does with the page that it waited for.
 ghost use Rattle.std.specs.Prelude.{◌≡◌, ◌≢◌, ◌+◌, ◌<◌, ◌≤◌, ℕ, IsTrue, IfOk, IfSome, Ok, Err, length};
 ghost use Rattle.fkv_records.specs.Places.{page_at};
-ghost use Rattle.fkv_pages.specs.Loads.{IsHeldBy};
-ghost use Rattle.fkv_pages.specs.Spelled.{IsEntryIn};
+ghost use Rattle.fkv_hybrid.specs.Loads.{IsHeldBy};
+ghost use Rattle.fkv_hybrid.specs.Spelled.{IsEntryIn};
 ghost use Rattle.fkv_hybrid.specs.Scans.{MayFail};
 ghost use Rattle.fkv_partition.specs.declared.relocations.Stage.TheVariants.{Reading, Tracing};
 ghost use Rattle.fkv_partition.specs.Views.{relocation_at};

@@ -1,7 +1,7 @@
 //! What a relocation does when it goes on.
 ghost use Rattle.std.specs.Prelude.{◌≡◌, ◌<◌, ◌≤◌, IsSome, IfOk, IfErr, IfSome, OnErr, Ok, Some};
 ghost use Rattle.fkv_records.specs.Places.{page_at};
-ghost use Rattle.fkv_pages.specs.Loads.{HasReceipt};
+ghost use Rattle.fkv_hybrid.specs.Loads.{HasReceipt};
 ghost use Rattle.fkv_partition.specs.declared.relocations.Stage.TheVariants.{Fresh, Tracing, Ready};
 ghost use Rattle.fkv_partition.specs.Views.{relocation_at, with_relocation, at_stage};
 ghost use Rattle.fkv_partition.specs.Stages.{StageStands};

@@ -6,7 +6,7 @@ use Rattle.fkv_functions.specs.declared.names.Name.{Name}
 use Rattle.fkv_texts.specs.declared.entries.Entry.{Entry}
 use Rattle.fkv_device.specs.Standing.{Standing}
 use Rattle.fkv_device.specs.declared.memory.MemoryReceipt.{MemoryReceipt}
-use Rattle.fkv_pages.specs.Spelled.{IsEntryIn}
+use Rattle.fkv_hybrid.specs.Spelled.{IsEntryIn}
 
 -- what a receipt of the device in memory stands for: the page that it shares
 abbrev pub standing_of : MemoryReceipt → Standing

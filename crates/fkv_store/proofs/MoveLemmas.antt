@@ -7,7 +7,7 @@ use Rattle.fkv_functions.specs.declared.refusals.Refused.TheVariants.{NoMemory, 
 use Rattle.fkv_functions.specs.declared.refusals.What.TheVariants as what
 use Rattle.fkv_device.specs.Failing.{FailsOnlyBy}
 use Rattle.fkv_device.specs.Standing.{Standing}
-use Rattle.fkv_pages.specs.Flushes.{first_difference, difference, bytes_refusal}
+use Rattle.fkv_hybrid.specs.Flushes.{first_difference, difference, bytes_refusal}
 use Rattle.fkv_lookups.specs.RecordsViews.{RecordsView}
 use Rattle.fkv_lookups.specs.Flushes.{flush_refusal}
 use Rattle.fkv_partition.specs.CoreBeginning as beginning

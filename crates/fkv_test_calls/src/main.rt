@@ -10,8 +10,8 @@ mod frames;
 mod hex;
 mod index;
 mod lines;
+mod logs;
 mod names;
-mod pages;
 mod records;
 mod regions;
 mod shapes;
@@ -19,8 +19,8 @@ mod shapes;
 use crate::frames::FrameCalls;
 use crate::index::index_of;
 use crate::lines::{Line, Subject, make_calls};
+use crate::logs::{file_calls, memory_calls};
 use crate::names::NameCalls;
-use crate::pages::{file_calls, memory_calls};
 use crate::records::RecordCalls;
 use crate::regions::small_regions;
 use crate::shapes::ShapeCalls;
@@ -45,8 +45,8 @@ fn answer(rt: &HostRuntime, part: &str, out: &mut String) -> Result<(), AllocErr
         "regions" => on(small_regions(), calls, out),
         "frames" => on(FrameCalls::new(rt.alloc(), line.numbers[0]), calls, out),
         "index" => on(index_of(rt.alloc(), line.numbers[0]), calls, out),
-        "pages" => on(memory_calls(rt.alloc(), line.numbers[0]), calls, out),
-        "pages_in_files" => on(file_calls(rt, line.numbers[0]), calls, out),
+        "log" => on(memory_calls(rt.alloc(), line.numbers[0]), calls, out),
+        "log_in_files" => on(file_calls(rt, line.numbers[0]), calls, out),
         "names" => on(Some(NameCalls::new(rt.alloc())), calls, out),
         "records" => on(Some(RecordCalls::new(rt.alloc())), calls, out),
         "shapes" => on(Some(ShapeCalls), calls, out),

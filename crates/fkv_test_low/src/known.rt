@@ -5,15 +5,15 @@ ghost use Rattle.fkv_records.specs.Records.{size_of, IsRecord};
 use fkv_device::MemoryReceipt;
 use fkv_epoch::Epochs;
 use fkv_functions::{Fixed, Name};
-use fkv_pages::Pages;
+use fkv_hybrid::Log;
 use fkv_records::{Damaged, Record, Shape, read_record, write_record};
 use fkv_regions::Regions;
 
 /// In memory the text begins at Begin.
-fn is_whole(pages: &Pages<Name, u64, MemoryReceipt>)
-    ensures { pages.now.from ≡ pages.now.begin }
+fn is_whole(log: &Log<Name, u64, MemoryReceipt>)
+    ensures { log.now.from ≡ log.now.begin }
 {
-    pages.known();
+    log.known();
 }
 
 /// What was written is read, at any type.
@@ -43,11 +43,11 @@ fn what_is_known_at_any_time(rt: HostRuntime) {
             delta: true,
         };
         assert!(rt; read_back(65, &last, &mut [1u8; 48]) == Ok(last));
-        let pages = Pages::new(rt.alloc(), shape, 2);
+        let log = Log::new(rt.alloc(), shape, 2);
         assert!(rt;
-            pages.is_ok_and(|pages| {
-                is_whole(&pages);
-                pages.tail() == 64
+            log.is_ok_and(|log| {
+                is_whole(&log);
+                log.tail() == 64
             })
         );
     }
@@ -61,12 +61,11 @@ fn laws_are_called() {
     fkv_epoch::laws::seen_first();
     fkv_regions::laws::by_region();
     fkv_regions::laws::closed_place();
-    fkv_pages::laws::wrong_pages();
-    fkv_pages::laws::frozen_stay::<u64, u64>();
     fkv_texts::laws::wrong_texts();
     fkv_texts::laws::cut::<u64, u64, u64>();
     fkv_texts::laws::parts::<u64, u64>();
     fkv_texts::laws::changed::<Name, u64>();
     fkv_texts::laws::changed_chains::<Name, u64, u64>();
+    fkv_hybrid::laws::wrong_logs();
     fkv_hybrid::laws::frozen_stay::<Name, u64>();
 }

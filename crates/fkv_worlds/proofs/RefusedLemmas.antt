@@ -12,7 +12,7 @@ use Rattle.fkv_texts.specs.declared.entries.Entry.{Entry}
 use Rattle.fkv_operations.specs.declared.operations.Op.{Op}
 use Rattle.fkv_operations.specs.declared.operations.KeyedOp.{KeyedOp}
 use Rattle.fkv_operations.specs.declared.entries.IndexEntry.{IndexEntry}
-use Rattle.fkv_pages.specs.Flushes.{difference, bytes_refusal}
+use Rattle.fkv_hybrid.specs.Flushes.{difference, bytes_refusal}
 use Rattle.fkv_lookups.specs.RecordsViews.{RecordsView}
 use Rattle.fkv_lookups.specs.Flushes.{flush_refusal}
 use Rattle.fkv_records.specs.Places.{page_at}

@@ -1,6 +1,6 @@
 //! The steps that reach the device: a page is taken, written and read.
 ghost use Rattle.std.specs.Prelude.{◌≡◌, ◌+◌, ◌*◌, ◌<◌, ◌≤◌, false, length, Some, IsSome};
-ghost use Rattle.fkv_pages.specs.Spelled.{IsEntryIn};
+ghost use Rattle.fkv_hybrid.specs.Spelled.{IsEntryIn};
 ghost use Rattle.fkv_worlds.specs.States.{receipt_in, is_unasked};
 ghost use Rattle.fkv_lives.specs.Told.{ends_operation};
 ghost use Rattle.fkv_worlds.specs.Acts.{Acts};

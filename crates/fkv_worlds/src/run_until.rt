@@ -1,6 +1,6 @@
 //! Steps that are repeated until an operation is where it is wanted.
 ghost use Rattle.std.specs.Prelude.{◌≡◌};
-ghost use Rattle.fkv_pages.specs.Spelled.{IsEntryIn};
+ghost use Rattle.fkv_hybrid.specs.Spelled.{IsEntryIn};
 ghost use Rattle.fkv_worlds.specs.declared.run_until.Until.TheVariants.{Ready, Finish};
 ghost use Rattle.fkv_worlds.specs.Headline.{IsHeadline};
 ghost use Rattle.fkv_worlds.specs.Reports.{follows, first_step, RunsUntil, IsRunUntil};

@@ -7,7 +7,7 @@ ghost use Rattle.fkv_worlds.specs.States.{empty_partitions, empty_state, questio
 ghost use Rattle.fkv_worlds.specs.Sound.{IsState};
 ghost use Rattle.fkv_worlds.specs.Worlds.{asked_in};
 ghost use Rattle.fkv_worlds.specs.Reports.{awaits_at};
-ghost use Rattle.fkv_pages.specs.Spelled.{IsEntryIn};
+ghost use Rattle.fkv_hybrid.specs.Spelled.{IsEntryIn};
 ghost use Rattle.fkv_worlds.specs.declared.flush_slots.FlushSlot.{FlushSlot};
 ghost use Rattle.fkv_worlds.specs.Acts.{Acts};
 ghost use Rattle.fkv_lives.specs.Steps.{partition_in};

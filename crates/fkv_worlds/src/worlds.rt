@@ -1,7 +1,7 @@
 //! A world: partitions that are driven by single steps, with what became of each operation.
 ghost use Rattle.std.specs.Prelude.{◌≡◌, ◌≢◌, ◌⊎◌, ◌∷◌, [], ◌++◌, Err, IfOk, IfErr, IfSome, IfNone};
 ghost use Rattle.fkv_records.specs.Records.{size_of};
-ghost use Rattle.fkv_pages.specs.Spelled.{IsEntryIn};
+ghost use Rattle.fkv_hybrid.specs.Spelled.{IsEntryIn};
 ghost use Rattle.fkv_partition.specs.Limits.{IsWithinLimits};
 ghost use Rattle.fkv_worlds.specs.States.{empty_world};
 ghost use Rattle.fkv_worlds.specs.Acts.{Steps};

@@ -4,6 +4,7 @@ ghost use Rattle.fkv_texts.specs.declared.entries.Entry.{Entry};
 ghost use Rattle.fkv_texts.specs.Text.{entry_at, value_at};
 ghost use Rattle.fkv_hybrid.specs.Views.{with_value};
 
+use crate::bytes::{put_tombstone, put_value};
 use crate::log::Log;
 use fkv_device::Receipt;
 use fkv_functions::Fixed;
@@ -16,7 +17,7 @@ impl<K: Fixed, V: Fixed, R: Receipt> Log<K, V, R> {
         requires mutable { self.old.regions.offsets.safe_read_only ≤ address }
         ensures { self.new ≡ with_value self.old address (Some value) }
     {
-        self.pages.write_value(address, value);
+        put_value::<K, V>(&mut self.frames, self.shape, address, &value);
     }
 
     /// Makes the entry at an address that is not frozen, which is no delta, a tombstone. Nothing else changes.
@@ -26,6 +27,6 @@ impl<K: Fixed, V: Fixed, R: Receipt> Log<K, V, R> {
         requires mutable { self.old.regions.offsets.safe_read_only ≤ address }
         ensures { self.new ≡ with_value self.old address None }
     {
-        self.pages.set_tombstone(address);
+        put_tombstone::<K, V>(&mut self.frames, self.shape, address);
     }
 }

@@ -7,23 +7,13 @@ ghost use Rattle.fkv_epoch.specs.Moves.{free_slot, is_entered};
 ghost use Rattle.fkv_regions.specs.RegionsView.{IsReadOnlyDue, IsHeadDue, IsRoomy, entered, refreshed, left};
 ghost use Rattle.fkv_regions.specs.RegionsView.{with_read_only, with_head};
 ghost use Rattle.fkv_regions.specs.Agree.{IsRaised};
-ghost use Rattle.fkv_hybrid.specs.Tied.{IsFollowed};
 ghost use Rattle.fkv_hybrid.specs.Views.{with_regions, IsMoved};
 
 use crate::log::Log;
 use fkv_device::Receipt;
 use fkv_functions::{Fixed, Refused};
-use fkv_pages::Pages;
-use fkv_regions::{Offsets, Regions};
 
 impl<K: Fixed, V: Fixed, R: Receipt> Log<K, V, R> {
-    /// The offsets, the epochs, and what each session has seen: there a session asks for the region of an address.
-    pub fn regions(&self) -> &Regions
-        ensures { result.now ≡ self.now.regions }
-    {
-        &self.regions
-    }
-
     /// Enters a session: the lowest free slot gets the current epoch and the view of now.
     ///
     /// `NoSlot` where sixteen sessions are entered.
@@ -45,15 +35,7 @@ impl<K: Fixed, V: Fixed, R: Receipt> Log<K, V, R> {
         ensures raised { IsRaised self.old.regions.offsets self.new.regions.offsets }
         ensures refused { IfErr result (λ why. (why ≡ Refused.Unknown) × (self.new ≡ self.old)) }
     {
-        self.pages.known();
-        self.regions.known();
-        match self.regions.refresh(slot) {
-            Ok(()) => {
-                follow(&mut self.pages, &self.regions);
-                Ok(())
-            }
-            Err(refused) => Err(refused),
-        }
+        self.regions.refresh(slot)
     }
 
     /// Frees a session's slot, and moves the offsets that are due then.
@@ -65,15 +47,7 @@ impl<K: Fixed, V: Fixed, R: Receipt> Log<K, V, R> {
         ensures raised { IsRaised self.old.regions.offsets self.new.regions.offsets }
         ensures refused { IfErr result (λ why. (why ≡ Refused.Unknown) × (self.new ≡ self.old)) }
     {
-        self.pages.known();
-        self.regions.known();
-        match self.regions.leave(slot) {
-            Ok(()) => {
-                follow(&mut self.pages, &self.regions);
-                Ok(())
-            }
-            Err(refused) => Err(refused),
-        }
+        self.regions.leave(slot)
     }
 
     /// Moves the read-only offset to a page's start, and the safe one behind it as far as is due.
@@ -92,16 +66,7 @@ impl<K: Fixed, V: Fixed, R: Receipt> Log<K, V, R> {
         ensures only { IfErr result (λ why. (why ≡ Refused.NotDue) ⊎ (why ≡ Refused.DrainFull)) }
         ensures unchanged { OnErr result (self.new ≡ self.old) }
     {
-        self.pages.known();
-        self.regions.known();
-        let tail = self.pages.tail();
-        match self.regions.shift_read_only(page, tail) {
-            Ok(()) => {
-                follow(&mut self.pages, &self.regions);
-                Ok(())
-            }
-            Err(refused) => Err(refused),
-        }
+        self.regions.shift_read_only(page, self.tail)
     }
 
     /// Moves Head to a page's start, and closes the frames below as far as is due.
@@ -118,34 +83,6 @@ impl<K: Fixed, V: Fixed, R: Receipt> Log<K, V, R> {
         ensures only { IfErr result (λ why. (why ≡ Refused.NotDue) ⊎ (why ≡ Refused.DrainFull)) }
         ensures unchanged { OnErr result (self.new ≡ self.old) }
     {
-        self.pages.known();
-        self.regions.known();
-        match self.regions.shift_head(page) {
-            Ok(()) => {
-                follow(&mut self.pages, &self.regions);
-                Ok(())
-            }
-            Err(refused) => Err(refused),
-        }
+        self.regions.shift_head(page)
     }
-}
-
-/// Freezes entries below SafeReadOnly, and closes frames below `closed`.
-fn follow<K: Fixed, V: Fixed, R: Receipt>(pages: &mut Pages<K, V, R>, regions: &Regions)
-    requires bits { regions.now.bits ≡ pages.old.bits }
-    requires flushed { regions.now.flushed ≡ length pages.old.receipts }
-    requires frozen { pages.old.frozen ≤ regions.now.offsets.safe_read_only }
-    requires closed { pages.old.closed ≤ regions.now.offsets.closed }
-    requires begun { regions.now.offsets.read_only ≤ pages.old.tail }
-    ensures { IsFollowed R.keeps regions.now.offsets pages.old pages.new }
-{
-    pages.known();
-    regions.known();
-    let Offsets {
-        closed,
-        safe_read_only,
-        ..
-    } = regions.offsets();
-    pages.freeze(safe_read_only);
-    pages.close(closed);
 }

@@ -1,11 +1,12 @@
 //! The log's start, which is cut: Begin moves up to the start of a page.
-ghost use Rattle.std.specs.Prelude.{◌≡◌, ◌↔◌, IsTrue, IsOk, IfErr, OnOk, OnErr};
+ghost use Rattle.std.specs.Prelude.{◌≡◌, ◌↔◌, IsTrue, IsOk, IfErr, OnOk, OnErr, drop};
 ghost use Rattle.fkv_records.specs.Places.{start_at};
 ghost use Rattle.fkv_hybrid.specs.Views.{IsTruncationDue, truncated};
 
 use crate::log::Log;
 use fkv_device::Receipt;
 use fkv_functions::{Fixed, Refused};
+use std::collections::VecDeque;
 
 impl<K: Fixed, V: Fixed, R: Receipt> Log<K, V, R> {
     /// Moves Begin to the start of a page: entries below are dropped. Refused, and then nothing changes: `NotDue` where
@@ -19,10 +20,11 @@ impl<K: Fixed, V: Fixed, R: Receipt> Log<K, V, R> {
         if !self.is_truncation_due(page) {
             return Err(Refused::NotDue);
         }
-        self.pages.known();
         self.regions.known();
-        let start = self.pages.shape().start(page);
-        self.pages.truncate(start);
+        let start = self.shape.start(page);
+        let more = self.shape.page_of(start) - self.shape.page_of(self.begin);
+        let_go(&mut self.receipts, more as usize);
+        self.begin = start;
         Ok(())
     }
 
@@ -31,10 +33,19 @@ impl<K: Fixed, V: Fixed, R: Receipt> Log<K, V, R> {
         ensures { IsTrue result ↔ IsTruncationDue self.now page }
     {
         self.known();
-        if page > self.pages.unflushed() {
+        if page > self.unflushed() {
             return false;
         }
-        let start = self.pages.shape().start(page);
-        self.pages.begin() < start && start <= self.regions.offsets().head
+        let start = self.shape.start(page);
+        self.begin < start && start <= self.regions.offsets().head
+    }
+}
+
+/// Lets the first of some receipts go.
+fn let_go<R: Receipt>(receipts: &mut VecDeque<R>, count: usize)
+    ensures { receipts.new.items ≡ drop count receipts.old.items }
+{
+    for _ in 0..count {
+        receipts.pop_front();
     }
 }

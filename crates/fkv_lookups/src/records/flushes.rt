@@ -1,7 +1,7 @@
 //! Pages on their way to a device.
 ghost use Rattle.std.specs.Prelude.{◌≡◌, ◌-◌, ◌<◌, None, Err, IfOk, IfErr, IfSome, OnOk, OnErr};
 ghost use Rattle.std.specs.Prelude.{length};
-ghost use Rattle.fkv_pages.specs.Loads.{HasReceipt, IsHeldBy};
+ghost use Rattle.fkv_hybrid.specs.Loads.{HasReceipt, IsHeldBy};
 ghost use Rattle.fkv_lookups.specs.Flushes.{flush_refusal};
 ghost use Rattle.fkv_lookups.specs.RecordsViews.{with_receipt};
 
@@ -11,7 +11,7 @@ use fkv_functions::{Mergeable, Refused};
 
 impl<F: Mergeable, R: Receipt> Records<F, R> {
     /// Takes in that the lowest page that is not flushed was written, and keeps its receipt. Refused, and then nothing
-    /// changes: as [`fkv_pages::Pages::flush_refusal`] says, and then `NoMemory`.
+    /// changes: as [`fkv_hybrid::Log::flush_refusal`] says, and then `NoMemory`.
     pub fn flush_done(&mut self, written: Written<R>) -> Result<(), Refused>
         ensures refused { IfSome (flush_refusal self.old (R.stands written.receipt).page written.bytes)
             (λ why. result ≡ Err why) }
@@ -31,6 +31,6 @@ impl<F: Mergeable, R: Receipt> Records<F, R> {
         ensures stands { IfOk result (λ r. IsHeldBy self.now.receipts page (R.stands r)) }
         ensures memory { IfErr result (λ refused. refused ≡ Refused.NoMemory) }
     {
-        self.log.pages().receipt(page)
+        self.log.receipt(page)
     }
 }

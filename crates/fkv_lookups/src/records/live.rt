@@ -36,7 +36,7 @@ impl<F: Mergeable, R: Receipt> Records<F, R> {
     {
         self.log.known();
         let mut scan = self.log.scan();
-        while scan.address() < self.log.pages().tail() {
+        while scan.address() < self.log.tail() {
             let entry = match self.log.step(reader, &mut scan) {
                 Ok(entry) => entry,
                 Err(refused) => return Err(refused),

@@ -4,9 +4,9 @@ ghost use Rattle.fkv_functions.specs.declared.refusals.What.TheVariants as what;
 ghost use Rattle.fkv_records.specs.Places.{page_at, IsRecordStart};
 ghost use Rattle.fkv_texts.specs.declared.entries.Entry.{Entry};
 ghost use Rattle.fkv_texts.specs.Text.{entry_at};
-ghost use Rattle.fkv_pages.specs.Spelled.{IsEntryIn};
-ghost use Rattle.fkv_pages.specs.Loads.{HasReceipt, IsHeldBy, first_place};
-ghost use Rattle.fkv_pages.specs.Views.{receipt_at};
+ghost use Rattle.fkv_hybrid.specs.Spelled.{IsEntryIn};
+ghost use Rattle.fkv_hybrid.specs.Loads.{HasReceipt, IsHeldBy, first_place};
+ghost use Rattle.fkv_hybrid.specs.Views.{receipt_at};
 ghost use Rattle.fkv_lookups.specs.declared.chain_results.ChainResult.{ChainResult};
 ghost use Rattle.fkv_lookups.specs.Lookups.{IsOfClass, ComesToInPage, ComesTo};
 
@@ -22,14 +22,14 @@ impl<F: Mergeable, R: Receipt> Records<F, R> {
     pub fn page_of(&self, address: Address) -> u64
         ensures { result ≡ page_at self.now.page_bits address }
     {
-        self.log.pages().shape().page_of(address)
+        self.log.shape().page_of(address)
     }
 
     /// Whether a record may stand at an address.
     pub fn is_record_start(&self, address: Address) -> bool
         ensures { IsTrue result ↔ IsRecordStart self.now.page_bits self.now.record_size address }
     {
-        self.log.pages().shape().is_record_start(address)
+        self.log.shape().is_record_start(address)
     }
 
     /// Whether a page was read by the receipt that is kept of it. Refused: `Stranger` where it was read by another.
@@ -41,7 +41,7 @@ impl<F: Mergeable, R: Receipt> Records<F, R> {
             × (refused
             ≡ Refused.Stranger what.Receipt s.number (R.stands loaded.now.receipt).number))) }
     {
-        self.log.pages().is_own(loaded, page)
+        self.log.is_own(loaded, page)
     }
 
     /// The record at an address of a flushed page, from the page as a device gave it by the receipt that is kept of it
@@ -61,7 +61,7 @@ impl<F: Mergeable, R: Receipt> Records<F, R> {
         ensures damaged { IfErr result (λ refused. refused ≡ Refused.Damaged (page_at self.now.page_bits address)) }
         ensures kept { IsTrue R.keeps → IfSome (entry_at self.now.entries address) (λ e. result ≡ Ok e) }
     {
-        self.log.pages().own_record_in(loaded, address)
+        self.log.own_record_in(loaded, address)
     }
 
     /// Where the first record of a flushed page stands.
@@ -69,7 +69,7 @@ impl<F: Mergeable, R: Receipt> Records<F, R> {
         requires { page < length self.now.receipts }
         ensures { result ≡ first_place self.now.page_bits page }
     {
-        self.log.pages().first_of(page)
+        self.log.first_of(page)
     }
 
     /// Goes from an address of a flushed page along previous addresses, in the page as a device gave it by the receipt that
@@ -99,15 +99,17 @@ impl<F: Mergeable, R: Receipt> Records<F, R> {
             × ComesTo F.Key.cmp F.parts.joined F.code self.now key.now low from parts r }
     {
         let page = self.page_of(from);
-        let pages = self.log.pages();
         let mut parts = parts;
-        let mut position = match pages.own_first_in_page(loaded, key, from, page, low) {
+        let mut position = match self.log.own_first_in_page(loaded, key, from, page, low) {
             Ok(position) => position,
             Err(refused) => return Err(refused),
         };
         while let Some(last) = delta_at(&position) {
             parts = onto(functions, last.value, parts);
-            position = match pages.own_first_in_page(loaded, key, last.previous, page, low) {
+            position = match self
+                .log
+                .own_first_in_page(loaded, key, last.previous, page, low)
+            {
                 Ok(position) => position,
                 Err(refused) => return Err(refused),
             };

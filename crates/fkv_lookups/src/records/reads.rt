@@ -20,7 +20,7 @@ impl<F: Mergeable, R: Receipt> Records<F, R> {
         ensures previous { IsPrevious address result.previous }
         ensures falls { result.previous < address }
     {
-        self.log.pages().record_at(address)
+        self.log.record_at(address)
     }
 
     /// The address after one: where the next record stands behind a record, or 2^48 where no record can.
@@ -28,6 +28,6 @@ impl<F: Mergeable, R: Receipt> Records<F, R> {
         ensures next { result ≡ tail_after self.now.page_bits self.now.record_size address }
         ensures rises { address < 2 ^ 48 → address < result }
     {
-        self.log.pages().next(address)
+        self.log.next(address)
     }
 }

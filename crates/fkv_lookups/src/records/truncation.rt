@@ -25,7 +25,7 @@ impl<F: Mergeable, R: Receipt> Records<F, R> {
             Err(refused) => return Err(refused),
         }
         self.log.known();
-        let begin = self.log.pages().begin();
+        let begin = self.log.begin();
         self.index.sweep(begin);
         Ok(())
     }

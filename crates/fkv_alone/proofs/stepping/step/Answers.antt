@@ -1,6 +1,6 @@
 use Rattle.std.proofs.Common.{arith}
 use Rattle.std.proofs.lemmas.Result.{IfOk-weaker}
-use Rattle.fkv_pages.specs.Spelled.{IsEntryIn}
+use Rattle.fkv_hybrid.specs.Spelled.{IsEntryIn}
 use Rattle.fkv_alone.proofs.BoundLemmas.{goes-nearer, installs-nearer, reads-nearer}
 use Rattle.fkv_alone.proofs.DriveLemmas.{core-same}
 use Rattle.fkv_alone.proofs.KeyLemmas.{goes-on-key, installs-on-key, reads-on-key, none-here, finds-asks, event-finishes, load-tells}

@@ -1,5 +1,5 @@
 use Rattle.fkv_functions.proofs.KeyOrder.{key_order}
-use Rattle.fkv_pages.specs.Spelled.{IsEntryIn}
+use Rattle.fkv_hybrid.specs.Spelled.{IsEntryIn}
 use Rattle.fkv_partition.proofs.AnyEventLemmas.{event-bears}
 use Rattle.fkv_partition.proofs.laws.every_event_preserves.Goals as goal
 

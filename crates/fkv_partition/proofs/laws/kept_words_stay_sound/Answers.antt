@@ -3,7 +3,7 @@ use Rattle.fkv_functions.proofs.KeyOrder.{key_order}
 use Rattle.fkv_texts.specs.Text.{live}
 use Rattle.fkv_operations.specs.KeptWords.{IndexedText, IsFound}
 use Rattle.fkv_lookups.specs.RecordsViews.{class_in, indexed}
-use Rattle.fkv_pages.specs.Spelled.{IsEntryIn}
+use Rattle.fkv_hybrid.specs.Spelled.{IsEntryIn}
 use Rattle.fkv_partition.proofs.KeptWordLemmas.{indexed_all, indexed-last, led-at, are-next}
 use Rattle.fkv_partition.proofs.laws.kept_words_stay_sound.Goals as goal
 

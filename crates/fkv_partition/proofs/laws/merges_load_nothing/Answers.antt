@@ -1,5 +1,5 @@
 use Rattle.fkv_partition.proofs.MergeLemmas.{merge-loads}
-use Rattle.fkv_pages.specs.Spelled.{IsEntryIn}
+use Rattle.fkv_hybrid.specs.Spelled.{IsEntryIn}
 use Rattle.fkv_partition.proofs.laws.merges_load_nothing.Goals as goal
 
 pub returns : goal.returns

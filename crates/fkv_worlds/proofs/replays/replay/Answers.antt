@@ -4,7 +4,7 @@ use Rattle.fkv_functions.specs.declared.refusals.Refused.{Refused}
 use Rattle.fkv_functions.specs.declared.refusals.Refused.TheVariants.{BadConfig, NoMemory}
 use Rattle.fkv_records.specs.Records.{size_of}
 use Rattle.fkv_lives.specs.Histories.{backwards, issues_in, issue_of}
-use Rattle.fkv_pages.specs.Spelled.{IsEntryIn}
+use Rattle.fkv_hybrid.specs.Spelled.{IsEntryIn}
 use Rattle.fkv_worlds.proofs.Naming.{stands}
 use Rattle.fkv_worlds.specs.Reports.{RunsTo}
 use Rattle.fkv_worlds.specs.States.{empty_world}

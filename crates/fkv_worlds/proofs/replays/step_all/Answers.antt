@@ -1,6 +1,6 @@
 use Rattle.std.proofs.Common.{◌≡◌, ◌+◌, ◌∷◌, [], ◌++◌, take, subst, sym, ap, ◌∙◌, add-one, arith}
 use Rattle.std.proofs.Math.Seq.{take-suc}
-use Rattle.fkv_pages.specs.Spelled.{IsEntryIn}
+use Rattle.fkv_hybrid.specs.Spelled.{IsEntryIn}
 use Rattle.fkv_worlds.proofs.Naming.{stands}
 use Rattle.fkv_worlds.specs.Reports.{RunsTo}
 use Rattle.fkv_worlds.proofs.ReportLemmas.{runs-append, take-all}

@@ -1,5 +1,5 @@
 use Rattle.std.proofs.Common.{take}
-use Rattle.fkv_pages.specs.Spelled.{IsEntryIn}
+use Rattle.fkv_hybrid.specs.Spelled.{IsEntryIn}
 use Rattle.fkv_worlds.proofs.Naming.{stands}
 use Rattle.fkv_worlds.specs.Reports.{RunsTo}
 use Rattle.fkv_worlds.proofs.replays.step_all.Given as goal

@@ -1,31 +1,39 @@
-use Rattle.std.proofs.Common.{refl}
-use Rattle.fkv_hybrid.proofs.FollowLemmas.{tied_followed, moved_followed}
+use Rattle.std.proofs.Common.{◌≡◌}
+use Rattle.fkv_functions.specs.declared.refusals.Refused.TheVariants.{Unknown}
+use Rattle.fkv_regions.specs.RegionsView.{refreshed}
+use Rattle.fkv_hybrid.proofs.PageLemmas.{the_text, log_of, ok_then, err_also}
+use Rattle.fkv_hybrid.proofs.MoveLemmas.{followed, moved_seen, unmoved_seen}
 use Rattle.fkv_hybrid.proofs.log.Log.refresh.Goals as goal
+
+pub invariant_of-self-inside : goal.invariant_of-self-inside
+invariant_of-self-inside g c =
+    let i = c.self.inside in
+    let l = followed g.K.Fixed.codec g.V.Fixed.codec g.R.Receipt.keeps i.shape i.begin i.regions c.refresh.new.self i.regions.offsets.read_only i.tail _ i.frames i.text.0.0 c.self.invariant c.refresh.ensures.moved c.self.invariant.agrees.begun in
+    (the_text g.K.Fixed.codec g.V.Fixed.codec _ _ g.row.K.coded g.row.V.coded _ _ _ l.pages.spelled, tt)
 
 pub invariant_of-self : goal.invariant_of-self
 invariant_of-self g c =
     let i = c.self.inside in
-    tied_followed g.R.Receipt.keeps i.pages c.follow.new.pages i.regions c.refresh.new.self i.regions.offsets.read_only c.self.invariant c.refresh.ensures.moved c.self.invariant.begun c.follow.ensures
+    let l = followed g.K.Fixed.codec g.V.Fixed.codec g.R.Receipt.keeps i.shape i.begin i.regions c.refresh.new.self i.regions.offsets.read_only i.tail _ i.frames i.text.0.0 c.self.invariant c.refresh.ensures.moved c.self.invariant.agrees.begun in
+    let now = c.refresh.new.self.offsets in
+    record {
+      pages = log_of g.K.Fixed.codec g.V.Fixed.codec g.R.Receipt.keeps i.shape i.begin now.closed now.safe_read_only i.tail _ i.frames c.self-1.given.0 _ l.pages;
+      agrees = l.agrees;
+    }
 
-pub invariant_of-self-in-Err : goal.invariant_of-self-in-Err
-invariant_of-self-in-Err g c = rw c.in-Err.ensures.refused.1 c.self.invariant
-
-pub returns-in-Ok-clause-effect : goal.returns-in-Ok-clause-effect
-returns-in-Ok-clause-effect g c =
+pub returns-clause-effect : goal.returns-clause-effect
+returns-clause-effect g c =
     let i = c.self.inside in
-    rw (← c.self.view_is) (moved_followed g.R.Receipt.keeps i.pages c.follow.new.pages i.regions c.refresh.new.self _ c.in-Ok.ensures.effect c.follow.ensures)
+    ok_then c.refresh.result c.refresh.ensures.effect
+    (λ e. rw (← c.self.view_is) (moved_seen g.K.Fixed.codec g.V.Fixed.codec g.R.Receipt.keeps i.shape i.begin i.regions c.refresh.new.self (refreshed i.regions c.args.slot) i.regions.offsets.read_only i.tail _ i.frames i.text.0.0 c.self-1.given.0 c.self.invariant c.refresh.ensures.moved c.self.invariant.agrees.begun e))
 
-pub returns-in-Ok-clause-raised : goal.returns-in-Ok-clause-raised
-returns-in-Ok-clause-raised g c = rw (← c.self.view_is) c.refresh.ensures.moved.raised
+pub returns-clause-raised : goal.returns-clause-raised
+returns-clause-raised g c = rw (← c.self.view_is) c.refresh.ensures.moved.raised
 
-pub returns-in-Ok-clause-unknown : goal.returns-in-Ok-clause-unknown
-returns-in-Ok-clause-unknown g c = rw (← c.self.view_is) c.in-Ok.ensures.unknown
+pub returns-clause-unknown : goal.returns-clause-unknown
+returns-clause-unknown g c = rw (← c.self.view_is) c.refresh.ensures.unknown
 
-pub returns-in-Err-clause-raised : goal.returns-in-Err-clause-raised
-returns-in-Err-clause-raised g c = rw (← c.self.view_is) c.refresh.ensures.moved.raised
-
-pub returns-in-Err-clause-unknown : goal.returns-in-Err-clause-unknown
-returns-in-Err-clause-unknown g c = rw (← c.self.view_is) c.in-Err.ensures.unknown
-
-pub returns-in-Err-clause-refused : goal.returns-in-Err-clause-refused
-returns-in-Err-clause-refused g c = (c.in-Err.ensures.refused.0, rw (← c.self.view_is, c.in-Err.ensures.refused.1) refl)
+pub returns-clause-refused : goal.returns-clause-refused
+returns-clause-refused g c =
+    let i = c.self.inside in
+    err_also (λ why. why ≡ Unknown) c.refresh.result c.refresh.ensures.refused (λ e. rw (← c.self.view_is) (unmoved_seen g.K.Fixed.codec g.V.Fixed.codec g.R.Receipt.keeps i.shape i.begin i.regions c.refresh.new.self i.tail _ i.frames i.text.0.0 c.self-1.given.0 c.self.invariant e))

@@ -1,46 +1,45 @@
-use Rattle.std.proofs.Common.{refl, arith}
-use Rattle.fkv_hybrid.proofs.FollowLemmas.{tied_followed, moved_followed}
+use Rattle.std.proofs.Common.{arith}
+use Rattle.fkv_records.specs.Places.{start_at}
+use Rattle.fkv_regions.specs.RegionsView.{with_read_only}
+use Rattle.fkv_hybrid.proofs.PageLemmas.{the_text, log_of, ok_then, err_then}
+use Rattle.fkv_hybrid.proofs.MoveLemmas.{followed, moved_seen, unmoved_seen}
 use Rattle.fkv_hybrid.proofs.log.Log.shift_read_only.Goals as goal
+
+pub invariant_of-self-inside : goal.invariant_of-self-inside
+invariant_of-self-inside g c =
+    let i = c.self.inside in
+    let l = followed g.K.Fixed.codec g.V.Fixed.codec g.R.Receipt.keeps i.shape i.begin i.regions c.shift_read_only.new.self i.tail i.tail _ i.frames i.text.0.0 c.self.invariant c.shift_read_only.ensures.moved (omega arith) in
+    (the_text g.K.Fixed.codec g.V.Fixed.codec _ _ g.row.K.coded g.row.V.coded _ _ _ l.pages.spelled, tt)
 
 pub invariant_of-self : goal.invariant_of-self
 invariant_of-self g c =
     let i = c.self.inside in
-    tied_followed g.R.Receipt.keeps i.pages c.follow.new.pages i.regions c.shift_read_only.new.self c.tail-tail.result c.self.invariant c.shift_read_only.ensures.moved (omega (arith, c.tail-tail.ensures.tail)) c.follow.ensures
+    let l = followed g.K.Fixed.codec g.V.Fixed.codec g.R.Receipt.keeps i.shape i.begin i.regions c.shift_read_only.new.self i.tail i.tail _ i.frames i.text.0.0 c.self.invariant c.shift_read_only.ensures.moved (omega arith) in
+    let now = c.shift_read_only.new.self.offsets in
+    record {
+      pages = log_of g.K.Fixed.codec g.V.Fixed.codec g.R.Receipt.keeps i.shape i.begin now.closed now.safe_read_only i.tail _ i.frames c.self-1.given.0 _ l.pages;
+      agrees = l.agrees;
+    }
 
-pub invariant_of-self-in-Err : goal.invariant_of-self-in-Err
-invariant_of-self-in-Err g c = rw c.in-Err.ensures.unchanged c.self.invariant
-
-pub returns-in-Ok-clause-effect : goal.returns-in-Ok-clause-effect
-returns-in-Ok-clause-effect g c =
+pub returns-clause-effect : goal.returns-clause-effect
+returns-clause-effect g c =
     let i = c.self.inside in
-    rw (← c.self.view_is) (moved_followed g.R.Receipt.keeps i.pages c.follow.new.pages i.regions c.shift_read_only.new.self _ c.in-Ok.ensures.effect c.follow.ensures)
+    ok_then c.shift_read_only.result c.shift_read_only.ensures.effect
+    (λ e. rw (← c.self.view_is) (moved_seen g.K.Fixed.codec g.V.Fixed.codec g.R.Receipt.keeps i.shape i.begin i.regions c.shift_read_only.new.self (with_read_only i.regions (start_at i.regions.bits c.args.page)) i.tail i.tail _ i.frames i.text.0.0 c.self-1.given.0 c.self.invariant c.shift_read_only.ensures.moved (omega arith) e))
 
-pub returns-in-Ok-clause-raised : goal.returns-in-Ok-clause-raised
-returns-in-Ok-clause-raised g c = rw (← c.self.view_is) c.shift_read_only.ensures.moved.raised
+pub returns-clause-raised : goal.returns-clause-raised
+returns-clause-raised g c = rw (← c.self.view_is) c.shift_read_only.ensures.moved.raised
 
-pub returns-in-Ok-clause-ok : goal.returns-in-Ok-clause-ok
-returns-in-Ok-clause-ok g c = rw (← c.self.view_is, ← c.tail-tail.ensures.tail) c.in-Ok.ensures.ok
+pub returns-clause-ok : goal.returns-clause-ok
+returns-clause-ok g c = rw (← c.self.view_is) c.shift_read_only.ensures.ok
 
-pub returns-in-Ok-clause-not_due : goal.returns-in-Ok-clause-not_due
-returns-in-Ok-clause-not_due g c = rw (← c.self.view_is, ← c.tail-tail.ensures.tail) c.in-Ok.ensures.not_due
+pub returns-clause-not_due : goal.returns-clause-not_due
+returns-clause-not_due g c = rw (← c.self.view_is) c.shift_read_only.ensures.not_due
 
-pub returns-in-Ok-clause-full : goal.returns-in-Ok-clause-full
-returns-in-Ok-clause-full g c = rw (← c.self.view_is, ← c.tail-tail.ensures.tail) c.in-Ok.ensures.full
+pub returns-clause-full : goal.returns-clause-full
+returns-clause-full g c = rw (← c.self.view_is) c.shift_read_only.ensures.full
 
-pub returns-in-Err-clause-raised : goal.returns-in-Err-clause-raised
-returns-in-Err-clause-raised g c = rw (← c.self.view_is) c.shift_read_only.ensures.moved.raised
-
-pub returns-in-Err-clause-ok : goal.returns-in-Err-clause-ok
-returns-in-Err-clause-ok g c = rw (← c.self.view_is, ← c.tail-tail.ensures.tail) c.in-Err.ensures.ok
-
-pub returns-in-Err-clause-not_due : goal.returns-in-Err-clause-not_due
-returns-in-Err-clause-not_due g c = rw (← c.self.view_is, ← c.tail-tail.ensures.tail) c.in-Err.ensures.not_due
-
-pub returns-in-Err-clause-full : goal.returns-in-Err-clause-full
-returns-in-Err-clause-full g c = rw (← c.self.view_is, ← c.tail-tail.ensures.tail) c.in-Err.ensures.full
-
-pub returns-in-Err-clause-only : goal.returns-in-Err-clause-only
-returns-in-Err-clause-only g c = c.in-Err.ensures.only
-
-pub returns-in-Err-clause-unchanged : goal.returns-in-Err-clause-unchanged
-returns-in-Err-clause-unchanged g c = rw (← c.self.view_is, c.in-Err.ensures.unchanged) refl
+pub returns-clause-unchanged : goal.returns-clause-unchanged
+returns-clause-unchanged g c =
+    let i = c.self.inside in
+    err_then c.shift_read_only.result c.shift_read_only.ensures.unchanged (λ e. rw (← c.self.view_is) (unmoved_seen g.K.Fixed.codec g.V.Fixed.codec g.R.Receipt.keeps i.shape i.begin i.regions c.shift_read_only.new.self i.tail _ i.frames i.text.0.0 c.self-1.given.0 c.self.invariant e))

@@ -22,11 +22,11 @@ append-requires g c =
 pub move_entry-requires-clause-some : goal.move_entry-requires-clause-some
 move_entry-requires-clause-some g c =
     let low = tail_from c.self.invariant in
-    omega (arith, rw c.pages.ensures at c.tail-address.ensures.tail, low)
+    omega (arith, c.tail-address.ensures.tail, low)
 
 pub move_entry-requires-clause-least : goal.move_entry-requires-clause-least
 move_entry-requires-clause-least g c =
-    let left : c.tail-address.result ≢ 2 ^ 48 = λ h. let no = c.in-Ok-Some.ensures.worn.1 (sym (rw c.pages.ensures at c.tail-address.ensures.tail) ∙ h) in cc in
+    let left : c.tail-address.result ≢ 2 ^ 48 = λ h. let no = c.in-Ok-Some.ensures.worn.1 (sym c.tail-address.ensures.tail ∙ h) in cc in
     omega (arith, c.tail-address.ensures.most, left)
 
 pub invariant_of-self-2 : goal.invariant_of-self-2
@@ -42,9 +42,9 @@ invariant_of-self-2 g c =
     let behind = leads_of r own (address_of e.word) entry in
     let chained = c.chains.ensures.kept class same_class i.log.from i.log.text (record { address = i.log.tail; previous = address_of e.word; key = c.args.key; value = value_in c.args.payload; delta = is_part c.args.payload }) r.chained r.below behind in
     let made = c.move_entry.ensures in
-    let moved = rw (made.word, c.tail-address.ensures.tail, c.pages.ensures) at (moved-there own e.place e.word c.tail-address.result i.index c.move_entry.new.index stands.bucket stands.tag made.entry made.map made.buckets) in
+    let moved = rw (made.word, c.tail-address.ensures.tail) at (moved-there own e.place e.word c.tail-address.result i.index c.move_entry.new.index stands.bucket stands.tag made.entry made.map made.buckets) in
     let appended = rw (c.in-Ok-Some.field-0-is, c.address.ensures, c.value.ensures, c.is_part.ensures) at c.in-Ok-Some.ensures.appended in
-    let word = rw (c.tail-address.ensures.tail, c.pages.ensures) at made.word in
+    let word = rw c.tail-address.ensures.tail at made.word in
     let is = records-appended g.F.Key.Ord.cmp g.F.Mergeable.parts.joined i.partition_bits i.bucket_bits (size_of g.F.Key.Fixed.SIZE g.F.Value.Fixed.SIZE) e c.args.key c.args.payload i.log c.append.new.self i.index appended c.move_entry.new.index word in
     subst (IsTraced g.R.Receipt.keeps g.F.Functions.code) (sym is)
     (traced-record _ e c.args.key c.args.payload _ t (text_then g.F.Key.Ord.cmp g.F.Mergeable.parts.joined i.partition_bits i.bucket_bits _ e c.args.key c.args.payload i.log c.append.new.self i.index appended c.known-2.ensures.log chained) moved)
@@ -56,6 +56,6 @@ pub returns-clause-appended : goal.returns-clause-appended
 returns-clause-appended g c =
     let i = c.self.inside in
     let appended = rw (c.in-Ok-Some.field-0-is, c.address.ensures, c.value.ensures, c.is_part.ensures) at c.in-Ok-Some.ensures.appended in
-    let word = rw (c.tail-address.ensures.tail, c.pages.ensures) at c.move_entry.ensures.word in
+    let word = rw c.tail-address.ensures.tail at c.move_entry.ensures.word in
     rw (← c.self.view_is)
     (records-appended g.F.Key.Ord.cmp g.F.Mergeable.parts.joined i.partition_bits i.bucket_bits (size_of g.F.Key.Fixed.SIZE g.F.Value.Fixed.SIZE) c.args.entry c.args.key c.args.payload i.log c.append.new.self i.index appended c.move_entry.new.index word)

@@ -18,7 +18,7 @@ loop-last-init g c =
 pub first_on_chain-position-requires-clause-chain :
     goal.first_on_chain-position-requires-clause-chain
 first_on_chain-position-requires-clause-chain g c =
-    rw c.pages.ensures (rw (← c.self.view_is) at (way-chain g.F.Key.Ord.cmp g.F.Mergeable.parts.joined g.F.Functions.code c.args.self.now c.args.key.now c.args.low c.args.entry c.loop-last.parts c.loop-last.position c.loop-last.invariant
+    (rw (← c.self.view_is) at (way-chain g.F.Key.Ord.cmp g.F.Mergeable.parts.joined g.F.Functions.code c.args.self.now c.args.key.now c.args.low c.args.entry c.loop-last.parts c.loop-last.position c.loop-last.invariant
     c.in-Some.last c.in-Some.ensures.some.0))
 
 pub loop-last-smaller : goal.loop-last-smaller
@@ -29,13 +29,13 @@ loop-last-smaller g c =
     let traced : IsTraced g.R.Receipt.keeps g.F.Functions.code c.args.self.now = rw (← c.self.view_is) c.self.invariant in
     let t = raw-traced g.F.Key.Ord.cmp g.F.Mergeable.parts.joined c.args.self.now (rw (← c.self.view_is) refl) traced in
     way-falls g.F.Key.Ord.cmp g.F.Mergeable.parts.joined g.F.Functions.code c.args.self.now c.args.key.now order t c.args.low c.args.entry c.loop-last.parts c.loop-last.position c.loop-last.invariant
-    c.in-Some.last c.in-Some.ensures.some.0 c.first_on_chain-position.result (rw (← c.self.view_is) (rw c.pages.ensures at c.first_on_chain-position.ensures))
+    c.in-Some.last c.in-Some.ensures.some.0 c.first_on_chain-position.result (rw (← c.self.view_is) c.first_on_chain-position.ensures)
 
 pub loop-last-preserved : goal.loop-last-preserved
 loop-last-preserved g c =
     let some = c.in-Some.ensures.some in
     rw c.onto-parts.ensures (way-on g.F.Key.Ord.cmp g.F.Mergeable.parts.joined g.F.Functions.code c.args.self.now c.args.key.now c.args.low c.args.entry c.loop-last.parts c.loop-last.position c.loop-last.invariant
-    c.in-Some.last some.0 some.1 c.first_on_chain-position.result (rw (← c.self.view_is) (rw c.pages.ensures at c.first_on_chain-position.ensures)))
+    c.in-Some.last some.0 some.1 c.first_on_chain-position.result (rw (← c.self.view_is) c.first_on_chain-position.ensures))
 
 pub returns : goal.returns
 returns g c =

@@ -18,8 +18,7 @@ first_on_chain-requires-clause-chain g c =
     let own = class c.args.key.now in
     let up = begun _ low t (rw (← c.self.view_is) at c.requires.in_frames) (rw (← c.self.view_is) at c.requires.begin) in
     let leads = leads_of t own c.args.entry (rw (← c.self.view_is) at c.requires.entry) in
-    let es = falling class same_class (text_from low i.log.text) own in
-    rw c.pages.ensures (
+    let es = falling class same_class (text_from low i.log.text) own in (
       es,
       chain_of_all low i.log.text c.args.entry es ((c.chains.ensures.met class same_class low (text_from low i.log.text) own c.args.entry class_test (cut-rising low i.log.text t.rising) (cut-from low i.log.text)
           (cut-chained class same_class i.log.from low i.log.text t.rising up t.chained) (cut-leads class same_class i.log.from low i.log.text t.rising up own c.args.entry leads) es).1 refl),
@@ -44,5 +43,5 @@ returns g c =
     let chained = cut-chained class same_class i.log.from low i.log.text t.rising up t.chained in
     let led = cut-leads class same_class i.log.from low i.log.text t.rising up own c.args.entry leads in
     let chain = (c.chains.ensures.met class same_class low above own c.args.entry class_test rising from chained led es).1 refl in
-    rw (← c.self.view_is) ((rw c.pages.ensures at c.first_on_chain.ensures) es (chain_of_all low i.log.text c.args.entry es chain)
+    rw (← c.self.view_is) (c.first_on_chain.ensures es (chain_of_all low i.log.text c.args.entry es chain)
     ∙ ap (λ o. reached o (leads_to c.args.entry es)) (c.chains.ensures.found g.F.Key.Ord.cmp class same_class low above c.args.key.now c.args.entry order class_test rising from chained led es chain))

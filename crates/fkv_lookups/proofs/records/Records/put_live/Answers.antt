@@ -15,7 +15,7 @@ loop-self-init g c = record {
 
 pub loop-self-preserved : goal.loop-self-preserved
 loop-self-preserved g c =
-    let low : c.loop-self.scan.address < c.self.inside.log.tail = omega (arith, rw c.pages.ensures at c.tail.ensures.tail, c.address.ensures, c.loop-self-test.true) in
+    let low : c.loop-self.scan.address < c.self.inside.log.tail = omega (arith, c.tail.ensures.tail, c.address.ensures, c.loop-self-test.true) in
     let l = c.known.ensures.log in
     let ord = g.met.F.Key.Ord in
     let known = g.met.F.Key.FixedKey in
@@ -31,19 +31,19 @@ loop-self-preserved g c =
 
 pub loop-self-smaller : goal.loop-self-smaller
 loop-self-smaller g c =
-    let low : c.loop-self.scan.address < c.self.inside.log.tail = omega (arith, rw c.pages.ensures at c.tail.ensures.tail, c.address.ensures, c.loop-self-test.true) in
+    let low : c.loop-self.scan.address < c.self.inside.log.tail = omega (arith, c.tail.ensures.tail, c.address.ensures, c.loop-self-test.true) in
     let rises = scan_rises g.R.Receipt.keeps _ c.self.inside.log c.known.ensures.log c.loop-self.scan c.loop-self.invariant.scan low in
     let goes = c.in-Ok.ensures.goes in
     omega arith
 
 pub returns-clause-ok : goal.returns-clause-ok
 returns-clause-ok g c = λ keeps apart.
-    let high : c.self.inside.log.tail ≤ c.loop-self.scan.address = omega (arith, rw c.pages.ensures at c.tail.ensures.tail, c.address.ensures, c.loop-self-test.false) in
+    let high : c.self.inside.log.tail ≤ c.loop-self.scan.address = omega (arith, c.tail.ensures.tail, c.address.ensures, c.loop-self-test.false) in
     rw (← c.self.view_is) (ended g.F.Key.Ord.cmp g.F.Mergeable.parts.joined _ _ _ _ _ _ _ (c.loop-self.invariant.scanned keeps (rw (← c.self.view_is) at apart)) high)
 
 pub returns-in-Err-clause-refused : goal.returns-in-Err-clause-refused
 returns-in-Err-clause-refused g c =
-    let low : c.loop-self.scan.address < c.self.inside.log.tail = omega (arith, rw c.pages.ensures at c.tail.ensures.tail, c.address.ensures, c.loop-self-test.true) in
+    let low : c.loop-self.scan.address < c.self.inside.log.tail = omega (arith, c.tail.ensures.tail, c.address.ensures, c.loop-self-test.true) in
     rw (← c.self.view_is) (scan_refused g.R.Receipt.keeps _ c.self.inside.log c.known.ensures.log c.loop-self.scan c.loop-self.invariant.scan low
     c.step.result _ _ _ _ c.in-Err.is c.loop-self.invariant.steady (λ high. (c.step.ensures.unread high).0) c.in-Err.ensures.refused)
 

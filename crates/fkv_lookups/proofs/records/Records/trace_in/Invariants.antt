@@ -1,6 +1,6 @@
 use Rattle.std.proofs.Common.{◌≤◌}
 use Rattle.std.specs.Prelude.{IsTrue}
-use Rattle.fkv_pages.specs.Spelled.{IsEntryIn}
+use Rattle.fkv_hybrid.specs.Spelled.{IsEntryIn}
 use Rattle.fkv_lookups.specs.Lookups.{IsOfClass, at_of}
 use Rattle.fkv_lookups.proofs.WayLemmas.{IsKeptOn, IsReadOn}
 use Rattle.fkv_lookups.proofs.records.Records.trace_in.Given as goal

@@ -1,6 +1,6 @@
 use Rattle.std.proofs.Common.{◌≡◌, ◌<◌, Err, length, refl, sym, ap, subst, ◌∙◌}
 use Rattle.fkv_records.specs.Places.{page_at}
-use Rattle.fkv_pages.specs.Loads.{HasReceipt, IsHeldBy}
+use Rattle.fkv_hybrid.specs.Loads.{HasReceipt, IsHeldBy}
 use Rattle.fkv_functions.proofs.KeyOrder.{key_order}
 use Rattle.fkv_index.specs.Words.{address_of}
 use Rattle.fkv_operations.specs.After.{key_of}

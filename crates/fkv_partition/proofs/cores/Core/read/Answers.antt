@@ -1,6 +1,6 @@
 use Rattle.std.proofs.Common.{◌<◌, length, sym, subst}
 use Rattle.std.proofs.lemmas.Result.{IfOk-weaker, IfErr-weaker}
-use Rattle.fkv_pages.specs.Loads.{HasReceipt, IsHeldBy}
+use Rattle.fkv_hybrid.specs.Loads.{HasReceipt, IsHeldBy}
 use Rattle.fkv_functions.proofs.CallLemmas.{with_six}
 use Rattle.fkv_partition.proofs.cores.Core.read.Goals as goal
 
@@ -22,4 +22,4 @@ returns-clause-caused g c =
     let kept = c.in-Ok.ensures.stands in
     let long = ((rw c.log.ensures at c.known.ensures.receipts) c.args.page (g.R.Receipt.stands c.in-Ok.receipt) kept).1 in
     rw (← c.self.view_is)
-    (IfErr-weaker c.fetch.result _ _ (λ e fails wanted. record { receipt = c.in-Ok.receipt; own = kept; long = long; fails = rw (c.page_size.ensures, c.shape.ensures.bits, c.pages.ensures, c.log-2.ensures) at (fails wanted) }) c.fetch.ensures.caused)
+    (IfErr-weaker c.fetch.result _ _ (λ e fails wanted. record { receipt = c.in-Ok.receipt; own = kept; long = long; fails = rw (c.page_size.ensures, c.shape.ensures.bits, c.log-2.ensures) at (fails wanted) }) c.fetch.ensures.caused)

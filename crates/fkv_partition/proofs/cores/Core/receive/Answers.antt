@@ -3,7 +3,7 @@ use Rattle.std.proofs.Math.Nat.{le_of_lt}
 use Rattle.fkv_functions.proofs.KeyOrder.{key_order}
 use Rattle.fkv_functions.proofs.CallLemmas.{with_six}
 use Rattle.fkv_records.specs.Places.{page_at}
-use Rattle.fkv_pages.specs.Loads.{HasReceipt, IsHeldBy}
+use Rattle.fkv_hybrid.specs.Loads.{HasReceipt, IsHeldBy}
 use Rattle.fkv_partition.specs.CoreInside.{view_of}
 use Rattle.fkv_partition.specs.CoreLoading.{Loads}
 use Rattle.fkv_partition.proofs.LoadLemmas.{stranger-kept, wanted-flushed}

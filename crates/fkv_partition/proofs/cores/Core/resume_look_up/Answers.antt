@@ -4,10 +4,10 @@ use Rattle.fkv_functions.proofs.KeyOrder.{key_order}
 use Rattle.fkv_records.specs.Places.{page_at, IsRecordStart}
 use Rattle.fkv_texts.specs.declared.entries.ChainPosition.TheVariants.{Found, Below}
 use Rattle.fkv_texts.specs.Deltas.{onto}
-use Rattle.fkv_pages.specs.Spelled.{IsEntryIn}
-use Rattle.fkv_pages.specs.Loads.{HasReceipt, IsHeldBy}
+use Rattle.fkv_hybrid.specs.Spelled.{IsEntryIn}
+use Rattle.fkv_hybrid.specs.Loads.{HasReceipt, IsHeldBy}
 use Rattle.fkv_operations.specs.After.{key_of}
-use Rattle.fkv_pages.proofs.ReceiptLemmas.{receipt-within}
+use Rattle.fkv_hybrid.proofs.ReceiptLemmas.{receipt-within}
 use Rattle.fkv_partition.specs.CoreContexts.{claim_by}
 use Rattle.fkv_partition.specs.CoreInside.{view_of}
 use Rattle.fkv_partition.specs.CoreLoading.{Tells, Loads, found, ended}

@@ -1,6 +1,6 @@
 use Rattle.std.proofs.Common.{Some, refl, subst}
 use Rattle.fkv_records.specs.Places.{page_at}
-use Rattle.fkv_pages.specs.Loads.{IsHeldBy}
+use Rattle.fkv_hybrid.specs.Loads.{IsHeldBy}
 use Rattle.fkv_partition.specs.Checking.{asks}
 use Rattle.fkv_partition.specs.Views.{at_stage}
 use Rattle.fkv_partition.proofs.ApartLemmas.{err-ok, loads-done, no-later, has-come}

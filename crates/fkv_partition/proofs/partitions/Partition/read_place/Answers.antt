@@ -4,8 +4,8 @@ use Rattle.fkv_functions.specs.declared.refusals.Refused.TheVariants.{Damaged}
 use Rattle.fkv_records.specs.Places.{page_at}
 use Rattle.fkv_texts.specs.declared.entries.Entry.{Entry}
 use Rattle.fkv_texts.specs.Text.{entry_at}
-use Rattle.fkv_pages.specs.Loads.{IsHeldBy}
-use Rattle.fkv_pages.specs.Spelled.{IsEntryIn}
+use Rattle.fkv_hybrid.specs.Loads.{IsHeldBy}
+use Rattle.fkv_hybrid.specs.Spelled.{IsEntryIn}
 use Rattle.fkv_partition.specs.Reading.{LoadsOn, HasPage}
 use Rattle.fkv_partition.proofs.ApartLemmas.{err-ok, has-come}
 use Rattle.fkv_partition.proofs.ReadLemmas.{place-begun, place-read, place-undamaged}

@@ -1,7 +1,7 @@
 use Rattle.std.proofs.Common.{◌<◌, Some, Err, refl, sym, ap, subst, ◌∙◌}
 use Rattle.std.proofs.lemmas.Bool.{false≢true}
 use Rattle.std.specs.Prelude.{IfSome}
-use Rattle.fkv_pages.specs.Spelled.{IsEntryIn}
+use Rattle.fkv_hybrid.specs.Spelled.{IsEntryIn}
 use Rattle.fkv_partition.specs.Reading.{LoadsOn}
 use Rattle.fkv_partition.specs.Views.{at_stage}
 use Rattle.fkv_partition.specs.declared.relocations.Stage.TheVariants.{Fresh}

@@ -2,7 +2,7 @@ use Rattle.std.proofs.Common.{◌≢◌, ◌<◌, length, Some, refl, sym, ap, s
 use Rattle.std.specs.Prelude.{IfSome}
 use Rattle.fkv_functions.proofs.KeyOrder.{key_order}
 use Rattle.fkv_records.specs.Places.{page_at}
-use Rattle.fkv_pages.specs.Loads.{HasReceipt, IsHeldBy}
+use Rattle.fkv_hybrid.specs.Loads.{HasReceipt, IsHeldBy}
 use Rattle.fkv_hybrid.specs.Scans.{MayFail}
 use Rattle.fkv_partition.specs.CoreLoading.{idle, came, failed}
 use Rattle.fkv_partition.proofs.LoadLemmas.{counted-why}

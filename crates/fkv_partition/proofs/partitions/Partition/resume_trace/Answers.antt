@@ -3,9 +3,9 @@ use Rattle.std.proofs.lemmas.Bool.{false≢true}
 use Rattle.fkv_functions.proofs.KeyOrder.{key_order}
 use Rattle.fkv_functions.specs.declared.refusals.Refused.TheVariants.{Damaged}
 use Rattle.fkv_records.specs.Places.{page_at, IsRecordStart}
-use Rattle.fkv_pages.specs.Spelled.{IsEntryIn}
-use Rattle.fkv_pages.specs.Loads.{IsHeldBy, first_place}
-use Rattle.fkv_pages.proofs.ReceiptLemmas.{receipt-within}
+use Rattle.fkv_hybrid.specs.Spelled.{IsEntryIn}
+use Rattle.fkv_hybrid.specs.Loads.{IsHeldBy, first_place}
+use Rattle.fkv_hybrid.proofs.ReceiptLemmas.{receipt-within}
 use Rattle.fkv_partition.specs.Checking.{higher_of, Ends}
 use Rattle.fkv_partition.specs.Reading.{LoadsOn}
 use Rattle.fkv_partition.specs.declared.relocations.Stage.TheVariants.{Ready}

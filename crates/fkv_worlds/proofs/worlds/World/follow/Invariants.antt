@@ -1,7 +1,7 @@
 use Rattle.std.proofs.Common.{◌≡◌, ◌+◌, ℕ, Option, Result}
 use Rattle.fkv_functions.specs.declared.refusals.Refused.{Refused}
 use Rattle.fkv_lives.specs.declared.outcomes.Outcome.{Outcome}
-use Rattle.fkv_pages.specs.Spelled.{IsEntryIn}
+use Rattle.fkv_hybrid.specs.Spelled.{IsEntryIn}
 use Rattle.fkv_worlds.proofs.Naming.{stands}
 use Rattle.fkv_device.specs.declared.memory.MemoryReceipt.{MemoryReceipt}
 use Rattle.fkv_worlds.specs.States.{WorldView}
