@@ -9,17 +9,17 @@ use Rattle.fkv_workers.proofs.blocks.run_blocks.Goals as goal
 pub returns-clause-ok : goal.returns-clause-ok
 returns-clause-ok g c keeps held =
     let shared = c.in-Ok-worked.ensures.ok keeps in
-    on_ok c.tabled.result _ (λ run. IsTableOf g.F.Functions.meaning (map g.S.Source.remaining c.args.feeds.items) run.table) (c.tabled.ensures.table keeps held)
-    (λ run table. table (map g.S.Source.remaining c.args.feeds.items) shared.shares shared.fed shared.kept)
+    on_ok c.tabled.result _ (λ run. IsTableOf g.F.Functions.meaning (map g.S.Source.remaining c.args.feeds.now.items) run.table) (c.tabled.ensures.table keeps held)
+    (λ run table. table (map g.S.Source.remaining c.args.feeds.now.items) shared.shares shared.fed shared.kept)
 
 pub returns-clause-made : goal.returns-clause-made
 returns-clause-made g c keeps held =
-    on_ok c.tabled.result _ (λ run. IsMadeOf g.F.Functions.meaning g.F.Functions.code c.args.mode (map g.S.Source.remaining c.args.feeds.items) run.table run.counts.rows) (c.tabled.ensures.closed keeps held)
+    on_ok c.tabled.result _ (λ run. IsMadeOf g.F.Functions.meaning g.F.Functions.code c.args.mode (map g.S.Source.remaining c.args.feeds.now.items) run.table run.counts.rows) (c.tabled.ensures.closed keeps held)
     (λ run closed. record { passes = c.in-Ok-worked.passes.items; histories = closed.0; shared = c.in-Ok-worked.ensures.ok keeps; closed = closed.1 })
 
 pub returns-clause-good : goal.returns-clause-good
 returns-clause-good g c k =
-    subst (λ n. IsRunnable c.args.config.now (size_of 32 g.F.Value.Fixed.SIZE) c.args.workers n) (c.len.ensures ∙ c.args.feeds.ok.0)
+    subst (λ n. IsRunnable c.args.config.now (size_of 32 g.F.Value.Fixed.SIZE) c.args.workers n) (c.len.ensures ∙ c.args.feeds.now.ok.0)
     (c.if-not-is_runnable.ensures.0 refl)
 
 pub returns-clause-refused : goal.returns-clause-refused
