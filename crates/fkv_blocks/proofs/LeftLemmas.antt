@@ -1,6 +1,6 @@
 -- What a feed in blocks has left.
 use Rattle.std.proofs.Common.{◌≡◌, ◌+◌, ◌-◌, ◌^◌, ◌≤◌, ◌⊎◌, inl, inr, Result, Err, ℕ, List, [], ◌∷◌, ◌++◌, Option, Some, None, refl, sym, ap, subst, ◌∙◌, arith, length, take, drop, take_all, length-drop, length-append, append-nil, drop-drop, zero, suc, Bool, true, false, cond, get_or, IsTrue}
-use Rattle.std.specs.Prelude.{option_map, slice_index, IfSome, IfNone}
+use Rattle.std.specs.Prelude.{option_map, IfSome, IfNone}
 use Rattle.std.specs.Io.KnownBytes.{IsAtEnd, Keeps, prepend_known}
 use Rattle.std.proofs.lemmas.List.{take-append-le}
 use Rattle.fkv_blocks.specs.Cutting.{IsBetween, IsCut, block_of, state_after}
@@ -154,10 +154,12 @@ stop_counted {T} place before now then None refused told r h n is counts (inl e)
 stop_counted place before now then None refused told r h n is counts (inr e) memory failed =
     subst (λ w. HasFailed place before then (Some w)) (sym (failed e)) (refl, counts.counted (is ∙ ap Err e) ∙ ap one_more h)
 
-pub untaken_by : (feeds : List (Option (List ℕ))) (counts : List ℕ) (place now : ℕ) (why : Refused) → HasFailed place (slice_index counts place) now (Some why) → IsUntaken feeds counts place now why
-untaken_by feeds counts place now NoMemory h = IsUntaken.memory refl
-untaken_by feeds counts place now (Unreadable n) h = IsUntaken.failed (ap Unreadable h.0) h.1
-untaken_by feeds counts place now other h = absurd h
+pub untaken_by : (feeds : List (Option (List ℕ))) (place low before now : ℕ) (why : Refused) (has_failed : Bool) → HasFailed place before now (Some why)
+    → ((n : ℕ) → why ≡ Unreadable n → has_failed ≡ true)
+    → IsUntaken feeds (record { feed = place; low = low; refused = why; has_failed = has_failed })
+untaken_by feeds place low before now NoMemory has_failed h is = IsUntaken.memory refl
+untaken_by feeds place low before now (Unreadable n) has_failed h is = IsUntaken.failed (ap Unreadable h.0) (is n refl)
+untaken_by feeds place low before now other has_failed h is = absurd h
 
 -- before its first block
 pub begins : (known left : Option (List ℕ)) → Keeps (option_map strip_bom known) left → HasLeft (option_map strip_bom known) 0 left

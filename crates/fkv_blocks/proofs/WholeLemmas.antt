@@ -1,22 +1,21 @@
 -- What the blocks that workers have read come to.
-use Rattle.std.proofs.Common.{◌≡◌, ◌+◌, ◌<◌, ◌≤◌, ◌^◌, ◌==◌, ◌⊎◌, inl, inr, ℕ, ℤ, List, [], ◌∷◌, ◌++◌, length, map, take, filter, flat_map, get_or, Option, Some, None, refl, sym, ap, subst, ◌∙◌, arith, length-append, append_assoc, zero, suc}
+use Rattle.std.proofs.Common.{◌≡◌, ◌+◌, ◌<◌, ◌≤◌, ◌==◌, ◌⊎◌, inl, inr, ℕ, List, [], ◌∷◌, ◌++◌, length, map, take, filter, flat_map, get_or, true, Option, Some, None, refl, sym, ap, subst, ◌∙◌, arith, length-append, append_assoc, zero, suc}
 use Rattle.std.specs.Prelude.{option_map, slice_index, IfSome}
 use Rattle.std.specs.List.{All, AllZip}
 use Rattle.csv.specs.Reading.{Reached, default_config, strip_bom}
 use Rattle.csv.specs.declared.parser.State.{State}
 use Rattle.csv.specs.declared.parser.State.TheVariants as st
-use Rattle.fkv_functions.specs.declared.names.Name.{Name}
 use Rattle.fkv_functions.specs.declared.refusals.Refused.{Refused}
 use Rattle.fkv_functions.specs.declared.refusals.Refused.TheVariants.{NoMemory, Mismatch, BadRow, Unreadable}
 use Rattle.fkv_streams.specs.Counting.{one_more}
-use Rattle.fkv_feed_rows.specs.Feeds.{IsBadRow, IsFeed, IsTooLong, TellsUnread, without_mark}
+use Rattle.fkv_feed_rows.specs.Feeds.{IsBadRow, IsFeed, IsTooLong, without_mark}
 use Rattle.fkv_feed_rows.specs.Rows.{AreRows}
 use Rattle.fkv_feed_rows.proofs.RecordLemmas.{are_rows-length}
 use Rattle.fkv_blocks.specs.Cutting.{IsBetween, state_after}
 use Rattle.fkv_blocks.specs.Left.{EndsAt, IsBlockOf, IsUntaken, number_of, text_at}
-use Rattle.fkv_blocks.specs.Orders.{AreOrdered, IsOrder, spans_in}
-use Rattle.fkv_blocks.specs.Pieces.{AreFed, AreWhole, HasBefore, IsFirstUnread, IsUpTo, Piece, StandsBefore, records_of, rows_of}
-use Rattle.fkv_blocks.specs.Shares.{AreRowsAt, AreRowsIn, IsBadBlock, IsStop, TellsBlock, WereRead}
+use Rattle.fkv_blocks.specs.Orders.{AreOrdered}
+use Rattle.fkv_blocks.specs.Pieces.{AreFed, AreWhole, HasBefore, IsFirstUnread, IsUpTo, Piece, StandsBefore, TellsFault, records_of, rows_of}
+use Rattle.fkv_blocks.specs.Shares.{AreRowsAt, AreRowsIn, IsBadBlock, IsStop, WereRead}
 use Rattle.fkv_blocks.specs.Spans.{AreRecordsAt, Chains}
 use Rattle.fkv_blocks.specs.declared.blocks.Stop.{Stop}
 use Rattle.fkv_blocks.specs.declared.orders.Taken.{Taken}
@@ -158,17 +157,16 @@ module _ (feeds : List (Option (List ℕ))) (limit : ℕ) (ends : List ℕ) (han
         (rows_of (weave had.0 had.1 f here).pieces, read_one had.0 had.1 f here (end f (omega (arith, lt, le))) (short f lt))
 
     -- one has too many rows
-    pub first_is_long : (counts : List ℕ) (place : ℕ) → place < m → limit < records_of (get_or orders place []) → ((f : ℕ) → f < place → records_of (get_or orders f []) ≤ limit)
-        → IsFirstUnread feeds counts limit (Unreadable (number_of place))
-    first_is_long counts place lt more short =
+    pub first_is_long : (before after : List ℕ) (place : ℕ) → place < m → limit < records_of (get_or orders place []) → ((f : ℕ) → f < place → records_of (get_or orders f []) ≤ limit)
+        → IsFirstUnread feeds before after limit (Unreadable (number_of place))
+    first_is_long before after place lt more short =
         let here : place < length ends = omega (arith, lt, within) in
         let w = weave had.0 had.1 place here in
         record {
           place = place;
           is_one = omega (arith, here, some);
-          before = first_read place (omega (arith, lt)) short;
-          after = slice_index counts place;
-          tells = (refl, inr (refl, feed_long limit (get_or ends place 0) (get_or orders place []) w.pieces (o.each place here).chain (get_or feeds place None) (end place lt) w.of_order more));
+          read = first_read place (omega (arith, lt)) short;
+          tells = TellsFault.long refl (feed_long limit (get_or ends place 0) (get_or orders place []) w.pieces (o.each place here).chain (get_or feeds place None) (end place lt) w.of_order more);
         }
 
     -- and the next one up to a place
@@ -249,9 +247,9 @@ module _ (limit : ℕ) (text : List ℕ) (low high count : ℕ) (block : List �
       }
 
 -- ---- what is told of the first worker that stopped
-module _ (feeds : List (Option (List ℕ))) (counts : List ℕ) (limit : ℕ) (feed low count : ℕ) (stands : StandsBefore limit feeds feed low count) where
-  unread : (why : Refused) (after : ℕ) → TellsUnread (number_of feed) limit (get_or feeds feed None) (slice_index counts feed) after why → IsFirstUnread feeds counts limit why
-  unread why after tells = record { place = feed; is_one = stands.is_one; before = stands.before; after = after; tells = tells }
+module _ (feeds : List (Option (List ℕ))) (counts after : List ℕ) (limit : ℕ) (feed low count : ℕ) (stands : StandsBefore limit feeds feed low count) where
+  unread : (why : Refused) → TellsFault (number_of feed) limit (get_or feeds feed None) (slice_index counts feed) (slice_index after feed) why → IsFirstUnread feeds counts after limit why
+  unread why tells = record { place = feed; is_one = stands.is_one; read = stands.before; tells = tells }
 
   module _ (high : ℕ) (block : List ℕ) where
     bad_in : (bytes : Option (List ℕ)) → IsBlockOf (option_map strip_bom bytes) block low high → HasBefore limit (option_map strip_bom bytes) low count → (n : ℕ) → IsBadRow block n → count + n ≤ limit
@@ -271,7 +269,7 @@ module _ (feeds : List (Option (List ℕ))) (counts : List ℕ) (limit : ℕ) (f
 
   module _ (result : Refused) where
     abbrev Told : Type 0
-    Told = (result ≡ NoMemory) ⊎ (result ≡ Mismatch) ⊎ IsFirstUnread feeds counts limit result
+    Told = (result ≡ NoMemory) ⊎ (result ≡ Mismatch) ⊎ IsFirstUnread feeds counts after limit result
 
     told_bad : (why : Refused) → IsBadBlock feeds limit feed low why
         → ((f n : ℕ) → why ≡ BadRow f n → count + n ≤ limit → result ≡ BadRow f (count + n))
@@ -280,35 +278,36 @@ module _ (feeds : List (Option (List ℕ))) (counts : List ℕ) (limit : ℕ) (f
         → Told
     told_bad NoMemory b row long other = inl (other (λ f n e. cc))
     told_bad (BadRow f n) b row long other = elim (less_or limit (count + n)) [
-      | inl lt ↦ inr (inr (subst (IsFirstUnread feeds counts limit) (sym (long f n refl lt))
-          (unread (Unreadable f) (slice_index counts feed) (b.tells.0, inr (refl, long_in b.high b.block (get_or feeds feed None) b.is stands.here n b.tells.1 lt)))))
-      | inr le ↦ inr (inr (subst (IsFirstUnread feeds counts limit) (sym (row f n refl le))
-          (unread (BadRow f (count + n)) (slice_index counts feed) (refl, b.tells.0, bad_in b.high b.block (get_or feeds feed None) b.is stands.here n b.tells.1 le))))
+      | inl lt ↦ inr (inr (subst (IsFirstUnread feeds counts after limit) (sym (long f n refl lt))
+          (unread (Unreadable f) (TellsFault.long (ap Unreadable b.tells.0) (long_in b.high b.block (get_or feeds feed None) b.is stands.here n b.tells.1 lt)))))
+      | inr le ↦ inr (inr (subst (IsFirstUnread feeds counts after limit) (sym (row f n refl le))
+          (unread (BadRow f (count + n)) (TellsFault.bad (count + n) (ap (λ g. BadRow g (count + n)) b.tells.0) (bad_in b.high b.block (get_or feeds feed None) b.is stands.here n b.tells.1 le)))))
     ]
     told_bad (Unreadable f) b row long other =
-        inr (inr (subst (IsFirstUnread feeds counts limit) (sym (other (λ g n e. cc)))
-        (unread (Unreadable f) (slice_index counts feed) (b.tells.0, inr (refl, block_in b.high b.block (get_or feeds feed None) b.is stands.here b.tells.1)))))
+        inr (inr (subst (IsFirstUnread feeds counts after limit) (sym (other (λ g n e. cc)))
+        (unread (Unreadable f) (TellsFault.long (ap Unreadable b.tells.0) (block_in b.high b.block (get_or feeds feed None) b.is stands.here b.tells.1)))))
     told_bad why b row long other = absurd b.tells
 
-    told_untaken : (why : Refused) (failures : ℕ) → IsUntaken feeds counts feed failures why
+    told_unread : TellsFault (number_of feed) limit (get_or feeds feed None) (slice_index counts feed) (slice_index after feed) (Unreadable (number_of feed)) → (why : Refused) → why ≡ Unreadable (number_of feed)
         → (((f n : ℕ) → why ≡ BadRow f n → ⊥) → result ≡ why)
         → Told
-    told_untaken why failures (IsUntaken.memory e) other = inl (other (λ f n is. cc) ∙ e)
-    told_untaken why failures (IsUntaken.failed e counted) other =
-        inr (inr (subst (IsFirstUnread feeds counts limit) (sym (other (λ f n is. cc) ∙ e)) (unread (Unreadable (number_of feed)) failures (refl, inl counted))))
-    told_untaken why failures (IsUntaken.wide e wide) other =
-        inr (inr (subst (IsFirstUnread feeds counts limit) (sym (other (λ f n is. cc) ∙ e)) (unread (Unreadable (number_of feed)) (one_more (slice_index counts feed)) (refl, inl refl))))
+    told_unread tells why e other =
+        inr (inr (subst (IsFirstUnread feeds counts after limit) (sym (other (λ f n is. cc) ∙ e)) (unread (Unreadable (number_of feed)) tells)))
 
-pub told_first : (feeds : List (Option (List ℕ))) (counts : List ℕ) (limit count : ℕ) (stop : Stop) (result : Refused) → IsStop feeds counts limit stop
+pub told_first : (feeds : List (Option (List ℕ))) (counts after : List ℕ) (limit count : ℕ) (stop : Stop) (result : Refused) → IsStop feeds limit stop
+    → (stop.has_failed ≡ true → slice_index after stop.feed ≡ one_more (slice_index counts stop.feed))
     → StandsBefore limit feeds stop.feed stop.low count
     → ((f n : ℕ) → stop.refused ≡ BadRow f n → count + n ≤ limit → result ≡ BadRow f (count + n))
     → ((f n : ℕ) → stop.refused ≡ BadRow f n → limit < count + n → result ≡ Unreadable f)
     → (((f n : ℕ) → stop.refused ≡ BadRow f n → ⊥) → result ≡ stop.refused)
-    → (result ≡ NoMemory) ⊎ (result ≡ Mismatch) ⊎ IsFirstUnread feeds counts limit result
-told_first feeds counts limit count stop result (IsStop.bad b) stands row long other =
-    told_bad feeds counts limit stop.feed stop.low count stands result stop.refused b row long other
-told_first feeds counts limit count stop result (IsStop.untaken failures u) stands row long other =
-    told_untaken feeds counts limit stop.feed stop.low count stands result stop.refused failures u other
+    → (result ≡ NoMemory) ⊎ (result ≡ Mismatch) ⊎ IsFirstUnread feeds counts after limit result
+told_first feeds counts after limit count stop result (IsStop.bad sound b) failed stands row long other =
+    told_bad feeds counts after limit stop.feed stop.low count stands result stop.refused b row long other
+told_first feeds counts after limit count stop result (IsStop.untaken (IsUntaken.memory e)) failed stands row long other = inl (other (λ f n is. cc) ∙ e)
+told_first feeds counts after limit count stop result (IsStop.untaken (IsUntaken.failed e has)) failed stands row long other =
+    told_unread feeds counts after limit stop.feed stop.low count stands result (TellsFault.failed refl (failed has)) stop.refused e other
+told_first feeds counts after limit count stop result (IsStop.untaken (IsUntaken.wide e sound wide)) failed stands row long other =
+    told_unread feeds counts after limit stop.feed stop.low count stands result (TellsFault.wide refl wide) stop.refused e other
 
 -- ---- one after the other
 pub records_more : (order : List Taken) (i : ℕ) (d : Taken) → i < length order → records_of (take (i + 1) order) ≡ records_of (take i order) + (get_or order i d).span.records

@@ -7,6 +7,7 @@ use Rattle.fkv_functions.specs.declared.refusals.Refused.{Refused}
 use Rattle.fkv_functions.specs.declared.refusals.Refused.TheVariants.{NoMemory, Unreadable}
 use Rattle.fkv_streams.specs.Counting.{one_more}
 use Rattle.fkv_blocks.specs.Cutting.{IsBetween, IsCut, block_of, state_after}
+use Rattle.fkv_blocks.specs.declared.blocks.Stop.{Stop}
 
 -- the number of the feed at this place, counted from 1
 abbrev pub number_of : ℕ → ℕ
@@ -86,12 +87,11 @@ abbrev pub IsNext : BlocksView → ℕ → Bool → Type 0
 IsNext b size true = (size ≡ length b.held) × (b.stopped ≡ None) × IsAtEnd b.left
 IsNext b size false = (0 < size) × IsCut b.held size
 
--- why no block is handed out of the feed at this place: for want of memory; or its stream failed, which it counted; or it is too wide
-pub data IsUntaken (feeds : List (Option (List ℕ))) (counts : List ℕ) (place failures : ℕ) (why : Refused) : Type 0 where
-  memory : why ≡ NoMemory → IsUntaken feeds counts place failures why
-  failed : why ≡ Unreadable (number_of place)
-      → failures ≡ one_more (slice_index counts place)
-      → IsUntaken feeds counts place failures why
-  wide : why ≡ Unreadable (number_of place)
-      → IsWide (text_at feeds place)
-      → IsUntaken feeds counts place failures why
+-- why no block is handed out of a feed: for want of memory; or since its stream failed; or it is too wide
+pub data IsUntaken (feeds : List (Option (List ℕ))) (stop : Stop) : Type 0 where
+  memory : stop.refused ≡ NoMemory → IsUntaken feeds stop
+  failed : stop.refused ≡ Unreadable (number_of stop.feed) → stop.has_failed ≡ true → IsUntaken feeds stop
+  wide : stop.refused ≡ Unreadable (number_of stop.feed)
+      → stop.has_failed ≡ false
+      → IsWide (text_at feeds stop.feed)
+      → IsUntaken feeds stop

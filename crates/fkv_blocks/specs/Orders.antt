@@ -1,5 +1,5 @@
 -- The blocks of feeds that several workers read, in the order of each feed.
-use Rattle.std.specs.Prelude.{◌≡◌, ◌<◌, ◌≤◌, ◌==◌, ℕ, List, [], ◌∷◌, length, map, slice_index, slice_index_or, slice_set}
+use Rattle.std.specs.Prelude.{◌≡◌, ◌<◌, ◌==◌, ℕ, List, [], ◌∷◌, length, map, slice_index, slice_index_or, slice_set}
 use Rattle.std.specs.List.{All, filter}
 use Rattle.fkv_blocks.specs.Spans.{Chains}
 use Rattle.fkv_blocks.specs.declared.orders.Taken.{Taken}

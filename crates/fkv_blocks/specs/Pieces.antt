@@ -1,14 +1,17 @@
 -- Rows of feeds that several workers read, in pieces.
-use Rattle.std.specs.Prelude.{◌≡◌, ◌<◌, ◌≤◌, ◌+◌, ◌==◌, ◌⊎◌, ℕ, ℤ, List, [], ◌∷◌, length, map, slice_index, slice_index_or, Option, None, Some, ⊤, flat_map}
+use Rattle.std.specs.Prelude.{◌≡◌, ◌<◌, ◌≤◌, ◌+◌, ◌==◌, ◌⊎◌, ℕ, ℤ, List, [], ◌∷◌, length, map, slice_index, slice_index_or, Option, None, Some, ⊤, IfSome, flat_map, option_map}
 use Rattle.std.specs.List.{All, AllZip, filter}
 use Rattle.fkv_functions.specs.declared.names.Name.{Name}
+use Rattle.csv.specs.Reading.{strip_bom}
 use Rattle.fkv_functions.specs.declared.refusals.Refused.{Refused}
-use Rattle.fkv_feed_rows.specs.Feeds.{IsFeed, TellsUnread}
+use Rattle.fkv_functions.specs.declared.refusals.Refused.TheVariants.{BadRow, Unreadable}
+use Rattle.fkv_streams.specs.Counting.{one_more}
+use Rattle.fkv_feed_rows.specs.Feeds.{IsBadRow, IsFeed, IsTooLong, without_mark}
 use Rattle.fkv_feed_rows.specs.Rows.{AreRows}
 use Rattle.fkv_blocks.specs.declared.orders.Taken.{Taken}
 use Rattle.fkv_blocks.specs.declared.spans.Span.{Span}
 use Rattle.fkv_blocks.specs.declared.spans.Ticket.{Ticket}
-use Rattle.fkv_blocks.specs.Left.{number_of, text_at}
+use Rattle.fkv_blocks.specs.Left.{IsWide, number_of, text_at}
 use Rattle.fkv_blocks.specs.Shares.{AreRowsIn}
 use Rattle.fkv_blocks.specs.Spans.{AreRecordsAt, Chains}
 
@@ -67,10 +70,26 @@ pub record StandsBefore (limit : ℕ) (feeds : List (Option (List ℕ))) (feed l
   pub before : (f : ℕ) → f < feed → (rows : List (Name × ℤ)) × IsFeed limit (slice_index_or feeds f None) rows
   pub here : HasBefore limit (text_at feeds feed) low count
 
--- the first of these feeds that was not read to its end, and why: those before it have rows
-pub record IsFirstUnread (feeds : List (Option (List ℕ))) (counts : List ℕ) (limit : ℕ) (why : Refused) : Type 0 where
+-- why a feed has no rows, whose stream had failed so often before a run, and so often after it: a record of it is no row; or its stream
+-- failed, which it counted; or it has more records than the limit, or more bytes than a number of 64 bits counts
+pub data TellsFault (feed limit : ℕ) (bytes : Option (List ℕ)) (before after : ℕ) (why : Refused) : Type 0 where
+  bad : (n : ℕ)
+      → why ≡ BadRow feed n
+      → IfSome bytes (λ b. IsBadRow (without_mark b) n)
+      → TellsFault feed limit bytes before after why
+  failed : why ≡ Unreadable feed → after ≡ one_more before → TellsFault feed limit bytes before after why
+  long : why ≡ Unreadable feed
+      → IfSome bytes (λ b. IsTooLong limit (without_mark b))
+      → TellsFault feed limit bytes before after why
+  wide : why ≡ Unreadable feed
+      → IsWide (option_map strip_bom bytes)
+      → TellsFault feed limit bytes before after why
+
+-- the first of these feeds that has no rows, and why, where their streams had failed so often before a run, and so often after it: those
+-- before it have rows
+pub record IsFirstUnread (feeds : List (Option (List ℕ))) (before after : List ℕ) (limit : ℕ) (why : Refused) : Type 0 where
   pub place : ℕ
   pub is_one : place < length feeds
-  pub before : (f : ℕ) → f < place → (rows : List (Name × ℤ)) × IsFeed limit (slice_index_or feeds f None) rows
-  pub after : ℕ
-  pub tells : TellsUnread (number_of place) limit (slice_index_or feeds place None) (slice_index counts place) after why
+  pub read : (f : ℕ) → f < place → (rows : List (Name × ℤ)) × IsFeed limit (slice_index_or feeds f None) rows
+  pub tells : TellsFault (number_of place) limit (slice_index_or feeds place None) (slice_index before place)
+      (slice_index after place) why

@@ -1,5 +1,5 @@
 -- What a reader of blocks has of a feed.
-use Rattle.std.specs.Prelude.{◌≡◌, ℕ, ℤ, List, Option, Some, None, ⊤, flat_map}
+use Rattle.std.specs.Prelude.{◌≡◌, ℕ, ℤ, List, Option, Some, None, ⊤, false, flat_map}
 use Rattle.std.specs.List.{AllZip}
 use Rattle.fkv_functions.specs.declared.names.Name.{Name}
 use Rattle.fkv_functions.specs.declared.refusals.Refused.{Refused}
@@ -36,9 +36,9 @@ pub record IsBadBlock (feeds : List (Option (List ℕ))) (limit place low : ℕ)
   pub tells : TellsBlock (number_of place) limit block why
 
 -- why no more blocks of a feed were read: one of them was not read to its end, or the next one was not handed out
-pub data IsStop (feeds : List (Option (List ℕ))) (counts : List ℕ) (limit : ℕ) (stop : Stop) : Type 0 where
-  bad : IsBadBlock feeds limit stop.feed stop.low stop.refused → IsStop feeds counts limit stop
-  untaken : (failures : ℕ) → IsUntaken feeds counts stop.feed failures stop.refused → IsStop feeds counts limit stop
+pub data IsStop (feeds : List (Option (List ℕ))) (limit : ℕ) (stop : Stop) : Type 0 where
+  bad : stop.has_failed ≡ false → IsBadBlock feeds limit stop.feed stop.low stop.refused → IsStop feeds limit stop
+  untaken : IsUntaken feeds stop → IsStop feeds limit stop
 
 -- the blocks of these tickets were read: each has rows
 abbrev pub WereRead : List (Option (List ℕ)) → List Ticket → Type 0

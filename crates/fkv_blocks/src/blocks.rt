@@ -2,7 +2,7 @@
 //!
 //! What lies under a lock is known by its type alone. So the type says which feeds there are (`Origin`), and a value which of them it
 //! is: what is left of it, where it ended, and whether its stream failed, is a fact of each value.
-ghost use Rattle.std.specs.Prelude.{◌≡◌, ◌≤◌, ◌+◌, ◌-◌, ◌^◌, ℕ, List, [], Option, None, Some, false, true, length, slice_index, slice_index_or, IfOk, IfErr, IfSome, IfNone, OnErr, IsSome};
+ghost use Rattle.std.specs.Prelude.{◌≡◌, ◌≤◌, ◌+◌, ◌-◌, ◌^◌, ℕ, List, [], Option, None, Some, false, true, length, slice_index, slice_index_or, IfOk, IfErr, IfSome, IfNone, OnErr, IsSome, IsTrue};
 ghost use Rattle.fkv_streams.specs.Counting.{one_more};
 ghost use Rattle.fkv_blocks.specs.Left.{EndsAt, HasFailed, IsBlockOf, IsNext, IsUntaken, IsWide, number_of, text_at};
 
@@ -43,6 +43,8 @@ pub struct Stop {
     pub feed: usize,
     pub low: u64,
     pub refused: Refused,
+    /// Whether its stream failed there.
+    pub has_failed: bool,
 }
 
 /// How many of the bytes that are held make the next block, and whether it is the last.
@@ -70,6 +72,15 @@ pub fn number(place: usize) -> u64
     ensures { result ≡ number_of place }
 {
     (place as u64).saturating_add(1)
+}
+
+/// Whether this is told of a feed whose stream failed.
+fn is_unreadable(refused: Refused) -> bool
+    ensures memory { refused ≡ Refused.NoMemory → result ≡ false }
+    ensures failed { (n : ℕ) → refused ≡ Refused.Unreadable n → result ≡ true }
+    ensures only { IsTrue result → (n : ℕ) × (refused ≡ Refused.Unreadable n) }
+{
+    matches!(refused, Refused::Unreadable { .. })
 }
 
 /// Where a block lies; none where it has no byte.
@@ -208,7 +219,8 @@ impl<S: Source, B: Origin> Blocks<S, B> {
         ensures given { IfOk result (λ found. IfSome found (λ p. (p.feed ≡ self.old.place)
             × IsBlockOf (text_at B.feeds p.feed) block.new.items p.low p.high)) }
         ensures over { IfOk result (λ found. IfNone found (self.new.over ≡ true)) }
-        ensures told { IfErr result (IsUntaken B.feeds B.counts self.new.place self.new.failures) }
+        ensures told { IfErr result (λ why. IsUntaken B.feeds
+            (record { feed = self.new.place; low = self.old.at; refused = why; has_failed = false })) }
         ensures place { self.new.place ≡ self.old.place }
     {
         let low = self.at;
@@ -237,8 +249,7 @@ impl<S: Source, B: Origin> Blocks<S, B> {
         ensures given { IfOk result (λ found. IfSome found (λ p. (p.feed ≡ self.old.place)
             × IsBlockOf (text_at B.feeds p.feed) block.new.items p.low p.high)) }
         ensures over { IfOk result (λ found. IfNone found (self.new.over ≡ true)) }
-        ensures told { IfErr result (λ stop. (stop.feed ≡ self.old.place)
-            × IsUntaken B.feeds B.counts stop.feed self.new.failures stop.refused) }
+        ensures told { IfErr result (λ stop. (stop.feed ≡ self.old.place) × IsUntaken B.feeds stop) }
         ensures place { self.new.place ≡ self.old.place }
     {
         if self.over {
@@ -250,11 +261,21 @@ impl<S: Source, B: Origin> Blocks<S, B> {
         let (feed, low) = (self.place, self.at);
         let cut = match self.next() {
             Ok(cut) => cut,
-            Err(refused) => return Err(Stop { feed, low, refused }),
+            Err(refused) => return Err(Stop {
+                feed,
+                low,
+                refused,
+                has_failed: is_unreadable(refused),
+            }),
         };
         match self.hand_out(cut, block) {
             Ok(place) => Ok(place),
-            Err(refused) => Err(Stop { feed, low, refused }),
+            Err(refused) => Err(Stop {
+                feed,
+                low,
+                refused,
+                has_failed: false,
+            }),
         }
     }
 
@@ -274,6 +295,24 @@ impl<S: Source, B: Origin> Blocks<S, B> {
         }
         Some(self.at)
     }
+
+    /// Whether its stream failed, which it counted.
+    pub fn has_failed(&self) -> bool
+        ensures { IsTrue result → self.now.failures ≡ one_more (slice_index B.counts self.now.place) }
+    {
+        match self.stopped {
+            Some(refused) => is_unreadable(refused),
+            None => false,
+        }
+    }
+
+    /// Its stream, as far as it was read.
+    pub fn into_source(self) -> S
+        ensures { S.failures result ≡ self.failures }
+    {
+        let Blocks { source, .. } = self;
+        source
+    }
 }
 
 /// The next block of a feed that several threads share.
@@ -288,7 +327,7 @@ pub fn take_block<S: Source, B: Origin>(
 ) -> Result<Option<Place>, Stop>
     ensures given { IfOk result (λ found. IfSome found
         (λ p. IsBlockOf (text_at B.feeds p.feed) block.new.items p.low p.high)) }
-    ensures told { IfErr result (λ stop. (failures : ℕ) × IsUntaken B.feeds B.counts stop.feed failures stop.refused) }
+    ensures told { IfErr result (IsUntaken B.feeds) }
 {
     blocks.lock(rt).take(block)
 }

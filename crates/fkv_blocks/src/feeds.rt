@@ -82,7 +82,7 @@ impl<S: Source + Drop, B: Origin> Feeds<S, B> {
         requires { HaveRows B.feeds (K.RowSink.stands sink.old) tickets.old.items }
         ensures ok { OnOk result (HaveRows B.feeds (K.RowSink.stands sink.new) tickets.new.items) }
         ensures read { OnErr result (WereRead B.feeds tickets.new.items) }
-        ensures told { IfErr result (λ stop. K.RowSink.fault stop.refused ⊎ IsStop B.feeds B.counts limit stop) }
+        ensures told { IfErr result (λ stop. K.RowSink.fault stop.refused ⊎ IsStop B.feeds limit stop) }
     {
         let Some(feed) = self.feeds.get(place) else {
             return Ok(());
@@ -98,6 +98,7 @@ impl<S: Source + Drop, B: Origin> Feeds<S, B> {
                     feed: place,
                     low: 0,
                     refused,
+                    has_failed: false,
                 }),
             }
             match read_next(rt, alloc, &feed.blocks, limit, &mut block, sink, tickets) {
@@ -123,7 +124,7 @@ impl<S: Source + Drop, B: Origin> Feeds<S, B> {
         requires { HaveRows B.feeds (K.RowSink.stands sink.old) tickets.old.items }
         ensures ok { OnOk result (HaveRows B.feeds (K.RowSink.stands sink.new) tickets.new.items) }
         ensures read { OnErr result (WereRead B.feeds tickets.new.items) }
-        ensures told { IfErr result (λ stop. K.RowSink.fault stop.refused ⊎ IsStop B.feeds B.counts limit stop) }
+        ensures told { IfErr result (λ stop. K.RowSink.fault stop.refused ⊎ IsStop B.feeds limit stop) }
     {
         for place in low..high {
             match self.read_one(rt, alloc, place, limit, sink, tickets) {
@@ -158,7 +159,7 @@ impl<S: Source + Drop, B: Origin> Feeds<S, B> {
         requires { HaveRows B.feeds (K.RowSink.stands sink.old) tickets.old.items }
         ensures ok { OnOk result (HaveRows B.feeds (K.RowSink.stands sink.new) tickets.new.items) }
         ensures read { WereRead B.feeds tickets.new.items }
-        ensures told { IfErr result (λ stop. K.RowSink.fault stop.refused ⊎ IsStop B.feeds B.counts limit stop) }
+        ensures told { IfErr result (λ stop. K.RowSink.fault stop.refused ⊎ IsStop B.feeds limit stop) }
     {
         let count = self.feeds.len();
         if count == 0 {

@@ -23,3 +23,4 @@ pub use feeds::Feeds;
 pub use orders::{Taken, ordered};
 pub use reading::BlockSink;
 pub use spans::{Span, Ticket, chains};
+pub use whole::Ended;

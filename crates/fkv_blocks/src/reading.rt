@@ -58,7 +58,7 @@ pub(crate) fn read_next<S: Source, B: Origin, K: RowSink>(
     ensures ok { OnOk result (HaveRows B.feeds (K.stands sink.new) tickets.new.items) }
     ensures over { result ≡ Ok false → tickets.new.items ≡ tickets.old.items }
     ensures read { OnErr result (tickets.new.items ≡ tickets.old.items) }
-    ensures told { IfErr result (λ stop. K.fault stop.refused ⊎ IsStop B.feeds B.counts limit stop) }
+    ensures told { IfErr result (λ stop. K.fault stop.refused ⊎ IsStop B.feeds limit stop) }
 {
     let place = match take_block(rt, feed, block) {
         Ok(Some(place)) => place,
@@ -68,7 +68,12 @@ pub(crate) fn read_next<S: Source, B: Origin, K: RowSink>(
     let Place { feed, low, high } = place;
     let records = match read_block(alloc, block.as_slice(), number(feed), limit, sink) {
         Ok(records) => records,
-        Err(refused) => return Err(Stop { feed, low, refused }),
+        Err(refused) => return Err(Stop {
+            feed,
+            low,
+            refused,
+            has_failed: false,
+        }),
     };
     let span = Span { low, high, records };
     match tickets.push(Ticket { feed, span }) {
@@ -77,6 +82,7 @@ pub(crate) fn read_next<S: Source, B: Origin, K: RowSink>(
             feed,
             low,
             refused: Refused::NoMemory,
+            has_failed: false,
         }),
     }
 }

@@ -1,19 +1,20 @@
 //! What workers have read, once all have ended: all blocks of all feeds, or those before the first one that stopped a worker.
 ghost use Rattle.std.specs.Prelude.{◌≡◌, ◌<◌, ◌≤◌, ◌+◌, ◌^◌, ◌↔◌, ◌⊎◌, ℕ, [], IsTrue, length, map, slice_index, slice_index_or, IfOk, IfErr, IfSome, IfNone, OnOk};
 ghost use Rattle.std.specs.List.{All};
+ghost use Rattle.fkv_streams.specs.Counting.{one_more};
 ghost use Rattle.fkv_blocks.specs.Left.{EndsAt, text_at};
 ghost use Rattle.fkv_blocks.specs.Orders.{AreOrdered};
 ghost use Rattle.fkv_blocks.specs.Pieces.{AreWhole, IsFirstUnread, IsUpTo, StandsBefore, records_of};
 ghost use Rattle.fkv_blocks.specs.Shares.{IsStop, WereRead};
 
 use crate::blocks::{Blocks, Origin, Stop, number};
-use crate::feeds::Feeds;
+use crate::feeds::{Feeds, SharedFeed};
 use crate::orders::{Taken, ordered};
 use crate::spans::Ticket;
 use fkv_functions::Refused;
 use fkv_streams::Source;
 use std::alloc::Global;
-use std::sync::{Mutex, Wait};
+use std::marker::Model;
 
 /// How many records these blocks have; none where they are 2^64 or more.
 fn total(order: &[Taken]) -> Option<u64>
@@ -131,19 +132,14 @@ fn hands_before<B: Origin>(
     Ok(kept)
 }
 
-/// Where the feed at a place ended; none where it has not.
-fn end_of<S: Source, B: Origin>(
-    rt: &impl Wait,
-    feed: &Mutex<Blocks<S, B>>,
-    place: usize,
-) -> Option<u64>
+/// Where this feed ended, if it is the one at this place; none where it has not ended.
+fn end_of<S: Source, B: Origin>(feed: &Blocks<S, B>, place: usize) -> Option<u64>
     ensures { IfSome result (EndsAt (text_at B.feeds place)) }
 {
-    let blocks = feed.lock(rt);
-    if blocks.place() != place {
+    if feed.place() != place {
         return None;
     }
-    blocks.end()
+    feed.end()
 }
 
 /// What these tickets have of feeds that end at these places, in order. Refused: `NoMemory`; and `Mismatch` where there is no order.
@@ -159,10 +155,68 @@ fn in_order(alloc: Global, ends: &[u64], hands: &[Vec<Ticket>]) -> Result<Vec<Ve
     }
 }
 
+/// Feeds that nobody reads any more. A contract sees how often their streams have failed.
+#[derive(Drop)]
+pub struct Ended<S: Source + Drop, B: Origin> {
+    feeds: Vec<Blocks<S, B>>,
+}
+
+impl<S: Source + Drop, B: Origin> Model for Ended<S, B> {
+    ghost use Rattle.std.specs.Prelude.{◌≡◌, ℕ, List, length, map};
+
+    ghost Value = { List ℕ };
+
+    ghost view = { λ e. map (λ feed. feed.failures) e.feeds.items };
+
+    ghost invariant = { λ e. length e.feeds.items ≡ length B.feeds };
+}
+
 impl<S: Source + Drop, B: Origin> Feeds<S, B> {
+    /// The feeds, out of their locks, once all who share them have ended. Refused: `NoMemory`.
+    pub fn ended(self, alloc: Global) -> Result<Ended<S, B>, Refused>
+        ensures only { IfErr result (λ e. e ≡ Refused.NoMemory) }
+    {
+        let Feeds { feeds } = self;
+        let mut ended = Vec::new(alloc);
+        for feed in feeds {
+            let SharedFeed { blocks, .. } = feed;
+            let Ok(()) = ended.push(blocks.into_inner()) else {
+                return Err(Refused::NoMemory);
+            };
+        }
+        Ok(Ended { feeds: ended })
+    }
+}
+
+impl<S: Source + Drop, B: Origin> Ended<S, B> {
+    /// The streams of the feeds, as far as they were read. Refused: `NoMemory`.
+    pub fn into_sources(self, alloc: Global) -> Result<Vec<S>, Refused>
+        ensures ok { IfOk result (λ sources. map S.failures sources.items ≡ self) }
+        ensures only { IfErr result (λ e. e ≡ Refused.NoMemory) }
+    {
+        let Ended { feeds } = self;
+        let mut sources = Vec::new(alloc);
+        for feed in feeds {
+            let Ok(()) = sources.push(feed.into_source()) else {
+                return Err(Refused::NoMemory);
+            };
+        }
+        Ok(sources)
+    }
+
+    /// Whether the stream of the feed at this place has failed in the run, which it counted.
+    fn has_failed(&self, place: usize) -> bool
+        ensures { IsTrue result → slice_index self.now place ≡ one_more (slice_index B.counts place) }
+    {
+        match self.feeds.get(place) {
+            Some(feed) => feed.place() == place && feed.has_failed(),
+            None => false,
+        }
+    }
+
     /// Where each of the first feeds ended, as many as are asked for. Refused: `NoMemory`; and `Mismatch` where one has not ended, or
     /// there are fewer.
-    fn ends(&self, rt: &impl Wait, alloc: Global, many: usize) -> Result<Vec<u64>, Refused>
+    fn ends(&self, alloc: Global, many: usize) -> Result<Vec<u64>, Refused>
         ensures count { IfOk result (λ ends. length ends.items ≡ many) }
         ensures each { IfOk result (λ ends. (f : ℕ) → f < many → EndsAt (text_at B.feeds f) (slice_index ends.items f)) }
         ensures only { IfErr result (λ e. (e ≡ Refused.NoMemory) ⊎ (e ≡ Refused.Mismatch)) }
@@ -172,7 +226,7 @@ impl<S: Source + Drop, B: Origin> Feeds<S, B> {
             let Some(feed) = self.feeds.get(place) else {
                 return Err(Refused::Mismatch);
             };
-            let Some(end) = end_of(rt, &feed.blocks, place) else {
+            let Some(end) = end_of(feed, place) else {
                 return Err(Refused::Mismatch);
             };
             let Ok(()) = ends.push(end) else {
@@ -190,19 +244,13 @@ impl<S: Source + Drop, B: Origin> Feeds<S, B> {
     /// `NoMemory`; `Mismatch` where the blocks of some feed do not lie one behind another from its start to its end, which no workers
     /// bring about that read by [`Feeds::read`] and were not refused; and `Unreadable` with the number of the first feed that has more
     /// rows than `limit`.
-    pub fn whole(
-        &self,
-        rt: &impl Wait,
-        alloc: Global,
-        limit: u64,
-        hands: &[Vec<Ticket>],
-    ) -> Result<(), Refused>
+    pub fn whole(&self, alloc: Global, limit: u64, hands: &[Vec<Ticket>]) -> Result<(), Refused>
         requires { All (WereRead B.feeds) (map (λ hand. hand.items) hands.now) }
         ensures ok { OnOk result (AreWhole limit B.feeds (map (λ hand. hand.items) hands.now)) }
         ensures refused { IfErr result (λ e. (e ≡ Refused.NoMemory) ⊎ (e ≡ Refused.Mismatch)
-            ⊎ IsFirstUnread B.feeds B.counts limit e) }
+            ⊎ IsFirstUnread B.feeds B.counts self.now limit e) }
     {
-        let ends = match self.ends(rt, alloc, self.feeds.len()) {
+        let ends = match self.ends(alloc, self.feeds.len()) {
             Ok(ends) => ends,
             Err(refused) => return Err(refused),
         };
@@ -223,7 +271,6 @@ impl<S: Source + Drop, B: Origin> Feeds<S, B> {
     /// the number of the first feed before it that has more rows than `limit`.
     fn rows_before(
         &self,
-        rt: &impl Wait,
         alloc: Global,
         limit: u64,
         hands: &[Vec<Ticket>],
@@ -233,12 +280,12 @@ impl<S: Source + Drop, B: Origin> Feeds<S, B> {
         requires { All (WereRead B.feeds) (map (λ hand. hand.items) hands.now) }
         ensures ok { IfOk result (StandsBefore limit B.feeds feed low) }
         ensures refused { IfErr result (λ e. (e ≡ Refused.NoMemory) ⊎ (e ≡ Refused.Mismatch)
-            ⊎ IsFirstUnread B.feeds B.counts limit e) }
+            ⊎ IsFirstUnread B.feeds B.counts self.now limit e) }
     {
         if feed >= self.feeds.len() {
             return Err(Refused::Mismatch);
         }
-        let mut ends = match self.ends(rt, alloc, feed) {
+        let mut ends = match self.ends(alloc, feed) {
             Ok(ends) => ends,
             Err(refused) => return Err(refused),
         };
@@ -264,22 +311,24 @@ impl<S: Source + Drop, B: Origin> Feeds<S, B> {
     /// What is told of feeds where one worker stopped so, and none stopped at a block before that one: the feeds before it have rows, and it
     /// has none; a bad row is told by its number in the feed. The workers' tickets say how many rows stand before the block.
     ///
-    /// `NoMemory` and `Mismatch` are told in its place, as [`Feeds::whole`] is refused with them.
-    pub fn fault(
-        &self,
-        rt: &impl Wait,
-        alloc: Global,
-        limit: u64,
-        hands: &[Vec<Ticket>],
-        stop: Stop,
-    ) -> Refused
+    /// `NoMemory` and `Mismatch` are told in its place, as [`Ended::whole`] is refused with them; and `Mismatch` where the worker met a
+    /// failure of a stream that has none, which none does.
+    pub fn fault(&self, alloc: Global, limit: u64, hands: &[Vec<Ticket>], stop: Stop) -> Refused
         requires read { All (WereRead B.feeds) (map (λ hand. hand.items) hands.now) }
-        requires stop { IsStop B.feeds B.counts limit stop }
+        requires stop { IsStop B.feeds limit stop }
         ensures { (result ≡ Refused.NoMemory) ⊎ (result ≡ Refused.Mismatch)
-            ⊎ IsFirstUnread B.feeds B.counts limit result }
+            ⊎ IsFirstUnread B.feeds B.counts self.now limit result }
     {
-        let Stop { feed, low, refused } = stop;
-        match self.rows_before(rt, alloc, limit, hands, feed, low) {
+        let Stop {
+            feed,
+            low,
+            refused,
+            has_failed,
+        } = stop;
+        if has_failed && !self.has_failed(feed) {
+            return Refused::Mismatch;
+        }
+        match self.rows_before(alloc, limit, hands, feed, low) {
             Ok(before) => told_behind(refused, before, limit),
             Err(refused) => refused,
         }

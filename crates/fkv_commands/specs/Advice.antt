@@ -4,12 +4,12 @@ use Rattle.fkv_requests.specs.declared.requests.Shown.{Shown}
 use Rattle.fkv_requests.specs.declared.requests.Shown.TheVariants.{Count, Sum, Max, Summary}
 use Rattle.fkv_commands.specs.declared.reporting.Report.{Report}
 
--- how many records have room in three quarters of a MiB: one of a summary takes 80 bytes, one of another table at most 64
+-- how many records have room in five eighths of a MiB: one of a summary takes 80 bytes, one of another table at most 64
 abbrev pub keys_of_a_mebibyte : Shown → ℕ
-keys_of_a_mebibyte Count = 12288
-keys_of_a_mebibyte Sum = 12288
-keys_of_a_mebibyte Max = 12288
-keys_of_a_mebibyte Summary = 9830
+keys_of_a_mebibyte Count = 10240
+keys_of_a_mebibyte Sum = 10240
+keys_of_a_mebibyte Max = 10240
+keys_of_a_mebibyte Summary = 8192
 
 -- how many rows read a page back, about: each page that was written is read once for the list of the keys
 abbrev pub read_back : ℕ → ℕ → ℕ → ℕ

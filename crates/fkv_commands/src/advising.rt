@@ -24,12 +24,12 @@ fn is_advised(sized: bool, report: &Report) -> bool
     !sized && read_back(report) > report.counts.rows / 10
 }
 
-/// The keys for which three quarters of a MiB have 64 bytes each: no record of counts, sums or maxima takes more. The last
-/// quarter is for buckets.
-const KEYS_OF_A_MEBIBYTE: u64 = 12_288;
+/// The keys for which five eighths of a MiB have 64 bytes each: no record of counts, sums or maxima takes more. A quarter is for
+/// buckets, and an eighth for what grows with the table.
+const KEYS_OF_A_MEBIBYTE: u64 = 10_240;
 
 /// The keys for which they have 80 bytes each, as a record of a summary takes.
-const SUMMARIES_OF_A_MEBIBYTE: u64 = 9_830;
+const SUMMARIES_OF_A_MEBIBYTE: u64 = 8_192;
 
 /// A power of two of MiB that have room for the records of so many keys.
 fn mebibytes_for(shown: Shown, keys: u64) -> u64

@@ -60,8 +60,9 @@ where
 {
     let config = &table.config;
     let mode = mode_of(table);
+    let mut feeds = feeds;
     run_blocks::<S, F, D, H, Open, T>(
-        rt, alloc, feeds, workers, functions, config, device, &Open, mode,
+        rt, alloc, &mut feeds, workers, functions, config, device, &Open, mode,
     )
 }
 

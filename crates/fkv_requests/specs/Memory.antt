@@ -59,11 +59,12 @@ share_of memory partition_bits = memory / 2 ^ min partition_bits 6
 abbrev pub bucket_bits_in : ℕ → ℕ
 bucket_bits_in share = bits_within (share / 256) 20
 
--- pages of 2^8 to 2^20 bytes, so small that their frames are some hundreds
-abbrev pub page_bits_in : ℕ → ℕ
-page_bits_in share = 8 + bits_within (share / 2 ^ 17) 12
+-- pages of 2^8 to 2^20 bytes, so small that their frames are some hundreds, or some tens where rows are made merges, which read no page
+abbrev pub page_bits_in : ℕ → Bool → ℕ
+page_bits_in share merge = 8 + bits_within (share / (if merge then 2 ^ 13 else 2 ^ 17)) 12
 
--- frames in what the buckets leave, from 2 to 1024; there are at most 2^20 buckets, and a page has at most 2^20 bytes
+-- frames in what the buckets leave of seven eighths of the share, from 2 to 1024; there are at most 2^20 buckets, and a page has at most
+-- 2^20 bytes
 abbrev pub frames_in : ℕ → ℕ → ℕ → ℕ
 frames_in bucket_bits page_bits share =
-    max (min ((share - 64 * 2 ^ min bucket_bits 20) / 2 ^ min page_bits 20) 1024) 2
+    max (min ((share - share / 8 - 64 * 2 ^ min bucket_bits 20) / 2 ^ min page_bits 20) 1024) 2

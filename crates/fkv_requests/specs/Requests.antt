@@ -131,6 +131,26 @@ number_in id rows = number_of (first_of id rows)
 abbrev pub given_or : Text → List Row → ℕ → ℕ
 given_or id rows usual = if is_given (source_of id rows) then number_in id rows else usual
 
+-- whether a flag is given, by its text
+abbrev pub is_set : Option Text → Bool
+is_set None = false
+is_set (Some text) = bytes_eq text (codes "true")
+
+-- how many workers read its feeds
+abbrev pub workers_of : List Row → ℕ
+workers_of rows = number_of (first_of (codes "workers") rows)
+
+-- whether a row is made a merge where it would read a page
+abbrev pub merge_of : List Row → Bool
+merge_of rows = is_set (first_of (codes "merge") rows)
+
+-- the bits of the number of partitions where no size is named: where no number is given, one worker has the default, and several have
+-- 2^6 partitions, so that they seldom want the same one
+abbrev pub partition_bits_of : List Row → ℕ
+partition_bits_of rows =
+    given_or (codes "partition-bits") rows
+    (if nat_lt 1 (workers_of rows) then 6 else number_in (codes "partition-bits") rows)
+
 -- the memory that is named, or that none is; none at all where the size can't be read
 abbrev pub memory_in : Option Text → Option (Option ℕ)
 memory_in None = Some None
@@ -155,14 +175,14 @@ abbrev pub sized_config : ℕ → ℕ → List Row → Config
 sized_config memory partition_bits rows =
     shared_config (share_of memory partition_bits) partition_bits
     (given_or (codes "bucket-bits") rows (bucket_bits_in (share_of memory partition_bits)))
-    (given_or (codes "page-bits") rows (page_bits_in (share_of memory partition_bits)))
+    (given_or (codes "page-bits") rows (page_bits_in (share_of memory partition_bits) (merge_of rows)))
     rows
 
 -- the configuration that the options of a subcommand say, within so much memory where a size is named
 abbrev pub config_of : Option ℕ → List Row → Config
 config_of None rows = record {
   id = 1;
-  partition_bits = number_in (codes "partition-bits") rows;
+  partition_bits = partition_bits_of rows;
   bucket_bits = number_in (codes "bucket-bits") rows;
   page_bits = number_in (codes "page-bits") rows;
   frames = number_in (codes "frames") rows;
@@ -173,19 +193,6 @@ config_of (Some memory) rows = sized_config memory (given_or (codes "partition-b
 -- the folder that keeps its pages, if one is named
 abbrev pub folder_of : List Row → Option Text
 folder_of rows = first_of (codes "dir") rows
-
--- whether a flag is given, by its text
-abbrev pub is_set : Option Text → Bool
-is_set None = false
-is_set (Some text) = bytes_eq text (codes "true")
-
--- how many workers read its feeds
-abbrev pub workers_of : List Row → ℕ
-workers_of rows = number_of (first_of (codes "workers") rows)
-
--- whether a row is made a merge where it would read a page
-abbrev pub merge_of : List Row → Bool
-merge_of rows = is_set (first_of (codes "merge") rows)
 
 -- whether its histories are kept
 abbrev pub audit_of : List Row → Bool

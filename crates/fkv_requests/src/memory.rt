@@ -1,7 +1,9 @@
 //! How much memory a store may take, and the numbers that follow from it.
 //!
-//! Each partition has its share. A quarter of that, at most, is for its buckets, 64 bytes each; the rest is for its page
-//! frames. Pages are as small as some hundreds of frames allow, since whoever reads one page reads it whole.
+//! Each partition has its share. An eighth of that is for what grows with the table: receipts of pages, buckets that overflow, and the
+//! lists that are made at the end. A quarter, at most, is for its buckets, 64 bytes each; the rest is for its page frames. Pages are as
+//! small as some hundreds of frames allow, since whoever reads one page reads it whole. Rows that are made merges read none: then some
+//! tens of frames are enough, and larger pages have fewer receipts.
 ghost use Rattle.std.specs.Prelude.{◌≡◌, ◌≤◌, length};
 ghost use Rattle.fkv_requests.specs.Memory.{
   size_of,
@@ -122,18 +124,20 @@ pub fn bucket_bits_in(share: u64) -> u64
     bits_within(share / 256, 20)
 }
 
-/// The bits of a page's size.
-pub fn page_bits_in(share: u64) -> u64
-    ensures { result ≡ page_bits_in share }
+/// The bits of a page's size: pages are larger where rows are made merges.
+pub fn page_bits_in(share: u64, merge: bool) -> u64
+    ensures { result ≡ page_bits_in share merge }
 {
-    8 + bits_within(share / (1 << 17), 12)
+    let least = if merge { 1 << 13 } else { 1 << 17 };
+    8 + bits_within(share / least, 12)
 }
 
-/// The page frames of a partition: from 2 to 1024. There are at most 2^20 buckets, and a page has at most 2^20 bytes.
+/// The page frames of a partition, in what its buckets leave of seven eighths of its share: from 2 to 1024. There are at most 2^20
+/// buckets, and a page has at most 2^20 bytes.
 pub fn frames_in(bucket_bits: u64, page_bits: u64, share: u64) -> u64
     ensures { result ≡ frames_in bucket_bits page_bits share }
 {
     let buckets = 64u64 << bucket_bits.min(20);
-    let rest = share.saturating_sub(buckets);
+    let rest = share.saturating_sub(share / 8).saturating_sub(buckets);
     (rest >> page_bits.min(20)).min(1024).max(2)
 }

@@ -24,6 +24,7 @@ ghost use Rattle.fkv_requests.specs.Requests.{
   given_or,
   memory_of,
   config_of,
+  partition_bits_of,
   folder_of,
   has_bad_path,
   inputs_in,
@@ -364,6 +365,18 @@ fn number_or(options: &ArgMatches<'_>, id: &str, usual: u64) -> u64
     }
 }
 
+/// The bits of the number of partitions where no size is named: several workers have 2^6 where none is given.
+fn partition_bits_by(options: &ArgMatches<'_>) -> u64
+    ensures { result ≡ partition_bits_of (rows_of (found_of options.now)) }
+{
+    let usual = if number_by(options, "workers") > 1 {
+        6
+    } else {
+        number_by(options, "partition-bits")
+    };
+    number_or(options, "partition-bits", usual)
+}
+
 /// The configuration that the options say, within so much memory where a size is named.
 fn config_by(options: &ArgMatches<'_>, memory: Option<u64>) -> Config
     ensures { result ≡ config_of memory (rows_of (found_of options.now)) }
@@ -371,7 +384,7 @@ fn config_by(options: &ArgMatches<'_>, memory: Option<u64>) -> Config
     let Some(memory) = memory else {
         return Config {
             id: 1,
-            partition_bits: number_by(options, "partition-bits"),
+            partition_bits: partition_bits_by(options),
             bucket_bits: number_by(options, "bucket-bits"),
             page_bits: number_by(options, "page-bits"),
             frames: number_by(options, "frames"),
@@ -381,7 +394,8 @@ fn config_by(options: &ArgMatches<'_>, memory: Option<u64>) -> Config
     let partition_bits = number_or(options, "partition-bits", partition_bits_in(memory));
     let share = share_of(memory, partition_bits);
     let bucket_bits = number_or(options, "bucket-bits", bucket_bits_in(share));
-    let page_bits = number_or(options, "page-bits", page_bits_in(share));
+    let merge = flag_by(options, "merge");
+    let page_bits = number_or(options, "page-bits", page_bits_in(share, merge));
     let frames = frames_in(bucket_bits, page_bits, share);
     Config {
         id: 1,
@@ -466,8 +480,8 @@ fn memory<'a>(alloc: Global) -> Arg<'a>
         .long("memory")
         .value_name("SIZE")
         .help(
-            "How much memory buckets and pages may take, as 64M or 2G; it sets --partition-bits, --bucket-bits, --page-bits and \
---frames, where they are not given",
+            "How much memory the store may take, as 64M or 2G, an eighth of it for what grows with the table; it sets \
+--partition-bits, --bucket-bits, --page-bits and --frames, where they are not given",
         )
 }
 
@@ -522,7 +536,7 @@ fn placed<'a>(
             1,
             14,
             "1",
-            "How many threads read the feeds, each some of them: 1 to 14",
+            "How many threads read the feeds, in blocks that they share: 1 to 14",
         ))?
         .arg(flag(
             alloc,
@@ -568,7 +582,7 @@ fn numbered<'a>(alloc: Global, command: Command<'a>) -> Result<Command<'a>, Allo
             0,
             6,
             "2",
-            "There are 2 to this many partitions: 0 to 6",
+            "There are 2 to this many partitions: 0 to 6; of several workers 6 where neither it nor --memory is given",
         ))?
         .arg(number(
             alloc,

@@ -38,21 +38,21 @@ impl RowSink for Text {
 
 /// What comes of a feed in blocks of so many bytes at least: how many blocks there were, or why it is refused, and the rows.
 #[derive(Drop)]
-struct Came {
-    told: Result<usize, Refused>,
-    rows: Vec<u8>,
+pub(crate) struct Came {
+    pub told: Result<usize, Refused>,
+    pub rows: Vec<u8>,
 }
 
 /// Reads a text in blocks, by a stream that gives so many bytes a call and fails after so many calls.
-fn in_blocks(
+pub(crate) fn in_blocks(
     rt: &impl Wait,
     alloc: Global,
-    text: &str,
+    text: &[u8],
     piece: usize,
     calls: u64,
     size: usize,
 ) -> Came {
-    let source = CountedReader::new(Breaking::new(text.as_bytes(), piece, calls));
+    let source = CountedReader::new(Breaking::new(text, piece, calls));
     let feed = Mutex::new(Blocks::<_, Brand>::begin(alloc, source, 2, size));
     let mut sink = Text {
         text: Vec::new(alloc),
@@ -124,7 +124,7 @@ fn blocks_of_every_size(rt: HostRuntime) {
         );
         for size in 0..24 {
             for piece in [1, 2, 3, 8_192] {
-                let came = in_blocks(&rt, rt.alloc(), text, piece, 1_000_000, size);
+                let came = in_blocks(&rt, rt.alloc(), text.as_bytes(), piece, 1_000_000, size);
                 assert!(rt; came.told.is_ok(), "{text}: {size} {piece}");
                 assert!(rt;
                     came.rows.as_slice() == rows.as_bytes(),
@@ -189,7 +189,7 @@ const ROWS: [Row; 12] = [
 #[test]
 fn what_comes_of_blocks(rt: HostRuntime) {
     for (text, piece, calls, size, told, rows) in ROWS {
-        let came = in_blocks(&rt, rt.alloc(), text, piece, calls, size);
+        let came = in_blocks(&rt, rt.alloc(), text.as_bytes(), piece, calls, size);
         assert!(rt; came.told == told, "{text}: {piece} {calls} {size}");
         assert!(rt;
             came.rows.as_slice() == rows.as_bytes(),

@@ -5,3 +5,5 @@
 mod cuts;
 #[cfg(test)]
 mod orders;
+#[cfg(test)]
+mod random;

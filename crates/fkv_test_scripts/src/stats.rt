@@ -140,10 +140,10 @@ const ADVISED: [(&str, usize, u64, u64, u64, &str); 11] = [
         360_959,
         "fkv_cli: 360419 of 1000000 rows read a page back; --memory 64M would hold them\n",
     ),
-    // three quarters of 2^20 bytes are 64 for each of 12,288 keys
+    // five eighths of 2^20 bytes are 64 for each of 10,240 keys
     (
         "fkv_cli count --stats --page-bits 8",
-        12_288,
+        10_240,
         20_000,
         0,
         2_001,
@@ -151,16 +151,16 @@ const ADVISED: [(&str, usize, u64, u64, u64, &str); 11] = [
     ),
     (
         "fkv_cli max --stats --dir pages",
-        12_289,
+        10_241,
         20_000,
         0,
         2_001,
         "fkv_cli: 2001 of 20000 rows read a page back; --memory 2M would hold them\n",
     ),
-    // and 80 for each of 9,830, as a record of a summary takes
+    // and 80 for each of 8,192, as a record of a summary takes
     (
         "fkv_cli summary --stats",
-        9_830,
+        8_192,
         20_000,
         0,
         2_001,
@@ -168,17 +168,17 @@ const ADVISED: [(&str, usize, u64, u64, u64, &str); 11] = [
     ),
     (
         "fkv_cli summary --stats --merge",
-        9_831,
+        8_193,
         20_000,
         0,
         2_001,
         "fkv_cli: 2001 of 20000 rows read a page back; --memory 2M would hold them\n",
     ),
     // one row in ten is not more than that
-    ("fkv_cli sum --stats", 12_288, 20_000, 0, 2_000, ""),
+    ("fkv_cli sum --stats", 10_240, 20_000, 0, 2_000, ""),
     // pages that only the list of the keys reads
-    ("fkv_cli sum --stats", 12_288, 20, 40, 40, ""),
-    ("fkv_cli sum --stats", 12_288, 20, 40, 39, ""),
+    ("fkv_cli sum --stats", 10_240, 20, 40, 40, ""),
+    ("fkv_cli sum --stats", 10_240, 20, 40, 39, ""),
     // there are no more such rows than rows
     (
         "fkv_cli sum --stats",
@@ -191,7 +191,7 @@ const ADVISED: [(&str, usize, u64, u64, u64, &str); 11] = [
     // the words say how much there is
     (
         "fkv_cli sum --stats --memory 64M",
-        12_288,
+        10_240,
         20_000,
         0,
         9_000,
@@ -199,7 +199,7 @@ const ADVISED: [(&str, usize, u64, u64, u64, &str); 11] = [
     ),
     (
         "fkv_cli sum --stats --frames 4",
-        12_288,
+        10_240,
         20_000,
         0,
         9_000,
@@ -378,14 +378,14 @@ Arguments:
   [FEED]...  CSV files, up to 64, of which - is standard input; with none, standard input. Each line is KEY,AMOUNT (count wants an amount too), with no header: KEY has 1 to 31 bytes, AMOUNT is a whole number of 64 bits
 
 Options:
-      --memory <SIZE>       How much memory buckets and pages may take, as 64M or 2G; it sets --partition-bits, --bucket-bits, --page-bits and --frames, where they are not given
+      --memory <SIZE>       How much memory the store may take, as 64M or 2G, an eighth of it for what grows with the table; it sets --partition-bits, --bucket-bits, --page-bits and --frames, where they are not given
       --dir <PATH>          Keep pages in files of this folder, made anew; without it they are kept in memory
-      --workers <N>         How many threads read the feeds, each some of them: 1 to 14 [default: 1]
+      --workers <N>         How many threads read the feeds, in blocks that they share: 1 to 14 [default: 1]
       --merge               Make a row a merge where it would read a page
       --stats               Tell on standard error, at the end, what the run did
       --progress            Tell on standard error, as it goes, how many rows were read
       --audit               Keep every update, and compare them at the end with what the workers were answered
-      --partition-bits <N>  There are 2 to this many partitions: 0 to 6 [default: 2]
+      --partition-bits <N>  There are 2 to this many partitions: 0 to 6; of several workers 6 where neither it nor --memory is given [default: 2]
       --bucket-bits <N>     There are 2 to this many buckets in each: 0 to 20 [default: 10]
       --page-bits <N>       A page has 2 to this many bytes: 8 to 20 [default: 16]
       --frames <N>          The page frames of each partition: 2 to 1024 [default: 4]

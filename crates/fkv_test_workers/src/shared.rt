@@ -48,8 +48,9 @@ fn summed<
 ) -> Result<Vec<u8>, Refused> {
     let device = MemoryDevice::new(alloc);
     let mode = RowMode::Update;
+    let mut feeds = feeds;
     let run = run_blocks::<_, _, _, H, _, _>(
-        rt, alloc, feeds, workers, SumFns, config, device, gate, mode,
+        rt, alloc, &mut feeds, workers, SumFns, config, device, gate, mode,
     )?;
     let mut text = Vec::new(alloc);
     write_table(alloc, &run.table, &mut CountedWriter::new(&mut text))?;

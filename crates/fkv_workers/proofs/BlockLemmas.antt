@@ -104,34 +104,31 @@ module _ {W R V O : Type 0} (feeds : List (Option (List ℕ))) (code : Name → 
   shared_ok (Err e) items works results each modes is none whole = tt
 
 -- ---- what stopped the first worker
-module _ (feeds : List (Option (List ℕ))) (counts : List ℕ) (limit feed low : ℕ) where
-  abbrev at : Refused → Stop
-  at why = record { feed = feed; low = low; refused = why }
-
+module _ (feeds : List (Option (List ℕ))) (limit feed low : ℕ) where
   told_bad : (why : Refused) → IsBadBlock feeds limit feed low why → ((f n : ℕ) → why ≡ BadRow f n → ⊥) → ((f : ℕ) → why ≡ Unreadable f → ⊥) → IsTold why
   told_bad NoMemory b row long = tt
   told_bad (BadRow f n) b row long = absurd (row f n refl)
   told_bad (Unreadable f) b row long = absurd (long f refl)
   told_bad other b row long = absurd b.tells
 
-  told_untaken : (why : Refused) (failures : ℕ) → IsUntaken feeds counts feed failures why → ((f : ℕ) → why ≡ Unreadable f → ⊥) → IsTold why
-  told_untaken why failures (IsUntaken.memory e) long = subst IsTold (sym e) tt
-  told_untaken why failures (IsUntaken.failed e counted) long = absurd (long _ e)
-  told_untaken why failures (IsUntaken.wide e wide) long = absurd (long _ e)
+told_untaken : (feeds : List (Option (List ℕ))) (stop : Stop) → IsUntaken feeds stop → ((f : ℕ) → stop.refused ≡ Unreadable f → ⊥) → IsTold stop.refused
+told_untaken feeds stop (IsUntaken.memory e) long = subst IsTold (sym e) tt
+told_untaken feeds stop (IsUntaken.failed e has) long = absurd (long _ e)
+told_untaken feeds stop (IsUntaken.wide e sound wide) long = absurd (long _ e)
 
-pub told_store : (feeds : List (Option (List ℕ))) (counts : List ℕ) (limit : ℕ) (stop : Stop) → IsTold stop.refused ⊎ IsStop feeds counts limit stop
+pub told_store : (feeds : List (Option (List ℕ))) (limit : ℕ) (stop : Stop) → IsTold stop.refused ⊎ IsStop feeds limit stop
     → ((f n : ℕ) → stop.refused ≡ BadRow f n → ⊥)
     → ((f : ℕ) → stop.refused ≡ Unreadable f → ⊥)
     → IsTold stop.refused
-told_store feeds counts limit stop (inl told) row long = told
-told_store feeds counts limit stop (inr (IsStop.bad b)) row long = told_bad feeds counts limit stop.feed stop.low stop.refused b row long
-told_store feeds counts limit stop (inr (IsStop.untaken failures u)) row long = told_untaken feeds counts limit stop.feed stop.low stop.refused failures u long
+told_store feeds limit stop (inl told) row long = told
+told_store feeds limit stop (inr (IsStop.bad sound b)) row long = told_bad feeds limit stop.feed stop.low stop.refused b row long
+told_store feeds limit stop (inr (IsStop.untaken u)) row long = told_untaken feeds stop u long
 
-pub told_feed : (feeds : List (Option (List ℕ))) (counts : List ℕ) (limit : ℕ) (stop : Stop) → IsTold stop.refused ⊎ IsStop feeds counts limit stop
+pub told_feed : (feeds : List (Option (List ℕ))) (limit : ℕ) (stop : Stop) → IsTold stop.refused ⊎ IsStop feeds limit stop
     → (IsTold stop.refused → ⊥)
-    → IsStop feeds counts limit stop
-told_feed feeds counts limit stop (inl told) not = absurd (not told)
-told_feed feeds counts limit stop (inr stopped) not = stopped
+    → IsStop feeds limit stop
+told_feed feeds limit stop (inl told) not = absurd (not told)
+told_feed feeds limit stop (inr stopped) not = stopped
 
 -- the first of two stops is one of them
 pub first_some : (P : Stop → Type 0) (first : Option Stop) (other result : Stop) → (result ≡ other) ⊎ (first ≡ Some result) → IfSome first P → P other → P result

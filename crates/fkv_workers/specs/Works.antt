@@ -149,13 +149,13 @@ pub record IsMadeOf {V O : Type 0} (f : Meanings Name V ℤ O) (code : Name → 
   pub closed : IsClosed name_cmp f code (map (λ pass. pass.own) passes) (map (λ pass. pass.share) passes)
       (λ k. lookup (is_at (name_cmp k)) table) histories count
 
--- why a run over blocks of these feeds has no table: it is outside its limits; a call on the store was refused; the first feed that was
--- not read to its end, and why, where the streams had failed so often before; or the store did not close
-pub data IsUnread (runnable : Type 0) (feeds : List (Option (List ℕ))) (counts : List ℕ) (why : Refused) : Type 0 where
-  beyond : why ≡ BadConfig → ¬ runnable → IsUnread runnable feeds counts why
-  told : IsTold why → IsUnread runnable feeds counts why
-  unread : IsFirstUnread feeds counts most_rows why → IsUnread runnable feeds counts why
-  unclosed : IsClosing why → IsUnread runnable feeds counts why
+-- why a run over blocks of these feeds has no table: it is outside its limits; a call on the store was refused; the first feed that has
+-- no rows, and why, where the streams had failed so often before the run, and so often after it; or the store did not close
+pub data IsUnread (runnable : Type 0) (feeds : List (Option (List ℕ))) (before after : List ℕ) (why : Refused) : Type 0 where
+  beyond : why ≡ BadConfig → ¬ runnable → IsUnread runnable feeds before after why
+  told : IsTold why → IsUnread runnable feeds before after why
+  unread : IsFirstUnread feeds before after most_rows why → IsUnread runnable feeds before after why
+  unclosed : IsClosing why → IsUnread runnable feeds before after why
 
 -- a table, beside which stand so many updates, was made of these feeds in this mode: the own lists of passes have one update or merge
 -- for each row, each history is a merge of these lists, they have as many entries, and what they make of the empty map is the

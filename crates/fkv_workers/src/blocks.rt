@@ -14,7 +14,7 @@ use crate::running::is_runnable;
 use crate::sharing::{SharedFeeds, Tickets};
 use crate::tabling::tabled;
 use crate::working::Worked;
-use fkv_blocks::{Feeds, Origin, Stop, Ticket};
+use fkv_blocks::{Ended, Feeds, Origin, Stop, Ticket};
 use fkv_device::Disk;
 use fkv_feeds::{LIMIT, RowMode, Run};
 use fkv_functions::{Mergeable, Name, OrderFree, Refused};
@@ -25,6 +25,7 @@ use fkv_store::{Gate, Pass, Store};
 use fkv_streams::Source;
 use std::alloc::Global;
 use std::marker::Brand;
+use std::mem;
 use std::rt::Clock;
 use std::sync::Wait;
 use std::thread::Threads;
@@ -67,13 +68,13 @@ fn taken_apart<B: Origin, F: Mergeable, D: Disk, H: Recorder<F>>(
     worked: Vec<Worked<F, D, H, Tickets>>,
 ) -> Result<Parted<F, D, H>, Refused>
     requires read { All (λ w. WereRead B.feeds w.had.tickets.items) worked.items }
-    requires stops { All (λ w. IfSome w.fault (λ why. IsTold why
-        ⊎ IsStop B.feeds B.counts most_rows (record { feed = w.had.feed; low = w.had.low; refused = why }))) worked.items }
+    requires stops { All (λ w. IfSome w.fault (λ why. IsTold why ⊎ IsStop B.feeds most_rows
+        (record { feed = w.had.feed; low = w.had.low; refused = why; has_failed = w.had.has_failed }))) worked.items }
     ensures passes { IfOk result (λ p. p.passes.items ≡ map (λ w. w.pass) worked.items) }
     ensures hands { IfOk result (λ p. map (λ hand. hand.items) p.hands.items ≡ map (λ w. w.had.tickets.items) worked.items) }
     ensures read { IfOk result (λ p. All (WereRead B.feeds) (map (λ hand. hand.items) p.hands.items)) }
     ensures none { IfOk result (λ p. p.first ≡ None → All (λ fault. fault ≡ None) (map (λ w. w.fault) worked.items)) }
-    ensures first { IfOk result (λ p. IfSome p.first (λ stop. IsTold stop.refused ⊎ IsStop B.feeds B.counts most_rows stop)) }
+    ensures first { IfOk result (λ p. IfSome p.first (λ stop. IsTold stop.refused ⊎ IsStop B.feeds most_rows stop)) }
     ensures only { IfErr result (λ e. e ≡ Refused.NoMemory) }
 {
     let mut passes = Vec::new(alloc);
@@ -81,10 +82,23 @@ fn taken_apart<B: Origin, F: Mergeable, D: Disk, H: Recorder<F>>(
     let mut first = None;
     for one in worked {
         let Worked { pass, had, fault } = one;
-        let Tickets { tickets, feed, low } = had;
+        let Tickets {
+            tickets,
+            feed,
+            low,
+            has_failed,
+        } = had;
         match fault {
             None => {}
-            Some(refused) => first = Some(first_of(first, Stop { feed, low, refused })),
+            Some(refused) => {
+                let stop = Stop {
+                    feed,
+                    low,
+                    refused,
+                    has_failed,
+                };
+                first = Some(first_of(first, stop));
+            }
         }
         let Ok(()) = passes.push(pass) else {
             return Err(Refused::NoMemory);
@@ -102,40 +116,67 @@ fn taken_apart<B: Origin, F: Mergeable, D: Disk, H: Recorder<F>>(
 
 /// What is told of the first place at which a worker stopped: what the store refused there, or what is wrong with the feed.
 fn told_of<S: Source + Drop, B: Origin>(
-    rt: &impl Wait,
     alloc: Global,
-    feeds: &Feeds<S, B>,
+    feeds: &Ended<S, B>,
     hands: &[Vec<Ticket>],
     stop: Stop,
 ) -> Refused
     requires read { All (WereRead B.feeds) (map (λ hand. hand.items) hands.now) }
-    requires stop { IsTold stop.refused ⊎ IsStop B.feeds B.counts most_rows stop }
-    ensures { IsTold result ⊎ (result ≡ Refused.Mismatch) ⊎ IsFirstUnread B.feeds B.counts most_rows result }
+    requires stop { IsTold stop.refused ⊎ IsStop B.feeds most_rows stop }
+    ensures { IsTold result ⊎ (result ≡ Refused.Mismatch) ⊎ IsFirstUnread B.feeds B.counts feeds.now most_rows result }
 {
     match stop.refused {
-        Refused::BadRow { .. } | Refused::Unreadable { .. } => {
-            feeds.fault(rt, alloc, LIMIT, hands, stop)
-        }
+        Refused::BadRow { .. } | Refused::Unreadable { .. } => feeds.fault(
+            alloc, LIMIT, hands, stop,
+        ),
         other => other,
     }
 }
 
-/// The passes of workers that have read all blocks of these feeds. Refused as the first of them is that stopped, by its place; then as
-/// the keeper is; and as the blocks are not all.
-fn joined<S: Source + Drop, B: Origin, F: Mergeable, D: Disk, H: Recorder<F>>(
-    rt: &impl Wait,
+/// That workers with these tickets have read all blocks of these feeds. Refused as the first of them is that stopped, by its place; then
+/// as the keeper is; and as the blocks are not all.
+fn concluded<S: Source + Drop, B: Origin>(
     alloc: Global,
-    feeds: &Feeds<S, B>,
+    feeds: &Ended<S, B>,
+    hands: &[Vec<Ticket>],
+    first: Option<Stop>,
+    kept: Result<(), Refused>,
+) -> Result<(), Refused>
+    requires read { All (WereRead B.feeds) (map (λ hand. hand.items) hands.now) }
+    requires first { IfSome first (λ stop. IsTold stop.refused ⊎ IsStop B.feeds most_rows stop) }
+    requires kept { IfErr kept IsTold }
+    ensures none { OnOk result (first ≡ None) }
+    ensures whole { OnOk result (AreWhole most_rows B.feeds (map (λ hand. hand.items) hands.now)) }
+    ensures refused { IfErr result (λ e. IsTold e ⊎ (e ≡ Refused.Mismatch)
+        ⊎ IsFirstUnread B.feeds B.counts feeds.now most_rows e) }
+{
+    match first {
+        None => {}
+        Some(stop) => return Err(told_of(alloc, feeds, hands, stop)),
+    }
+    match kept {
+        Ok(()) => {}
+        Err(refused) => return Err(refused),
+    }
+    feeds.whole(alloc, LIMIT, hands)
+}
+
+/// The passes of workers that have read all blocks of these feeds, whose streams come back. Refused as [`concluded`] is; and `NoMemory`.
+fn joined<S: Source + Drop, B: Origin, F: Mergeable, D: Disk, H: Recorder<F>>(
+    alloc: Global,
+    feeds: Feeds<S, B>,
     ran: Ran<Worked<F, D, H, Tickets>>,
+    left: &mut Vec<S>,
 ) -> Result<Vec<Pass<F, D, H>>, Refused>
     requires read { All (λ w. WereRead B.feeds w.had.tickets.items) ran.results.items }
-    requires stops { All (λ w. IfSome w.fault (λ why. IsTold why
-        ⊎ IsStop B.feeds B.counts most_rows (record { feed = w.had.feed; low = w.had.low; refused = why }))) ran.results.items }
+    requires stops { All (λ w. IfSome w.fault (λ why. IsTold why ⊎ IsStop B.feeds most_rows
+        (record { feed = w.had.feed; low = w.had.low; refused = why; has_failed = w.had.has_failed }))) ran.results.items }
     requires kept { IfErr ran.kept IsTold }
     ensures ok { IfOk result (λ passes. passes.items ≡ map (λ w. w.pass) ran.results.items) }
     ensures none { OnOk result (All (λ fault. fault ≡ None) (map (λ w. w.fault) ran.results.items)) }
     ensures whole { OnOk result (AreWhole most_rows B.feeds (map (λ w. w.had.tickets.items) ran.results.items)) }
-    ensures refused { IfErr result (λ e. IsTold e ⊎ (e ≡ Refused.Mismatch) ⊎ IsFirstUnread B.feeds B.counts most_rows e) }
+    ensures refused { IfErr result (λ e. IsTold e ⊎ (e ≡ Refused.Mismatch)
+        ⊎ IsFirstUnread B.feeds B.counts (map S.failures left.new.items) most_rows e) }
 {
     let Ran { results, kept } = ran;
     let Parted {
@@ -146,15 +187,16 @@ fn joined<S: Source + Drop, B: Origin, F: Mergeable, D: Disk, H: Recorder<F>>(
         Ok(parted) => parted,
         Err(refused) => return Err(refused),
     };
-    match first {
-        None => {}
-        Some(stop) => return Err(told_of(rt, alloc, feeds, hands.as_slice(), stop)),
-    }
-    match kept {
-        Ok(()) => {}
+    let ended = match feeds.ended(alloc) {
+        Ok(ended) => ended,
         Err(refused) => return Err(refused),
-    }
-    match feeds.whole(rt, alloc, LIMIT, hands.as_slice()) {
+    };
+    let concluded = concluded(alloc, &ended, hands.as_slice(), first, kept);
+    *left = match ended.into_sources(alloc) {
+        Ok(sources) => sources,
+        Err(refused) => return Err(refused),
+    };
+    match concluded {
         Ok(()) => Ok(passes),
         Err(refused) => Err(refused),
     }
@@ -190,7 +232,7 @@ fn worked<
 >(
     rt: &T,
     alloc: Global,
-    feeds: Vec<S>,
+    feeds: &mut Vec<S>,
     workers: usize,
     store: &Store<F, D, H>,
     page_bits: u64,
@@ -205,16 +247,18 @@ where
     D::Reader: Send,
     requires store { 0 < store.now.count }
     requires bits { page_bits < 57 }
-    requires bytes { map S.remaining feeds.items ≡ B.feeds }
-    requires counted { map S.failures feeds.items ≡ B.counts }
+    requires bytes { map S.remaining feeds.old.items ≡ B.feeds }
+    requires counted { map S.failures feeds.old.items ≡ B.counts }
     ensures ok { IfOk result (λ passes. H.keeps ≡ true → IsShared F.code mode B.feeds passes.items) }
-    ensures refused { IfErr result (λ e. IsTold e ⊎ (e ≡ Refused.Mismatch) ⊎ IsFirstUnread B.feeds B.counts most_rows e) }
+    ensures refused { IfErr result (λ e. IsTold e ⊎ (e ≡ Refused.Mismatch)
+        ⊎ IsFirstUnread B.feeds B.counts (map S.failures feeds.new.items) most_rows e) }
 {
-    let feeds = match Feeds::<S, B>::open(alloc, feeds, BLOCK) {
-        Ok(feeds) => feeds,
+    let sources = mem::replace(feeds, Vec::new(alloc));
+    let shared = match Feeds::<S, B>::open(alloc, sources, BLOCK) {
+        Ok(shared) => shared,
         Err(refused) => return Err(refused),
     };
-    let shares = match shares_of(alloc, &feeds, workers) {
+    let shares = match shares_of(alloc, &shared, workers) {
         Ok(shares) => shares,
         Err(refused) => return Err(refused),
     };
@@ -227,7 +271,7 @@ where
         Err(refused) => return Err(refused),
     };
     match run_jobs(rt, alloc, &keeper, works) {
-        Ok(ran) => joined(rt, alloc, &feeds, ran),
+        Ok(ran) => joined(alloc, shared, ran, feeds),
         Err(refused) => Err(refused),
     }
 }
@@ -238,7 +282,8 @@ where
 /// one worker. A worker rests while it waits for a block, so a slow feed holds up none of the others. Beside the table stand how many
 /// updates were made, one a row, and how it was made.
 ///
-/// A worker holds a block of 256 KiB or more, and each feed that is being read as much again.
+/// A worker holds a block of 256 KiB or more, and each feed that is being read as much again. The feeds come back as far as they were
+/// read, with what their streams have counted; but not where a refusal is `NoMemory`, or comes of the store.
 ///
 /// # Errors
 ///
@@ -257,7 +302,7 @@ pub fn run_blocks<
 >(
     rt: &T,
     alloc: Global,
-    feeds: Vec<S>,
+    feeds: &mut Vec<S>,
     workers: usize,
     functions: F,
     config: &Config,
@@ -272,15 +317,15 @@ where
     D::Writer: Send,
     D::Reader: Send,
     ensures ok { H.keeps ≡ true → IsTrue D.Receipt.keeps
-        → IfOk result (λ run. IsTableOf F.meaning (map S.remaining feeds.items) run.table) }
+        → IfOk result (λ run. IsTableOf F.meaning (map S.remaining feeds.old.items) run.table) }
     ensures made { H.keeps ≡ true → IsTrue D.Receipt.keeps → IfOk result (λ run.
-        IsMadeOf F.meaning F.code mode (map S.remaining feeds.items) run.table run.counts.rows) }
+        IsMadeOf F.meaning F.code mode (map S.remaining feeds.old.items) run.table run.counts.rows) }
     ensures ran { IfOk result (λ run. run.plan ≡ record { config = config.now; mode = mode; workers = workers }) }
     ensures good { result ≢ Err Refused.BadConfig
-        → IsRunnable config.now (size_of 32 F.Value.SIZE) workers (length feeds.items) }
+        → IsRunnable config.now (size_of 32 F.Value.SIZE) workers (length feeds.old.items) }
     ensures refused { IfErr result (IsUnread
-        (IsRunnable config.now (size_of 32 F.Value.SIZE) workers (length feeds.items))
-        (map S.remaining feeds.items) (map S.failures feeds.items)) }
+        (IsRunnable config.now (size_of 32 F.Value.SIZE) workers (length feeds.old.items))
+        (map S.remaining feeds.old.items) (map S.failures feeds.old.items) (map S.failures feeds.new.items)) }
 {
     if !is_runnable::<F::Value>(config, workers, feeds.len()) {
         return Err(Refused::BadConfig);

@@ -106,6 +106,8 @@ pub(crate) struct Tickets {
     pub tickets: Vec<Ticket>,
     pub feed: usize,
     pub low: u64,
+    /// Whether the feed's stream failed there.
+    pub has_failed: bool,
 }
 
 impl<'a, S: Source + Drop, B: Origin> Share for SharedFeeds<'a, S, B> {
@@ -114,7 +116,8 @@ impl<'a, S: Source + Drop, B: Origin> Share for SharedFeeds<'a, S, B> {
     ghost reads = { λ share had rows. (parts : List (List (Name × ℤ)))
         × AllZip (AreRowsIn B.feeds) had.tickets.items parts × (rows ≡ flat_map (λ part. part) parts) };
 
-    ghost fails = { λ share had why. IsStop B.feeds B.counts most_rows (record { feed = had.feed; low = had.low; refused = why }) };
+    ghost fails = { λ share had why. IsStop B.feeds most_rows
+        (record { feed = had.feed; low = had.low; refused = why; has_failed = had.has_failed }) };
 
     ghost tells = { λ share had. WereRead B.feeds had.tickets.items };
 
@@ -129,13 +132,24 @@ impl<'a, S: Source + Drop, B: Origin> Share for SharedFeeds<'a, S, B> {
                     tickets,
                     feed: usize::MAX,
                     low: 0,
+                    has_failed: false,
                 },
                 fault: None,
             },
             Err(stop) => {
-                let Stop { feed, low, refused } = stop;
+                let Stop {
+                    feed,
+                    low,
+                    refused,
+                    has_failed,
+                } = stop;
                 Reading {
-                    had: Tickets { tickets, feed, low },
+                    had: Tickets {
+                        tickets,
+                        feed,
+                        low,
+                        has_failed,
+                    },
                     fault: Some(refused),
                 }
             }

@@ -1,6 +1,5 @@
-use Rattle.std.proofs.Common.{◌≡◌, ◌<◌, [], map, length, sym, ap, subst, ◌∙◌, arith, refl, below_more}
-use Rattle.std.proofs.lemmas.Bool.{cases_lt}
-use Rattle.std.proofs.lemmas.List.{get_or_past, length-map, nil_from_length}
+use Rattle.std.proofs.Common.{length, sym, ap, ◌∙◌, arith, below_more}
+use Rattle.std.proofs.lemmas.List.{nil_from_length}
 use Rattle.fkv_blocks.proofs.OrderLemmas.{list_is}
 use Rattle.fkv_blocks.proofs.orders.are_empty.Goals as goal
 

@@ -1,4 +1,4 @@
-use Rattle.std.proofs.Common.{◌++◌, ◌∷◌, [], List, map, refl, sym, subst, append_assoc, append-nil, arith}
+use Rattle.std.proofs.Common.{◌∷◌, [], map, refl, sym, subst, append_assoc, append-nil}
 use Rattle.fkv_blocks.specs.Orders.{IsOrder}
 use Rattle.fkv_blocks.proofs.OrderLemmas.{order_end, order_less, order_more, order_none, order_over}
 use Rattle.fkv_blocks.proofs.orders.order_of.Goals as goal

@@ -1,7 +1,6 @@
-use Rattle.std.proofs.Common.{◌≡◌, ◌<◌, ◌+◌, [], List, map, length, get_or, refl, sym, subst, ◌∙◌, ap, arith}
+use Rattle.std.proofs.Common.{◌≡◌, ◌+◌, [], map, length, get_or, refl, sym, subst, ◌∙◌, ap, arith}
 use Rattle.std.proofs.lemmas.List.{length-map, length_push, map_push}
 use Rattle.fkv_blocks.specs.Orders.{IsOrder, spans_in}
-use Rattle.fkv_blocks.specs.declared.orders.Taken.{Taken}
 use Rattle.fkv_blocks.proofs.OrderLemmas.{each_more}
 use Rattle.fkv_blocks.proofs.orders.ordered.Goals as goal
 

@@ -1,4 +1,4 @@
-use Rattle.std.proofs.Common.{◌≡◌, ◌<◌, [], map, length, get_or, arith, subst, ◌∙◌, ap}
+use Rattle.std.proofs.Common.{[], map, get_or, arith, subst}
 use Rattle.std.proofs.lemmas.List.{length-map}
 use Rattle.fkv_blocks.specs.Orders.{BeginsAt}
 use Rattle.fkv_blocks.proofs.OrderLemmas.{begins_inside, begins_some, list_is, taken_off}

@@ -8,7 +8,7 @@ use Rattle.fkv_blocks.proofs.ShareLemmas.{flat_more, rows_at, zip_more}
 use Rattle.fkv_blocks.proofs.reading.read_next.Goals as goal
 
 pub returns-in-Err-clause-told : goal.returns-in-Err-clause-told
-returns-in-Err-clause-told g c = inr (IsStop.untaken c.in-Err.ensures.told.0 c.in-Err.ensures.told.1)
+returns-in-Err-clause-told g c = inr (IsStop.untaken c.in-Err.ensures.told)
 
 pub returns-in-Ok-push-clause-ok : goal.returns-in-Ok-push-clause-ok
 returns-in-Ok-push-clause-ok g c =

@@ -1,4 +1,4 @@
-use Rattle.std.proofs.Common.{◌≤◌, [], inl, inr, map, get_or, sym, ap, subst, ◌∙◌, arith, below_more}
+use Rattle.std.proofs.Common.{inl, inr, sym, ap, ◌∙◌, arith, below_more}
 use Rattle.fkv_blocks.specs.Pieces.{records_of}
 use Rattle.fkv_blocks.proofs.OrderLemmas.{list_is}
 use Rattle.fkv_blocks.proofs.PieceLemmas.{less_or}

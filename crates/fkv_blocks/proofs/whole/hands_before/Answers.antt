@@ -1,4 +1,4 @@
-use Rattle.std.proofs.Common.{[], map, get_or, sym, ap, subst, ◌∙◌}
+use Rattle.std.proofs.Common.{[], map, sym, ap, subst, ◌∙◌}
 use Rattle.std.proofs.lemmas.List.{length-map, map_push}
 use Rattle.std.proofs.lemmas.List.Elements.{All-push}
 use Rattle.fkv_blocks.specs.Shares.{WereRead}

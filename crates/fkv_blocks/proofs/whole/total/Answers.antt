@@ -1,5 +1,4 @@
-use Rattle.std.proofs.Common.{◌≡◌, ◌+◌, ◌<◌, ◌≤◌, ◌^◌, take, get_or, arith}
-use Rattle.fkv_blocks.specs.Pieces.{records_of}
+use Rattle.std.proofs.Common.{◌+◌, arith}
 use Rattle.fkv_blocks.specs.declared.orders.Taken.{Taken}
 use Rattle.fkv_blocks.proofs.WholeLemmas.{records_more, records_rise}
 use Rattle.fkv_blocks.proofs.whole.total.Goals as goal

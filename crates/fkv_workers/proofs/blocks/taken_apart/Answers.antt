@@ -22,7 +22,7 @@ loop-one-preserved g c =
     let turn = YieldsList-turn road c.loop-one.yielded c.loop-one.one-iterator c.loop-one.yielded_by c.next.result c.next.new.self one c.in-Some.is c.next.ensures.steps in
     let at = length c.loop-one.yielded in
     let read = one_more (λ w. WereRead g.B.Origin.feeds w.had.tickets.items) c.args.worked.items at one turn.0 turn.1 c.requires.read in
-    let stops = one_more (λ w. IfSome w.fault (λ why. IsTold why ⊎ IsStop g.B.Origin.feeds g.B.Origin.counts most_rows (record { feed = w.had.feed; low = w.had.low; refused = why }))) c.args.worked.items at one turn.0 turn.1 c.requires.stops in
+    let stops = one_more (λ w. IfSome w.fault (λ why. IsTold why ⊎ IsStop g.B.Origin.feeds most_rows (record { feed = w.had.feed; low = w.had.low; refused = why; has_failed = w.had.has_failed }))) c.args.worked.items at one turn.0 turn.1 c.requires.stops in
     let grown = ap (map (λ hand. hand.items)) c.in-Ok-push.ensures.items ∙ map_push (λ hand. hand.items) c.loop-one.hands.items one.had.tickets in
     record {
       passes = c.in-Ok.ensures.items ∙ (ap (λ l. l ++ one.pass ∷ []) old.passes ∙ sym (map_push (λ w. w.pass) c.loop-one.yielded one));
@@ -35,7 +35,7 @@ loop-one-preserved g c =
       ];
       first = elim c.match-fault.branch [
         | in-None-fault w ↦ rw w.first-is old.first
-        | in-Some-fault w ↦ rw w.first-is (first_some (λ stop. IsTold stop.refused ⊎ IsStop g.B.Origin.feeds g.B.Origin.counts most_rows stop) c.loop-one.first _ w.first_of.result w.first_of.ensures old.first
+        | in-Some-fault w ↦ rw w.first-is (first_some (λ stop. IsTold stop.refused ⊎ IsStop g.B.Origin.feeds most_rows stop) c.loop-one.first _ w.first_of.result w.first_of.ensures old.first
             (rw w.in-Some-fault.is at stops))
       ];
     }

@@ -12,5 +12,5 @@ invariant-loop-one g l = record {
   hands : map (λ hand. hand.items) l.hands.items ≡ map (λ w. w.had.tickets.items) l.yielded;
   read : All (WereRead g.B.Origin.feeds) (map (λ hand. hand.items) l.hands.items);
   none : l.first ≡ None → All (λ fault. fault ≡ None) (map (λ w. w.fault) l.yielded);
-  first : IfSome l.first (λ stop. IsTold stop.refused ⊎ IsStop g.B.Origin.feeds g.B.Origin.counts most_rows stop);
+  first : IfSome l.first (λ stop. IsTold stop.refused ⊎ IsStop g.B.Origin.feeds most_rows stop);
 }

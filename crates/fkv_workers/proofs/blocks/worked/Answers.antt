@@ -22,10 +22,10 @@ returns-in-Ok-run_jobs-clause-ok g c =
     let feeds = g.B.Origin.feeds in
     let each = map_zip _
     (λ work r. IfNone r.fault (HasDone (λ rows. (parts : List (List (Name × ℤ))) × AllZip (AreRowsIn feeds) r.had.tickets.items parts × (rows ≡ flat_map (λ part. part) parts)) g.H.Recorder.keeps g.F.Functions.code work.mode r.pass)
-    × (IfSome r.fault (λ why. IsTold why ⊎ IsStop feeds g.B.Origin.counts most_rows (record { feed = r.had.feed; low = r.had.low; refused = why }))
+    × (IfSome r.fault (λ why. IsTold why ⊎ IsStop feeds most_rows (record { feed = r.had.feed; low = r.had.low; refused = why; has_failed = r.had.has_failed }))
     × WereRead feeds r.had.tickets.items))
     c.in-Ok-works.works.items c.in-Ok-run_jobs.ran.results.items c.in-Ok-run_jobs.ensures.ok.results (λ work r h. (h.0, (h.1, h.2))) in
     shared_ok feeds g.F.Functions.code g.H.Recorder.keeps c.args.mode (λ work. work.mode) (λ w. w.pass) (λ w. w.fault) (λ w. w.had.tickets.items)
-    (λ work r. IfSome r.fault (λ why. IsTold why ⊎ IsStop feeds g.B.Origin.counts most_rows (record { feed = r.had.feed; low = r.had.low; refused = why })) × WereRead feeds r.had.tickets.items)
+    (λ work r. IfSome r.fault (λ why. IsTold why ⊎ IsStop feeds most_rows (record { feed = r.had.feed; low = r.had.low; refused = why; has_failed = r.had.has_failed })) × WereRead feeds r.had.tickets.items)
     c.joined.result (λ passes. passes.items) c.in-Ok-works.works.items c.in-Ok-run_jobs.ran.results.items each c.in-Ok-works.ensures.modes
     c.joined.ensures.ok c.joined.ensures.none c.joined.ensures.whole

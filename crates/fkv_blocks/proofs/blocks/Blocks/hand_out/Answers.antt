@@ -1,4 +1,4 @@
-use Rattle.std.proofs.Common.{◌≡◌, ◌≤◌, ◌+◌, ◌^◌, true, false, ◌∙◌, sym, ap, subst, arith}
+use Rattle.std.proofs.Common.{◌≡◌, ◌≤◌, ◌+◌, ◌^◌, true, false, refl, ◌∙◌, sym, ap, subst, arith}
 use Rattle.fkv_functions.specs.declared.refusals.Refused.TheVariants.{Unreadable}
 use Rattle.fkv_blocks.specs.declared.blocks.Place.{Place}
 use Rattle.fkv_blocks.specs.Left.{BlocksView, IsBlockOf, IsUntaken, IsWide, number_of, text_at}
@@ -19,7 +19,7 @@ returns-in_default-clause-told g c =
     let low = next_within text b.at b.held.items left size c.args.self.now c.args.cut.is_last c.requires.next held in
     let more : 2 ^ 64 ≤ b.at + size = omega (arith, c.in_default.ensures) in
     let wide : IsWide text = wide_by text b.at b.held.items left size b.over b.stopped (c.self.invariant.stands begun) on low more in
-    IsUntaken.wide (ap Unreadable (c.number.ensures ∙ ap number_of here)) (subst (λ p. IsWide (text_at feeds p)) here wide)
+    IsUntaken.wide (ap Unreadable (c.number.ensures ∙ ap number_of here)) refl (subst (λ p. IsWide (text_at feeds p)) here wide)
 
 pub returns-clause-given : goal.returns-clause-given
 returns-clause-given g c =

@@ -1,5 +1,5 @@
-use Rattle.std.proofs.Common.{◌≡◌, None, length, map, get_or, sym, ap, ◌∙◌}
-use Rattle.std.proofs.lemmas.List.{get_or-map, length-map, length_push, map-id}
+use Rattle.std.proofs.Common.{None, length, get_or, sym, ap, ◌∙◌}
+use Rattle.std.proofs.lemmas.List.{get_or-map, length-map, map-id}
 use Rattle.std.proofs.lemmas.Iterator.Adapters.{YieldsList-from_vec}
 use Rattle.std.proofs.lemmas.Iterator.Consumers.{YieldsList-end, YieldsList-turn}
 use Rattle.fkv_blocks.proofs.feeds.Feeds.open.Goals as goal

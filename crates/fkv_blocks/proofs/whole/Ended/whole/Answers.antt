@@ -1,10 +1,10 @@
-use Rattle.std.proofs.Common.{◌≡◌, ◌<◌, inr, map, length, sym, ap, subst, ◌∙◌, arith}
+use Rattle.std.proofs.Common.{◌≡◌, inr, map, length, sym, subst, ◌∙◌, arith}
 use Rattle.std.proofs.lemmas.List.{length-map}
 use Rattle.fkv_functions.specs.declared.refusals.Refused.TheVariants.{Unreadable}
 use Rattle.fkv_blocks.specs.Orders.{AreOrdered}
 use Rattle.fkv_blocks.specs.Pieces.{IsFirstUnread}
 use Rattle.fkv_blocks.proofs.WholeLemmas.{first_is_long, whole_fed}
-use Rattle.fkv_blocks.proofs.feeds.Feeds.whole.Goals as goal
+use Rattle.fkv_blocks.proofs.whole.Ended.whole.Goals as goal
 
 pub returns-in-None-clause-ok : goal.returns-in-None-clause-ok
 returns-in-None-clause-ok g c =
@@ -37,6 +37,6 @@ returns-clause-refused g c =
     let long : length orders ≡ length c.in-Ok-in_order.orders.items = length-map c.in-Ok-in_order.orders.items (λ order. order.items) in
     let some = rw c.as_slice-2.ensures.value at c.in-Some.ensures.some in
     let place = c.in-Some.place in
-    inr (inr (subst (λ n. IsFirstUnread feeds counts c.args.limit (Unreadable n)) (sym c.number.ensures)
-    (first_is_long feeds c.args.limit ends hands orders o (length ends) (omega arith) (omega (arith, count)) (λ f lt. c.in-Ok.ensures.each f (omega (arith, lt, count, many))) c.requires counts place
+    inr (inr (subst (λ n. IsFirstUnread feeds counts c.args.self.now c.args.limit (Unreadable n)) (sym c.number.ensures)
+    (first_is_long feeds c.args.limit ends hands orders o (length ends) (omega arith) (omega (arith, count)) (λ f lt. c.in-Ok.ensures.each f (omega (arith, lt, count, many))) c.requires counts c.args.self.now place
     (omega (arith, some.0, long, o.count)) some.1 (rw c.as_slice-2.ensures.value at c.in-Some.ensures.before))))

@@ -1,8 +1,8 @@
-use Rattle.std.proofs.Common.{length, sym, ap, subst, ◌∙◌, ◌+◌, arith}
+use Rattle.std.proofs.Common.{length, ap, ◌∙◌, ◌+◌, arith}
 use Rattle.std.proofs.lemmas.List.{length_push}
 use Rattle.fkv_blocks.specs.Left.{EndsAt, text_at}
 use Rattle.fkv_blocks.proofs.OrderLemmas.{each_more}
-use Rattle.fkv_blocks.proofs.feeds.Feeds.ends.Goals as goal
+use Rattle.fkv_blocks.proofs.whole.Ended.ends.Goals as goal
 
 pub loop-place-preserved : goal.loop-place-preserved
 loop-place-preserved g c =

@@ -1,6 +1,6 @@
 use Rattle.std.proofs.Common.{◌≡◌, ◌<◌, ◌≤◌, ℕ, length, get_or}
 use Rattle.fkv_blocks.specs.Left.{EndsAt, text_at}
-use Rattle.fkv_blocks.proofs.feeds.Feeds.ends.Given as goal
+use Rattle.fkv_blocks.proofs.whole.Ended.ends.Given as goal
 
 -- those of the feeds so far
 abbrev pub invariant-loop-place : goal.invariant-loop-place

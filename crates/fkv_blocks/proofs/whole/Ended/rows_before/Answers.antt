@@ -1,11 +1,11 @@
-use Rattle.std.proofs.Common.{◌≡◌, ◌+◌, ◌<◌, ◌≤◌, ◌++◌, ◌∷◌, [], ℕ, inr, map, length, get_or, sym, ap, subst, ◌∙◌, arith}
+use Rattle.std.proofs.Common.{◌≡◌, ◌+◌, ◌<◌, ◌≤◌, ◌++◌, ◌∷◌, [], inr, map, length, get_or, sym, ap, subst, ◌∙◌, arith}
 use Rattle.std.proofs.lemmas.List.{get_or-map, get_or_append_left, get_or_push, length-map, length_push}
 use Rattle.fkv_functions.specs.declared.refusals.Refused.TheVariants.{Unreadable}
 use Rattle.fkv_blocks.specs.Left.{EndsAt, text_at}
 use Rattle.fkv_blocks.specs.Orders.{AreOrdered}
 use Rattle.fkv_blocks.specs.Pieces.{IsFirstUnread, IsUpTo, records_of}
 use Rattle.fkv_blocks.proofs.WholeLemmas.{first_is_long, front_at, front_inside, front_long, stands_before}
-use Rattle.fkv_blocks.proofs.feeds.Feeds.rows_before.Goals as goal
+use Rattle.fkv_blocks.proofs.whole.Ended.rows_before.Goals as goal
 
 pub returns-in-None-clause-ok : goal.returns-in-None-clause-ok
 returns-in-None-clause-ok g c =
@@ -54,9 +54,9 @@ returns-clause-refused g c =
     let before = rw c.as_slice-3.ensures.value at c.in-Some.ensures.before in
     let place = c.in-Some.place in
     let lt : place < feed = front_inside all feed place long.0 in
-    inr (inr (subst (λ n. IsFirstUnread feeds counts c.args.limit (Unreadable n)) (sym c.number.ensures)
+    inr (inr (subst (λ n. IsFirstUnread feeds counts c.args.self.now c.args.limit (Unreadable n)) (sym c.number.ensures)
     (first_is_long feeds c.args.limit ends hands orders o feed (omega (arith, many)) (omega (arith, many, some))
     (λ f less. subst (EndsAt (text_at feeds f)) (sym (get_or_append_left first (c.args.low ∷ []) 0 f (omega (arith, less, count)))) (c.in-Ok.ensures.each f less))
-    c.in-Ok-hands_before.ensures.ok counts place lt
+    c.in-Ok-hands_before.ensures.ok counts c.args.self.now place lt
     (subst (λ order. c.args.limit < records_of order) (front_at (λ order. order.items) all feed place lt) long.1)
     (λ f less. subst (λ order. records_of order ≤ c.args.limit) (front_at (λ order. order.items) all feed f (omega (arith, less, lt))) (before f less)))))
