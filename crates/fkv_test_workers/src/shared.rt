@@ -7,6 +7,7 @@ use fkv_histories::{Audited, Plain, Recorder};
 use fkv_partition::Config;
 use fkv_store::{Gate, Open, Place};
 use fkv_streams::{CountedReader, CountedWriter};
+use fkv_test_streams::Breaking;
 use fkv_workers::run_blocks;
 use std::alloc::Global;
 use std::io::{self, Read, Write};
@@ -74,11 +75,11 @@ fn summed_texts<H: Recorder<SumFns> + Send, G: Gate + Sync, T: Threads + Wait + 
     summed::<H, _, _, _>(rt, alloc, feeds, workers, config, gate)
 }
 
-/// So many rows of 34 bytes over three keys, of which this one, counted from 1, is none. A block has some 7,700 of them.
-fn rows(alloc: Global, count: u64, bad: u64) -> Result<Vec<u8>, Fail> {
+/// So many rows of 34 bytes over three keys, of which these, counted from 1, are none. A block has some 7,700 of them.
+fn rows(alloc: Global, count: u64, bad: &[u64]) -> Result<Vec<u8>, Fail> {
     let mut text = Vec::new(alloc);
     for row in 1..=count {
-        if row == bad {
+        if bad.contains(&row) {
             writeln!(text, "this_row_has_a_key_and_no_amount")?;
         } else {
             writeln!(text, "a_key_of_thirty_one_bytes_num_{},1", row % 3)?;
@@ -111,7 +112,7 @@ fn shapes(rt: HostRuntime) -> Result<(), Fail> {
     for (counts, workers, each) in SHAPES {
         let mut texts = Vec::new(alloc);
         for count in counts {
-            texts.push(rows(alloc, *count, 0)?)?;
+            texts.push(rows(alloc, *count, &[])?)?;
         }
         let mut slices: Vec<&[u8]> = Vec::new(alloc);
         for text in &texts {
@@ -135,40 +136,63 @@ fn shapes(rt: HostRuntime) -> Result<(), Fail> {
     Ok(())
 }
 
-/// How many rows each feed has, and which of them is none, if one is; by how many workers, and which row of which feed is told.
-const FAULTS: [(&[(u64, u64)], usize, (u64, u64)); 5] = [
-    (&[(20_000, 19_000)], 3, (1, 19_000)),
-    (&[(20_000, 1), (3, 1)], 2, (1, 1)),
+/// More calls than give any of these feeds.
+const ALL: u64 = 1_000_000;
+
+/// A feed: how many rows it has, which of them are none, and the calls of 8,192 bytes before the one that fails.
+type Faulty = (u64, &'static [u64], u64);
+
+/// Feeds, by how many workers, and the feed that is told with its row that is none, whatever the threads do; row 0 where it is told as
+/// unreadable.
+const FAULTS: [(&[Faulty], usize, (u64, u64)); 11] = [
+    (&[(20_000, &[19_000], ALL)], 3, (1, 19_000)),
+    (&[(20_000, &[1], ALL), (3, &[1], ALL)], 2, (1, 1)),
     // the first in the order of the feeds, whoever is first
-    (&[(20_000, 15_000), (3, 1)], 2, (1, 15_000)),
-    (&[(20_000, 0), (3, 2), (3, 1)], 3, (2, 2)),
-    (&[(3, 0), (3, 0), (20_000, 16_000)], 1, (3, 16_000)),
+    (&[(20_000, &[15_000], ALL), (3, &[1], ALL)], 2, (1, 15_000)),
+    (
+        &[(20_000, &[], ALL), (3, &[2], ALL), (3, &[1], ALL)],
+        3,
+        (2, 2),
+    ),
+    (
+        &[(3, &[], ALL), (3, &[], ALL), (20_000, &[16_000], ALL)],
+        1,
+        (3, 16_000),
+    ),
+    // though another worker has read a feed behind, or the feed's next block
+    (&[(20_000, &[19_000], ALL), (3, &[], ALL)], 2, (1, 19_000)),
+    (&[(20_000, &[7_000], ALL)], 2, (1, 7_000)),
+    // the first block of a feed, whoever has it: the worker that begins with another feed comes to the second one
+    (
+        &[(3, &[], ALL), (20_000, &[7_000, 7_800], ALL)],
+        2,
+        (2, 7_000),
+    ),
+    (&[(3, &[], ALL), (20_000, &[7_000], 37)], 2, (2, 7_000)),
+    // streams that fail
+    (&[(20_000, &[], 37), (3, &[1], ALL)], 2, (1, 0)),
+    (&[(3, &[2], ALL), (20_000, &[], 0)], 2, (1, 2)),
 ];
 
 #[test]
 fn first_fault_of_the_feeds(rt: HostRuntime) -> Result<(), Fail> {
     let alloc = rt.alloc();
-    for (feeds, workers, (feed, row)) in FAULTS {
+    for (faulty, workers, (feed, row)) in FAULTS {
         let mut texts = Vec::new(alloc);
-        for (count, bad) in feeds {
-            texts.push(rows(alloc, *count, *bad)?)?;
+        for (count, bad, calls) in faulty {
+            texts.push((rows(alloc, *count, bad)?, *calls))?;
         }
-        let mut slices: Vec<&[u8]> = Vec::new(alloc);
-        for text in &texts {
-            slices.push(text.as_slice())?;
+        let mut feeds = Vec::new(alloc);
+        for (text, calls) in &texts {
+            let feed = Breaking::new(text.as_slice(), 8_192, *calls);
+            feeds.push(CountedReader::new(feed))?;
         }
-        let told = summed_texts::<Plain, _, _>(
-            &rt,
-            alloc,
-            slices.as_slice(),
-            workers,
-            &SMALL,
-            &Open,
-        );
-        assert!(rt;
-            told == Err(Refused::BadRow { feed, row }),
-            "{feeds:?} {workers}"
-        );
+        let told = summed::<Plain, _, _, _>(&rt, alloc, feeds, workers, &SMALL, &Open);
+        let wanted = match row {
+            0 => Refused::Unreadable { number: feed },
+            row => Refused::BadRow { feed, row },
+        };
+        assert!(rt; told == Err(wanted), "{faulty:?} {workers}");
     }
     Ok(())
 }
@@ -214,7 +238,7 @@ impl Gate for Both {
 #[test]
 fn one_feed_by_two(rt: HostRuntime) -> Result<(), Fail> {
     let alloc = rt.alloc();
-    let text = rows(alloc, 12_000, 0)?;
+    let text = rows(alloc, 12_000, &[])?;
     let gate = Both {
         are_answered: [AtomicBool::new(false), AtomicBool::new(false)],
         failed: AtomicBool::new(false),
@@ -321,7 +345,7 @@ fn paused<T: Threads + Wait + Clock + Sync>(
 /// one has updated.
 #[test]
 fn pipe_that_pauses(rt: HostRuntime) -> Result<(), Fail> {
-    let long = rows(rt.alloc(), 12_000, 0)?;
+    let long = rows(rt.alloc(), 12_000, &[])?;
     assert!(rt; paused(&rt, rt.alloc(), long.as_slice(), 0)?);
     assert!(rt; paused(&rt, rt.alloc(), long.as_slice(), 300_000)?);
     Ok(())
