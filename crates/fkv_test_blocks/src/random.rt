@@ -39,7 +39,7 @@ fn add(text: &mut Vec<u8>, pieces: &[&str]) -> Result<(), Refused> {
 }
 
 /// A random text of this seed.
-fn drawn(alloc: Global, seed: u64) -> Result<Drawn, Refused> {
+fn made_of(alloc: Global, seed: u64) -> Result<Drawn, Refused> {
     let mut words = Xoshiro256PlusPlus::seed_from_u64(seed);
     let (mut text, mut rows) = (Vec::new(alloc), Vec::new(alloc));
     let count = words.next_u64() % 12;
@@ -80,7 +80,7 @@ fn random_texts_in_small_blocks(rt: HostRuntime) {
                 rows,
                 is_good,
             },
-        ) = drawn(rt.alloc(), seed)
+        ) = made_of(rt.alloc(), seed)
         else {
             panic!(rt; "no memory for text {seed}");
         };
