@@ -5,11 +5,11 @@ use Rattle.std.specs.Prelude.{◌≢◌, OnOk, IfOk, IfSome, slice_index, slice_
 use Rattle.fkv_device.specs.Known.{Pages, HasCollision, are_kept}
 use Rattle.fkv_device.proofs.KnownLemmas.{collision}
 use Rattle.fkv_functions.specs.declared.refusals.Refused.{Refused}
-use Rattle.fkv_functions.specs.declared.refusals.Refused.TheVariants.{BadConfig, Unwritable}
-use Rattle.fkv_feed_rows.specs.Feeds.{TellsUnread}
+use Rattle.fkv_functions.specs.declared.refusals.Refused.TheVariants.{BadConfig, BadRow, Unreadable, Unwritable}
 use Rattle.fkv_feeds.specs.Tables.{most_rows}
 use Rattle.fkv_store.specs.Stores.{IsTold, IsClosing}
 use Rattle.fkv_blocks.specs.Left.{number_of}
+use Rattle.fkv_blocks.specs.Pieces.{TellsFault}
 use Rattle.fkv_workers.specs.Works.{IsUnread}
 use Rattle.fkv_feeds.specs.declared.counting.Plan.{Plan}
 use Rattle.fkv_feeds.specs.declared.modes.RowMode.{RowMode}
@@ -18,12 +18,18 @@ use Rattle.fkv_requests.specs.declared.requests.TableRequest.{TableRequest}
 use Rattle.fkv_commands.specs.Plans.{IsPlanBy, readers}
 use Rattle.fkv_requests.specs.Requests.{Text}
 
-pub blames-no-writer : (runnable : Type 0) (feeds : List (Option (List ℕ))) (counts : List ℕ) (why : Refused) → IsUnread runnable feeds counts why → why ≢ Unwritable
-blames-no-writer runnable feeds counts why (IsUnread.beyond is not) e = (let bad : BadConfig ≡ Unwritable = sym is ∙ e in cc)
-blames-no-writer runnable feeds counts why (IsUnread.told told) e = subst IsTold e told
-blames-no-writer runnable feeds counts why (IsUnread.unread u) e =
-    subst (TellsUnread (number_of u.place) most_rows (slice_index_or feeds u.place None) (slice_index counts u.place) u.after) e u.tells
-blames-no-writer runnable feeds counts why (IsUnread.unclosed closing) e = subst IsClosing e closing
+no-writer : (feed limit : ℕ) (bytes : Option (List ℕ)) (before after : ℕ) (why : Refused) → TellsFault feed limit bytes before after why → why ≢ Unwritable
+no-writer feed limit bytes before after why (TellsFault.bad n is bad) e = (let other : BadRow feed n ≡ Unwritable = sym is ∙ e in cc)
+no-writer feed limit bytes before after why (TellsFault.failed is counted) e = (let other : Unreadable feed ≡ Unwritable = sym is ∙ e in cc)
+no-writer feed limit bytes before after why (TellsFault.long is long) e = (let other : Unreadable feed ≡ Unwritable = sym is ∙ e in cc)
+no-writer feed limit bytes before after why (TellsFault.wide is wide) e = (let other : Unreadable feed ≡ Unwritable = sym is ∙ e in cc)
+
+pub blames-no-writer : (runnable : Type 0) (feeds : List (Option (List ℕ))) (before after : List ℕ) (why : Refused) → IsUnread runnable feeds before after why → why ≢ Unwritable
+blames-no-writer runnable feeds before after why (IsUnread.beyond is not) e = (let bad : BadConfig ≡ Unwritable = sym is ∙ e in cc)
+blames-no-writer runnable feeds before after why (IsUnread.told told) e = subst IsTold e told
+blames-no-writer runnable feeds before after why (IsUnread.unread u) e =
+    no-writer (number_of u.place) most_rows (slice_index_or feeds u.place None) (slice_index before u.place) (slice_index after u.place) why u.tells e
+blames-no-writer runnable feeds before after why (IsUnread.unclosed closing) e = subst IsClosing e closing
 
 -- a fact of an answer that has a premise, as a fact under that premise
 pub later : {T E K : Type 0} (r : Result T E) (P : T → Type 0) → (K → IfOk r P) → IfOk r (λ x. K → P x)
