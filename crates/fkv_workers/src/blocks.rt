@@ -283,7 +283,7 @@ where
 /// updates were made, one a row, and how it was made.
 ///
 /// A worker holds a block of 256 KiB or more, and each feed that is being read as much again. The feeds come back as far as they were
-/// read, with what their streams have counted; but not where a refusal is `NoMemory`, or comes of the store.
+/// read, with what their streams have counted; they may be gone where the refusal is `NoMemory`, or `Device` with code 1.
 ///
 /// # Errors
 ///
