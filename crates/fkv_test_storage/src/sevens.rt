@@ -1,6 +1,6 @@
 //! A file of which it is known what it takes and gives: a type that meets what is asked of files whose pages are known.
 ghost use Rattle.std.specs.Prelude.{◌≡◌, ◌⊎◌, ◌∷◌, [], Some, IsTrue, IfOk};
-ghost use Rattle.fkv_test_low.specs.Sevens.{sevens, eights};
+ghost use Rattle.fkv_test_storage.specs.Sevens.{sevens, eights};
 
 use fkv_device::page_files::{put_page, take_page};
 use fkv_device::{

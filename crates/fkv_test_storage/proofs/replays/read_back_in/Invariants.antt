@@ -1,4 +1,4 @@
-use Rattle.fkv_test_low.proofs.replays.read_back_in.Given as goal
+use Rattle.fkv_test_storage.proofs.replays.read_back_in.Given as goal
 
 -- the pages of the files are these
 abbrev pub ghosts-read_back_on : goal.ghosts-read_back_on

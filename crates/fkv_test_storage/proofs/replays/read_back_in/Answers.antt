@@ -3,7 +3,7 @@ use Rattle.std.specs.Prelude.{IfOk}
 use Rattle.std.proofs.lemmas.Bool.{cases_Bool}
 use Rattle.fkv_device.specs.Known.{Pages, are_kept}
 use Rattle.fkv_device.proofs.KnownLemmas.{collision}
-use Rattle.fkv_test_low.proofs.replays.read_back_in.Goals as goal
+use Rattle.fkv_test_storage.proofs.replays.read_back_in.Goals as goal
 
 right : {T E : Type 0} (r : Result T E) (P : T → Type 0) (S : Type 0) → IfOk r P → IfOk r (λ x. P x ⊎ S)
 right (Ok x) P S h = inl h

@@ -1,8 +1,8 @@
 use Rattle.std.proofs.Common.{◌≡◌, ◌&&◌, false, true, not, bytes_eq, refl, ap}
 use Rattle.sha2.specs.Sha256.{sha256, digest_bytes, hash_after, compress, rounds, schedule, first_words}
 use Rattle.fkv_device.specs.Known.{are_kept, is_apart}
-use Rattle.fkv_test_low.specs.Sevens.{sevens, eights}
-use Rattle.fkv_test_low.proofs.sevens.sevens_keep.Goals as goal
+use Rattle.fkv_test_storage.specs.Sevens.{sevens, eights}
+use Rattle.fkv_test_storage.proofs.sevens.sevens_keep.Goals as goal
 
 -- the two digests, computed
 told : bytes_eq (sha256 sevens) (sha256 eights) ≡ false
