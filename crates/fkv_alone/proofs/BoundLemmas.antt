@@ -66,7 +66,7 @@ use Rattle.fkv_alone.proofs.CountLemmas.{count-fewer, count-less, last-passes}
 -- ---- where no entry is met there is none
 met-entry : {K V : Type 0} (cmp : K → K → Ordering) (join : V → V → V) (code : K → ℕ) (r : RecordsView K V) (view : View) (k : K) (o : Option ℕ) → met_from cmp join code r view k o ≡ NoEntry → o ≡ None
 met-entry cmp join code r view k None h = refl
-met-entry cmp join code r view k (Some a) h = none-met join r.begin view (Some a) (looked_up cmp join code r (low_of r.begin view) k a) h
+met-entry cmp join code r view k (Some a) h = none-met join r.log.begin view (Some a) (looked_up cmp join code r (low_of r.log.begin view) k a) h
 
 -- an entry that was found stands
 found-word : {K V : Type 0} (r : RecordsView K V) (c : Class) (e : IndexEntry) → found_in r c ≡ Some e → word_at r.words e.place ≡ e.word
@@ -143,19 +143,19 @@ module _ {K V I : Type 0} (keeps : Bool) (cmp : K → K → Ordering) (join : V 
   fewer-below : IsTrue keeps → (x : Context K V I) (l : Loading V) → AwaitsPage v slot c x l → (q : Entry K V → Bool)
       → ((e : Entry K V) → q e ≡ true → (nat_le e.address l.wanted && is_evicted code v.records (key_of x.op) e) ≡ true)
       → ((e : Entry K V) → e.address ≡ l.wanted → q e ≡ false)
-      → length (filter q v.records.entries) < evicted_to code v.records (key_of x.op) l.wanted
+      → length (filter q v.records.log.text) < evicted_to code v.records (key_of x.op) l.wanted
   fewer-below kept x l a q within fails =
       let ld = loading-stands x.op l (stands-at x (Load l) a.here a.loading) in
-      let from : v.records.from ≡ v.records.begin = s.traced.begins ∙ ap (λ b. text_begin b v.records.begin v.records.regions.offsets.closed) kept in
+      let from : v.records.log.from ≡ v.records.log.begin = s.traced.begins ∙ ap (λ b. text_begin b v.records.log.begin v.records.log.regions.offsets.closed) kept in
       let low = ld.begun in
       let begin = a.begin in
       let o = (ld.leads kept a.begin).class (omega arith) in
-      let at : o.entry.address ≡ l.wanted = eqb-true o.entry.address l.wanted (last-passes (λ e. e.address == l.wanted) v.records.entries o.entry o.here) in
+      let at : o.entry.address ≡ l.wanted = eqb-true o.entry.address l.wanted (last-passes (λ e. e.address == l.wanted) v.records.log.text o.entry o.here) in
       let disk = ld.on_disk in
       let reaches : nat_le o.entry.address l.wanted ≡ true = grind (arith, nat_tests) in
-      let below : nat_lt o.entry.address v.records.regions.offsets.head ≡ true = grind (arith, nat_tests) in
+      let below : nat_lt o.entry.address v.records.log.regions.offsets.head ≡ true = grind (arith, nat_tests) in
       let classed : same_class (class_in code v.records o.entry.key) (class_in code v.records (key_of x.op)) ≡ true = ap (λ (d : Class). same_class d (class_in code v.records (key_of x.op))) o.class ∙ class-self (class_in code v.records (key_of x.op)) in
-      count-less (λ e. nat_le e.address l.wanted && is_evicted code v.records (key_of x.op) e) q within (λ e. e.address == l.wanted) v.records.entries o.entry o.here
+      count-less (λ e. nat_le e.address l.wanted && is_evicted code v.records (key_of x.op) e) q within (λ e. e.address == l.wanted) v.records.log.text o.entry o.here
       (and_from _ _ reaches (and_from _ _ below classed)) (fails o.entry at)
 
   -- there is one at the wanted address
@@ -226,9 +226,9 @@ module _ {K V I : Type 0} (keeps : Bool) (cmp : K → K → Ordering) (join : V 
           | inr is ↦ rest-update code v.records y.op (key_of y.op) asked.0 is
         ] in
         let rest : rest_of code v.records x.op ≡ 1 + evicted code v.records (key_of y.op) = ap (λ (u : Context K V I). rest_of code v.records u.op) same ∙ update in
-        let l : Loading V = record { begin = v.records.begin; kept = e; wanted = b; parts = parts; looked = now } in
+        let l : Loading V = record { begin = v.records.log.begin; kept = e; wanted = b; parts = parts; looked = now } in
         let z = at_phase y (Load l) in
-        let less : evicted_to code v.records (key_of y.op) b ≤ evicted code v.records (key_of y.op) = count-fewer (is_evicted code v.records (key_of y.op)) (λ u. nat_le u.address b && is_evicted code v.records (key_of y.op) u) (λ u k. (and_parts _ _ k).1) v.records.entries in
+        let less : evicted_to code v.records (key_of y.op) b ≤ evicted code v.records (key_of y.op) = count-fewer (is_evicted code v.records (key_of y.op)) (λ u. nat_le u.address b && is_evicted code v.records (key_of y.op) u) (λ u k. (and_parts _ _ k).1) v.records.log.text in
         near-as p (NeedsLoad receipt b) t (rw is (record {
           left = 1 + evicted_to code v.records (key_of y.op) b;
           fewer = omega arith;
@@ -265,7 +265,7 @@ module _ {K V I : Type 0} (keeps : Bool) (cmp : K → K → Ordering) (join : V 
         rw k.is (record {
           left = 2 + rest_of code v.records y.op;
           fewer = omega arith;
-          near = IsNear.confirms z k.place (set-here v slot c now y d.here (Some z) k.records (ap (λ (r : RecordsView K V). r.regions) k.claims.is)) refl
+          near = IsNear.confirms z k.place (set-here v slot c now y d.here (Some z) k.records (ap (λ (r : RecordsView K V). r.log.regions) k.claims.is)) refl
               (subst (λ (words : List (List Word)). IsAlone words k.place) (sym (ap (λ (r : RecordsView K V). r.words) k.claims.is)) alone) range refl (omega arith);
         })
 
@@ -412,7 +412,7 @@ module _ {K V I : Type 0} (keeps : Bool) (cmp : K → K → Ordering) (join : V 
             let t : p ≡ NeedsBuild ask = cc in
             let z = at_phase y (Prepared m.kept value) in
             let aw = told.reads.awaits in
-            let some : length (filter (λ (e : Entry K V). false) v.records.entries) < evicted_to code v.records (key_of y.op) m.wanted = fewer-below kept y m aw (λ e. false) (λ e no_e. let bad : false ≡ true = no_e in absurd (cc)) (λ e at. refl) in
+            let some : length (filter (λ (e : Entry K V). false) v.records.log.text) < evicted_to code v.records (key_of y.op) m.wanted = fewer-below kept y m aw (λ e. false) (λ e no_e. let bad : false ≡ true = no_e in absurd (cc)) (λ e at. refl) in
             let le = bound y m aw in
             near-as p (NeedsBuild ask) t (rw is (record {
               left = 1;
@@ -422,8 +422,8 @@ module _ {K V I : Type 0} (keeps : Bool) (cmp : K → K → Ordering) (join : V 
         by p (Loads.goes_on y m j b parts r reads e low place held is res) on =
             let t : p ≡ NeedsLoad r b = cc in
             let aw = reads.awaits in
-            let under = gathered-low join _ cmp (key_of y.op) v.records.page_bits (first_place v.records.page_bits (page_at v.records.page_bits m.wanted)) m.wanted b m.parts parts _ reads.reads refl in
-            let first = page-low v.records.page_bits m.wanted (wanted-low y m aw) in
+            let under = gathered-low join _ cmp (key_of y.op) v.records.log.bits (first_place v.records.log.bits (page_at v.records.log.bits m.wanted)) m.wanted b m.parts parts _ reads.reads refl in
+            let first = page-low v.records.log.bits m.wanted (wanted-low y m aw) in
             near-as p (NeedsLoad r b) t (further y m b parts r aw (omega arith) is)
         by p (Loads.unshared y m j b parts reads e low place is r) on = absurd (cc)
 

@@ -101,8 +101,8 @@ module _ {K V I : Type 0} (code : K → ℕ) (old new : PartitionView K V I) (sl
               others = λ s d other. ap (λ (u : CoreView K V I). asked u s d) core ∙ ap (λ (o : Option (OpenWork K V I)). option_map asked_by (on_key o)) (context-other (slots_of old.core) old.core.contexts slot c s d (Some (OnKey x)) low other);
               number = ap (λ (u : CoreView K V I). u.number) core;
               count = ap (λ (u : CoreView K V I). u.count) core;
-              begin = ap (λ (u : CoreView K V I). u.records.begin) core;
-              regions = ap (λ (u : CoreView K V I). u.records.regions) core;
+              begin = ap (λ (u : CoreView K V I). u.records.log.begin) core;
+              regions = ap (λ (u : CoreView K V I). u.records.log.regions) core;
               rises = omega arith;
               moment = refl;
             };

@@ -30,7 +30,7 @@ use Rattle.fkv_alone.proofs.StageLemmas.{some-same}
 
 -- up to an address there are no more than in all
 to-within : {K V : Type 0} (code : K → ℕ) (r : RecordsView K V) (k : K) (a : ℕ) → evicted_to code r k a ≤ evicted code r k
-to-within code r k a = count-fewer (is_evicted code r k) (λ e. nat_le e.address a && is_evicted code r k e) (λ e h. (and_parts (nat_le e.address a) (is_evicted code r k e) h).1) r.entries
+to-within code r k a = count-fewer (is_evicted code r k) (λ e. nat_le e.address a && is_evicted code r k e) (λ e h. (and_parts (nat_le e.address a) (is_evicted code r k e) h).1) r.log.text
 
 cond-within : (b : Bool) (m n : ℕ) → m ≤ n → cond b m 0 ≤ cond b n 0
 cond-within true m n h = h

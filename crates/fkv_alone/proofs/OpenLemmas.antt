@@ -16,7 +16,7 @@ use Rattle.fkv_alone.specs.Ending.{IsOver}
 abbrev pub with_both : {K V I : Type 0} → CoreView K V I → ℕ → ℕ → Option (Context K V I) → ℕ → RecordsView K V → CoreView K V I
 with_both v slot c y now r = record (with_context v slot c y now) { records = r }
 
-module _ {K V I : Type 0} (v : CoreView K V I) (slot c now : ℕ) (x : Context K V I) (h : context_at v slot c ≡ Some x) (y : Option (Context K V I)) (r : RecordsView K V) (regions : r.regions ≡ v.records.regions) where
+module _ {K V I : Type 0} (v : CoreView K V I) (slot c now : ℕ) (x : Context K V I) (h : context_at v slot c ≡ Some x) (y : Option (Context K V I)) (r : RecordsView K V) (regions : r.log.regions ≡ v.records.log.regions) where
   -- the changed context
   pub set-here : context_at (with_both v slot c y now r) slot c ≡ y
   set-here =
@@ -24,7 +24,7 @@ module _ {K V I : Type 0} (v : CoreView K V I) (slot c now : ℕ) (x : Context K
       ∙ context-same v slot c now x h y
 
   -- and every other one
-  pub set-frame : r.begin ≡ v.records.begin → LeavesOthers v (with_both v slot c y now r) slot c now
+  pub set-frame : r.log.begin ≡ v.records.log.begin → LeavesOthers v (with_both v slot c y now r) slot c now
   set-frame begin = record {
     others = λ s d other.
         ap (λ (g : RegionsView). option_map asked_by (on_key (context_in g.epochs.slots (with_context v slot c y now).contexts s d))) regions
@@ -82,8 +82,8 @@ module _ {K V I : Type 0} where
     pub open-set : (now : ℕ) (y : Context K V I) (r : RecordsView K V) → v.moment < now → y.number ≡ x.number → y.op ≡ x.op → r ≡ record v.records { words = r.words }
         → IsOpen op old (with_both v slot c (Some y) now r) slot c started y
     open-set now y r later number same records =
-        let regions : r.regions ≡ v.records.regions = ap (λ (z : RecordsView K V). z.regions) records in
-        let begin : r.begin ≡ v.records.begin = ap (λ (z : RecordsView K V). z.begin) records in
+        let regions : r.log.regions ≡ v.records.log.regions = ap (λ (z : RecordsView K V). z.log.regions) records in
+        let begin : r.log.begin ≡ v.records.log.begin = ap (λ (z : RecordsView K V). z.log.begin) records in
         open-on (with_both v slot c (Some y) now r) now y later (set-here v slot c now x o.here (Some y) r regions) number same records (set-frame v slot c now x o.here (Some y) r regions begin)
 
     -- it is over

@@ -129,8 +129,8 @@ module _ {K V I O R : Type 0} (keeps : Bool) (stands : R → Standing) (cmp : K 
   told-as p q e h = subst (HasCome keeps stands cmp join f code op old w slot c started) (sym e) h
 
   -- the tail is where it was
-  tail-was : (x : Context K V I) → IsOpen op old v slot c started x → v.records.tail ≡ 2 ^ 48 → old.records.tail ≡ 2 ^ 48
-  tail-was x o e = sym (ap (λ (r : RecordsView K V). r.tail) o.records) ∙ e
+  tail-was : (x : Context K V I) → IsOpen op old v slot c started x → v.records.log.tail ≡ 2 ^ 48 → old.records.log.tail ≡ 2 ^ 48
+  tail-was x o e = sym (ap (λ (r : RecordsView K V). r.log.tail) o.records) ∙ e
 
   -- ---- it goes on
   event-done : (x : Context K V I) → IsOpen op old v slot c started x → (p : Progress K V I O R) (a : Answer O) → p ≡ Done a now → IsEvent cmp f v w slot c now p → HasCome keeps stands cmp join f code op old w slot c started p
@@ -140,12 +140,12 @@ module _ {K V I O R : Type 0} (keeps : Bool) (stands : R → Standing) (cmp : K 
       (λ kept. let q = open-asks op old v slot c started x o ev.question ev.was in
       (of-after cmp f (live_of cmp v) (live_of cmp w) x.op (subst (λ (z : Op K V I). Same (live_of cmp w) (map_after cmp f (live_of cmp v) z)) q ev.effect.2), of-answer f (live_of cmp v) x.op a (ev.effect.3 ∙ ap (answer_to f (live_of cmp v)) q))))
 
-  asked-page : (x : Context K V I) (b : ℕ) (parts : Option V) (e : IndexEntry) (receipt : R) → IsOpen op old v slot c started x → IsHeldBy v.records.receipts (page_at v.records.page_bits b) (stands receipt)
-      → w ≡ with_context v slot c (Some (at_phase x (Load (record { begin = v.records.begin; kept = e; wanted = b; parts = parts; looked = now })))) now
+  asked-page : (x : Context K V I) (b : ℕ) (parts : Option V) (e : IndexEntry) (receipt : R) → IsOpen op old v slot c started x → IsHeldBy v.records.log.receipts (page_at v.records.log.bits b) (stands receipt)
+      → w ≡ with_context v slot c (Some (at_phase x (Load (record { begin = v.records.log.begin; kept = e; wanted = b; parts = parts; looked = now })))) now
       → (IsTrue keeps → pending cmp w slot c ≡ Some (record { moment = now; value = live_of cmp v (key_of x.op) }))
       → IsFetching keeps cmp op old w slot c started (stands receipt) b
   asked-page x b parts e receipt o held is finds =
-      let l : Loading V = record { begin = v.records.begin; kept = e; wanted = b; parts = parts; looked = now } in
+      let l : Loading V = record { begin = v.records.log.begin; kept = e; wanted = b; parts = parts; looked = now } in
       let y = at_phase x (Load l) in
       let here = set-here v slot c now x o.here (Some y) v.records refl in
       let value : live_of cmp v (key_of x.op) ≡ live_of cmp old (key_of op) = ap (λ (z : KeyedOp K V I). live_of cmp v (key_of z)) o.op_is ∙ ap (λ (r : RecordsView K V). live cmp r.text (key_of op)) o.records in
@@ -219,7 +219,7 @@ module _ {K V I O R : Type 0} (keeps : Bool) (stands : R → Standing) (cmp : K 
       told-as p (NeedsLoad receipt b) t (asked-page x b parts e receipt o held is (λ kept. subst (Asks cmp v w slot c now) t (finds kept) x d.here))
   goes-told h p (Goes.unshared x b parts d is r) event finds = absurd (cc)
 
-  pub goes-stops : IsReady op old v slot c started → (why : Refused) → Goes {O = O} {R = R} stands cmp join f code v w slot c now (Err why) → (why ≡ NoMemory) ⊎ ((why ≡ Worn) × (old.records.tail ≡ 2 ^ 48))
+  pub goes-stops : IsReady op old v slot c started → (why : Refused) → Goes {O = O} {R = R} stands cmp join f code v w slot c now (Err why) → (why ≡ NoMemory) ⊎ ((why ≡ Worn) × (old.records.log.tail ≡ 2 ^ 48))
   goes-stops h why (Goes.unknown here is r) = absurd (some-none h.operation (context_at v slot c) h.open_is.here here)
   goes-stops h why (Goes.asks x e ask here q is r) = absurd (cc)
   goes-stops h why (Goes.not_ready x l here phase is r) =
@@ -278,7 +278,7 @@ module _ {K V I O R : Type 0} (keeps : Bool) (stands : R → Standing) (cmp : K 
       (subst (λ (u : CoreView K V I). LeavesOthers v u slot c now) (sym is) (set-frame v slot c now x here None grown refl refl))
       (λ kept. subst (Finishes cmp f v w slot c now) t (event kept) x here))
 
-  pub installs-stops : (ask : Ask K V I) → AsksToBuild op old v slot c started ask → (why : Refused) → Installs {O = O} {R = R} cmp f code v w slot c ask now (Err why) → (why ≡ Worn) × (old.records.tail ≡ 2 ^ 48)
+  pub installs-stops : (ask : Ask K V I) → AsksToBuild op old v slot c started ask → (why : Refused) → Installs {O = O} {R = R} cmp f code v w slot c ask now (Err why) → (why ≡ Worn) × (old.records.log.tail ≡ 2 ^ 48)
   installs-stops ask h why (Installs.unknown here is r) = absurd (some-none h.operation (context_at v slot c) h.open_is.here here)
   installs-stops ask h why (Installs.not_ready x here q is r) =
       let same : h.operation ≡ x = some-same h.operation x (context_at v slot c) h.open_is.here here in
@@ -338,7 +338,7 @@ module _ {K V I O R : Type 0} (keeps : Bool) (stands : R → Standing) (cmp : K 
             r.answers ∙ ap (shown_of f r.key r.input) value ∙ ap (answer f (live_of cmp old)) (sym is_read)
 
     -- the way goes on in another page
-    further-told : (x : Context K V I) (l : Loading V) (b : ℕ) (parts : Option V) (receipt : R) → IsOpen op old v slot c started x → AwaitsPage v slot c x l → h.loading ≡ l → IsHeldBy v.records.receipts (page_at v.records.page_bits b) (stands receipt)
+    further-told : (x : Context K V I) (l : Loading V) (b : ℕ) (parts : Option V) (receipt : R) → IsOpen op old v slot c started x → AwaitsPage v slot c x l → h.loading ≡ l → IsHeldBy v.records.log.receipts (page_at v.records.log.bits b) (stands receipt)
         → w ≡ with_context v slot c (Some (at_phase x (Load (record l { wanted = b; parts = parts })))) now
         → (IsTrue keeps → pending cmp w slot c ≡ pending cmp v slot c)
         → IsFetching keeps cmp op old w slot c started (stands receipt) b
@@ -375,7 +375,7 @@ module _ {K V I O R : Type 0} (keeps : Bool) (stands : R → Standing) (cmp : K 
         let y = at_phase x (Load (record l { wanted = b; parts = parts })) in
         let there : context_at w slot c ≡ Some y = ap (λ (t : CoreView K V I). context_at t slot c) is ∙ set-here v slot c now x o.here (Some y) v.records refl in
         let shown : pending_of cmp w.records (Some y) ≡ Some (record { moment = now; value = u }) = sym (ap (pending_of cmp w.records) there) ∙ e in
-        by (l.begin == w.records.begin) (value_of (newest cmp w.records.text (key_of x.op) (address_of l.kept.word))) shown
+        by (l.begin == w.records.log.begin) (value_of (newest cmp w.records.text (key_of x.op) (address_of l.kept.word))) shown
       where
         by : (t : Bool) (a : Option V) → cond {A = Option (Pending V)} t (Some (record { moment = l.looked; value = a })) None ≡ Some (record { moment = now; value = u }) → ⊥
         by true a k = looked-before l same (ap (λ (z : Pending V). z.moment) (some-same (record { moment = l.looked; value = a }) (record { moment = now; value = u }) (Some (record { moment = l.looked; value = a })) refl k))
@@ -433,7 +433,7 @@ module _ {K V I O R : Type 0} (keeps : Bool) (stands : R → Standing) (cmp : K 
 
     -- why it is refused
     pub loads-stops : (page before after : ℕ) (came : Result (Joined R) Refused) → IfOk came (λ j. stands j.receipt ≡ s) → OnOk came (after ≡ before) → IfErr came (ReadFailsBy page before after)
-        → (why : Refused) → (IsTrue keeps → (n : ℕ) → why ≡ Damaged n → after ≡ before + 1) → Loads {O = O} stands entry cmp join f v w slot c came now (Err why) → IsStop keeps old.records.tail before after why × ((w ≡ v) ⊎ IsOver old w slot c)
+        → (why : Refused) → (IsTrue keeps → (n : ℕ) → why ≡ Damaged n → after ≡ before + 1) → Loads {O = O} stands entry cmp join f v w slot c came now (Err why) → IsStop keeps old.records.log.tail before after why × ((w ≡ v) ⊎ IsOver old w slot c)
     loads-stops page before after came own steady counted why fine (Loads.unknown here is r) = absurd (some-none h.operation (context_at v slot c) h.open_is.here here)
     loads-stops page before after came own steady counted why fine (Loads.not_ready x here q is r) =
         let same : h.operation ≡ x = some-same h.operation x (context_at v slot c) h.open_is.here here in
@@ -443,22 +443,22 @@ module _ {K V I O R : Type 0} (keeps : Bool) (stands : R → Standing) (cmp : K 
     loads-stops page before after came own steady counted why fine (Loads.failed x l y await e other is r) =
         let t : why ≡ y = cc in
         let o = open-same op old v slot c started h.operation x h.open_is await.here in
-        (stop-of old.records.tail page before after why (subst (ReadFailsBy page before after) (sym t) (subst (λ (q : Result (Joined R) Refused). IfErr q (ReadFailsBy page before after)) e counted)), inr (over-is x o is))
+        (stop-of old.records.log.tail page before after why (subst (ReadFailsBy page before after) (sym t) (subst (λ (q : Result (Joined R) Refused). IfErr q (ReadFailsBy page before after)) e counted)), inr (over-is x o is))
     loads-stops page before after came own steady counted why fine (Loads.unread x l await e is r) =
         let t : why ≡ NoMemory = cc in
-        (stop-of old.records.tail page before after why (subst (ReadFailsBy page before after) (sym t) (subst (λ (q : Result (Joined R) Refused). IfErr q (ReadFailsBy page before after)) e counted)), inl is)
+        (stop-of old.records.log.tail page before after why (subst (ReadFailsBy page before after) (sym t) (subst (λ (q : Result (Joined R) Refused). IfErr q (ReadFailsBy page before after)) e counted)), inl is)
     loads-stops page before after came own steady counted why fine (Loads.stranger x l j t await e held other is r) =
         let mine : stands j.receipt ≡ s = subst (λ (q : Result (Joined R) Refused). IfOk q (λ j. stands j.receipt ≡ s)) e own in
         let wanted : a ≡ l.wanted = sym h.wanted ∙ ap (λ (z : Loading V). z.wanted) (await-same x l await.here await.loading) in
-        let there : receipt_at v.records.receipts (page_at v.records.page_bits l.wanted) ≡ Some s = subst (λ n. IsHeldBy v.records.receipts (page_at v.records.page_bits n) s) wanted h.held in
-        absurd (other (some-same t s (receipt_at v.records.receipts (page_at v.records.page_bits l.wanted)) held there ∙ sym mine))
+        let there : receipt_at v.records.log.receipts (page_at v.records.log.bits l.wanted) ≡ Some s = subst (λ n. IsHeldBy v.records.log.receipts (page_at v.records.log.bits n) s) wanted h.held in
+        absurd (other (some-same t s (receipt_at v.records.log.receipts (page_at v.records.log.bits l.wanted)) held there ∙ sym mine))
     loads-stops page before after came own steady counted why fine (Loads.damaged x l j y reads e is r) =
-        let t : why ≡ Damaged (page_at v.records.page_bits l.wanted) = cc in
+        let t : why ≡ Damaged (page_at v.records.log.bits l.wanted) = cc in
         let o = open-same op old v slot c started h.operation x h.open_is reads.awaits.here in
         let same : after ≡ before = subst (λ (q : Result (Joined R) Refused). OnOk q (after ≡ before)) e steady in
         (IsStop.misspelled _ (λ yes_keeps. let more = fine yes_keeps _ t in omega arith) t same, inr (over-is x o is))
     loads-stops page before after came own steady counted why fine (Loads.bad_link x l j b parts reads e low place is r) =
-        let t : why ≡ Damaged (page_at v.records.page_bits l.wanted) = cc in
+        let t : why ≡ Damaged (page_at v.records.log.bits l.wanted) = cc in
         let o = open-same op old v slot c started h.operation x h.open_is reads.awaits.here in
         let same : after ≡ before = subst (λ (q : Result (Joined R) Refused). OnOk q (after ≡ before)) e steady in
         (IsStop.misspelled _ (λ yes_keeps. let more = fine yes_keeps _ t in omega arith) t same, inr (over-is x o is))
@@ -481,18 +481,18 @@ module _ {K V I O R : Type 0} (keeps : Bool) (stands : R → Standing) (cmp : K 
     loads-advances page before after came own steady counted (Err why) fine loads load = loads-stops page before after came own steady counted why (λ yes_keeps n is. fine yes_keeps n (ap Err is)) loads
 
     -- the page that it waits for is the one that it asked for
-    page-asked : (page : ℕ) (at : WaitsFor v slot c page) → page ≡ page_at v.records.page_bits a
+    page-asked : (page : ℕ) (at : WaitsFor v slot c page) → page ≡ page_at v.records.log.bits a
     page-asked page at =
         at.page_is
-        ∙ ap (λ (z : Loading V). page_at v.records.page_bits z.wanted) (sym (await-same at.operation at.loading at.awaits.here at.awaits.loading))
-        ∙ ap (page_at v.records.page_bits) h.wanted
+        ∙ ap (λ (z : Loading V). page_at v.records.log.bits z.wanted) (sym (await-same at.operation at.loading at.awaits.here at.awaits.loading))
+        ∙ ap (page_at v.records.log.bits) h.wanted
 
     pub reads-advances : (before after : ℕ) (result : Result (Progress K V I O R) Refused) → (IsTrue keeps → (n : ℕ) → result ≡ Err (Damaged n) → after ≡ before + 1) → LoadsBy stands entry cmp join f v w slot c now before after result → (IsTrue keeps → IfOk result (λ p. Tells cmp f v w slot c now p))
         → Advances keeps stands cmp join f code op old v w slot c started before after result
     reads-advances before after result fine (ReadsBy.idle unasked all same) load =
-        absurd (unasked (page_at v.records.page_bits a) (record { operation = h.operation; loading = h.loading; awaits = h.awaits; page_is = ap (page_at v.records.page_bits) (sym h.wanted) }))
+        absurd (unasked (page_at v.records.log.bits a) (record { operation = h.operation; loading = h.loading; awaits = h.awaits; page_is = ap (page_at v.records.log.bits) (sym h.wanted) }))
     reads-advances before after result fine (ReadsBy.came page p at own does same) load =
-        let held : receipt_at v.records.receipts page ≡ Some s = subst (λ n. IsHeldBy v.records.receipts n s) (sym (page-asked page at)) h.held in
-        loads-advances page before after (Ok p) (some-same (stands p.receipt) s (receipt_at v.records.receipts page) own held) same tt result fine does load
+        let held : receipt_at v.records.log.receipts page ≡ Some s = subst (λ n. IsHeldBy v.records.log.receipts n s) (sym (page-asked page at)) h.held in
+        loads-advances page before after (Ok p) (some-same (stands p.receipt) s (receipt_at v.records.log.receipts page) own held) same tt result fine does load
     reads-advances before after result fine (ReadsBy.failed page why at fails is told) load =
-        subst (λ (q : Result (Progress K V I O R) Refused). Advances keeps stands cmp join f code op old v w slot c started before after q) (sym told) (stop-of old.records.tail page before after why fails, inl is)
+        subst (λ (q : Result (Progress K V I O R) Refused). Advances keeps stands cmp join f code op old v w slot c started before after q) (sym told) (stop-of old.records.log.tail page before after why fails, inl is)

@@ -24,14 +24,14 @@ use Rattle.fkv_partition.specs.CoreViews.{CoreView, context_at}
 
 -- a record below Head, of the class of a key
 abbrev pub is_evicted : {K V : Type 0} → (K → ℕ) → RecordsView K V → K → Entry K V → Bool
-is_evicted code r k e = nat_lt e.address r.regions.offsets.head && same_class (class_in code r e.key) (class_in code r k)
+is_evicted code r k e = nat_lt e.address r.log.regions.offsets.head && same_class (class_in code r e.key) (class_in code r k)
 
 -- how many there are, and how many of them at or below an address
 abbrev pub evicted : {K V : Type 0} → (K → ℕ) → RecordsView K V → K → ℕ
-evicted code r k = length (filter (is_evicted code r k) r.entries)
+evicted code r k = length (filter (is_evicted code r k) r.log.text)
 
 abbrev pub evicted_to : {K V : Type 0} → (K → ℕ) → RecordsView K V → K → ℕ → ℕ
-evicted_to code r k a = length (filter (λ e. nat_le e.address a && is_evicted code r k e) r.entries)
+evicted_to code r k a = length (filter (λ e. nat_le e.address a && is_evicted code r k e) r.log.text)
 
 -- whether an operation may read pages: a read or an update may; an upsert, a delete and a merge read none
 abbrev pub may_load : {K V I : Type 0} → KeyedOp K V I → Bool

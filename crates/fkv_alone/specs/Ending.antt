@@ -47,7 +47,7 @@ abbrev pub Advances : {K V I O R : Type 0} → Bool → (R → Standing) → (K 
 Advances keeps stands cmp join f code op old v new slot c started before after (Ok progress) =
     HasCome keeps stands cmp join f code op old new slot c started progress × (after ≡ before)
 Advances keeps stands cmp join f code op old v new slot c started before after (Err why) =
-    IsStop keeps old.records.tail before after why × ((new ≡ v) ⊎ IsOver old new slot c)
+    IsStop keeps old.records.log.tail before after why × ((new ≡ v) ⊎ IsOver old new slot c)
 
 -- the operation is to go on
 abbrev pub IsOn : {K V I O R : Type 0} → Progress K V I O R → Type 0
@@ -103,7 +103,7 @@ pub data Ends {K V I O R : Type 0} (keeps : Bool) (cmp : K → K → Ordering) (
       → Opens code old slot c op
       → IsOver old.core new.core slot c
       → end ≤ start + limit
-      → IsStop keeps old.core.records.tail before after why
+      → IsStop keeps old.core.records.log.tail before after why
       → result ≡ Err why
       → Ends keeps cmp join f code op old new slot limit start end before after result
   -- all its events are made, and the operation is over
@@ -144,7 +144,7 @@ pub data Drives {K V I O R : Type 0} (keeps : Bool) (stands : R → Standing) (c
   refused : (why : Refused)
       → IsHalted old new slot c
       → end ≤ start + left
-      → IsStop keeps old.records.tail before after why
+      → IsStop keeps old.records.log.tail before after why
       → result ≡ Err why
       → Drives keeps stands cmp join f code op old new slot c started left start end before after result
   stalled : IsHalted old new slot c

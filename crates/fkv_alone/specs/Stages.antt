@@ -19,7 +19,7 @@ use Rattle.fkv_partition.specs.declared.contexts.Loading.{Loading}
 use Rattle.fkv_partition.specs.declared.contexts.Phase.TheVariants.{Fresh, Confirm}
 use Rattle.fkv_partition.specs.declared.contexts.Progress.{Progress}
 use Rattle.fkv_partition.specs.declared.contexts.Progress.TheVariants.{Done, Next, NeedsBuild, NeedsLoad, Waits}
-use Rattle.fkv_lookups.specs.RecordsViews.{IsFull}
+use Rattle.fkv_hybrid.specs.Views.{IsFull}
 use Rattle.fkv_lookups.specs.declared.decisions.Decision.TheVariants as decided
 use Rattle.fkv_lookups.specs.declared.payloads.Payload.{Payload}
 use Rattle.fkv_partition.specs.declared.contexts.Wait.{Wait}
@@ -64,7 +64,7 @@ pub record IsFetching {K V I : Type 0} (keeps : Bool) (cmp : K → K → Orderin
   pub loading : Loading V
   pub awaits : AwaitsPage v slot c operation loading
   pub wanted : loading.wanted ≡ a
-  pub held : IsHeldBy v.records.receipts (page_at v.records.page_bits a) s
+  pub held : IsHeldBy v.records.log.receipts (page_at v.records.log.bits a) s
   pub looked : started < loading.looked
   pub past : loading.looked ≤ v.moment
   pub finds : IsTrue keeps
@@ -78,14 +78,14 @@ pub data IsHeldUp {K V I O : Type 0} (cmp : K → K → Ordering) (join : V → 
   -- by what it meets it is to append a record, and there is no room for one
   full : (payload : Payload V) (a : Answer O)
       → Decides cmp join f code v slot c x (decided.Append payload a)
-      → IsFull v.records
+      → IsFull v.records.log
       → IsHeldUp cmp join f code v slot c x wait.Full
   -- or it is an update, the entry is still the one that it kept, and there is no room for the value that was built
   built : (kept : IndexEntry) (ask : Ask K V I) (value : V)
       → question_in x ≡ Some (kept, ask)
       → word_at v.records.words kept.place ≡ kept.word
       → updated f ask.key ask.input ask.source ≡ Some value
-      → IsFull v.records
+      → IsFull v.records.log
       → IsHeldUp cmp join f code v slot c x wait.Full
 
 -- it cannot go on yet

@@ -156,6 +156,6 @@ left-parted keeps cmp old between new now end (Ok t) core at ev = record {
   text = λ yes_keeps. ev.text yes_keeps ∙ ap (λ r. r.text) core.records;
   number = ev.number ∙ core.number;
   count = ev.count ∙ core.count;
-  begin = ev.begin ∙ ap (λ r. r.begin) core.records;
+  begin = ev.begin ∙ ap (λ r. r.log.begin) core.records;
   moment = ev.moment ∙ sym at;
 }

@@ -76,7 +76,7 @@ pub record IsParted {K V I : Type 0} (keeps : Bool) (old new : PartitionView K V
   pub text : IsTrue keeps → new.core.records.text ≡ old.core.records.text
   pub number : new.core.number ≡ old.core.number
   pub count : new.core.count ≡ old.core.count
-  pub begin : new.core.records.begin ≡ old.core.records.begin
+  pub begin : new.core.records.log.begin ≡ old.core.records.log.begin
   pub moment : new.core.moment ≡ now
 
 -- the relocations of a slot are given up, the lowest first, each at the next moment of a clock

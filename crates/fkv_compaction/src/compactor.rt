@@ -175,12 +175,12 @@ impl Compactor {
     ) -> Result<Address, Refused>
         requires later { partition.old.core.moment < now }
         ensures effect { Truncates R.keeps partition.old partition.new
-            (page_at partition.old.core.records.page_bits partition.old.cleared) now (told_of result) }
-        ensures begin { IfOk result (λ begin. (begin ≡ partition.new.core.records.begin)
-            × (begin ≡ start_at partition.old.core.records.page_bits
-            (page_at partition.old.core.records.page_bits partition.old.cleared))) }
+            (page_at partition.old.core.records.log.bits partition.old.cleared) now (told_of result) }
+        ensures begin { IfOk result (λ begin. (begin ≡ partition.new.core.records.log.begin)
+            × (begin ≡ start_at partition.old.core.records.log.bits
+            (page_at partition.old.core.records.log.bits partition.old.cleared))) }
         ensures event { OnOk result (IsTruncation R.keeps F.Key.cmp partition.old partition.new
-            (page_at partition.old.core.records.page_bits partition.old.cleared) now) }
+            (page_at partition.old.core.records.log.bits partition.old.cleared) now) }
         ensures unchanged { OnErr result (partition.new ≡ partition.old) }
         ensures moment { partition.new.core.moment ≤ now }
     {

@@ -20,7 +20,7 @@ use Rattle.fkv_local.proofs.AtOnceLemmas.{no-operation, no-relocation, unasked}
 
 module _ {K V I : Type 0} where
   -- what asks nothing is open for nothing
-  pub asks-nothing : (w : PartitionView K V I) → is_session (slots_of w.core) 0 ≡ true → IsSettled w.core.records.regions → ((d : ℕ) → asked w 0 d ≡ None) → IsIdle w 0
+  pub asks-nothing : (w : PartitionView K V I) → is_session (slots_of w.core) 0 ≡ true → IsSettled w.core.records.log.regions → ((d : ℕ) → asked w 0 d ≡ None) → IsIdle w 0
   asks-nothing w entered settled none = record {
     entered = entered;
     settled = settled;

@@ -32,7 +32,8 @@ use Rattle.fkv_local.proofs.WaitLemmas.{waits-full}
 use Rattle.fkv_regions.specs.declared.offsets.View.{View}
 use Rattle.fkv_regions.specs.Offsets.{view_of, view_at}
 use Rattle.fkv_regions.specs.RegionsView.{RegionsView}
-use Rattle.fkv_lookups.specs.RecordsViews.{RecordsView, IsFull}
+use Rattle.fkv_lookups.specs.RecordsViews.{RecordsView}
+use Rattle.fkv_hybrid.specs.Views.{IsFull}
 use Rattle.fkv_local.specs.Moving.{IsTidied, IsSameLog, StaysSettled, IsMoveRefusal}
 use Rattle.fkv_local.proofs.RoomLemmas.{log-then, log-words}
 use Rattle.fkv_local.specs.Storing.{Runs}
@@ -192,7 +193,7 @@ is-given_up v w now (Err e) x here (GivesUp.cancels y p a b d q) event = absurd 
 
 pub record IsLeft {K V I : Type 0} (keeps merges : Bool) (cmp : K → K → Ordering) (op : KeyedOp K V I) (u w : PartitionView K V I) (clock writes writes_now reads reads_now : ℕ) (e : Refused) : Type 0 where
   pub stays : StaysIdle keeps cmp u w
-  pub why : IsStopped keeps merges op w.core.records.tail clock (both writes reads) (both writes_now reads_now) e
+  pub why : IsStopped keeps merges op w.core.records.log.tail clock (both writes reads) (both writes_now reads_now) e
 
 -- of the records of an operation that is given up the words of the index alone may be others
 words-as : {K V : Type 0} (v : RecordsView K V) {w x : RecordsView K V} → w ≡ x → x ≡ record v { words = x.words } → w ≡ record v { words = w.words }
@@ -204,8 +205,8 @@ given-words {K} {V} {I} {v} (GivesUp.gives_up x a b d q) = words-as v.records (a
 given-words {K} {V} {I} {v} (GivesUp.cancels x p a b d q) = words-as v.records (ap (λ (x : CoreView K V I). x.records) d) refl
 
 -- the words of the index play no part in it
-full-before : {K V : Type 0} (v w : RecordsView K V) → w ≡ record v { words = w.words } → IsFull w → IsFull v
-full-before v w is full = let f = subst IsFull is full in record { more = f.more; begins = f.begins; taken = f.taken }
+full-before : {K V : Type 0} (v w : RecordsView K V) → w ≡ record v { words = w.words } → IsFull w.log → IsFull v.log
+full-before {K} {V} v w is full = subst (λ (r : RecordsView K V). IsFull r.log) is full
 
 -- a refused operation, by what it leaves
 pub left-runs : {K V I O : Type 0} {keeps : Bool} {cmp : K → K → Ordering} {f : Meanings K V I O} {u w : PartitionView K V I} {op : KeyedOp K V I} {e : Refused} → StaysIdle keeps cmp u w → Runs keeps cmp f u w op (Err e)
@@ -237,14 +238,14 @@ module _ {K V I O R : Type 0} {keeps : Bool} {cmp : K → K → Ordering} {join 
     err-left m same (Ends.late b d n e t r) = record { stays = subst (StaysIdle keeps cmp u) (sym n) s; why = IsStopped.unworked (worn-work (cc) (omega arith) same t) }
     err-left {merges} {writes} {writes_now} {e} m same (Ends.unissued why b i n ends t r) = record {
       stays = subst (StaysIdle keeps cmp u) (sym n) s;
-      why = subst (λ x. IsStopped keeps merges op w.core.records.tail end (both writes before) (both writes_now after_) x) (let q : why ≡ e = cc in q) (unissued v w (start + 1) why s.idle own m i t same);
+      why = subst (λ x. IsStopped keeps merges op w.core.records.log.tail end (both writes before) (both writes_now after_) x) (let q : why ≡ e = cc in q) (unissued v w (start + 1) why s.idle own m i t same);
     }
     err-left m same (Ends.done c a2 effect opens d b t r) = absurd (cc)
     err-left m same (Ends.waits c why opens d b t r) = absurd (cc)
     err-left {merges} {writes} {writes_now} {e} m same (Ends.refused c why opens d b st r) = record {
       stays = over-stays u v w c s d rest;
-      why = subst (λ x. IsStopped keeps merges op w.core.records.tail end (both writes before) (both writes_now after_) x) (let q : why ≡ e = cc in q)
-          (subst (λ n. IsStopped keeps merges op n end (both writes before) (both writes_now after_) why) (sym (ap (λ x. x.tail) d.records)) (stopped st same));
+      why = subst (λ x. IsStopped keeps merges op w.core.records.log.tail end (both writes before) (both writes_now after_) x) (let q : why ≡ e = cc in q)
+          (subst (λ n. IsStopped keeps merges op n end (both writes before) (both writes_now after_) why) (sym (ap (λ x. x.log.tail) d.records)) (stopped st same));
     }
     -- more events than a clock has moments
     err-left m same (Ends.stalled c opens d b t r) = absurd (omega arith)
@@ -276,11 +277,11 @@ module _ {K V I O R : Type 0} {keeps : Bool} {cmp : K → K → Ordering} {join 
     waited (Ends.exhausted c opens d m b t r) = absurd (cc)
 
     -- it finds no room
-    pub waits-room : {why : Wait} → Ends {O = O} {R = R} keeps cmp join f code op v w 0 (2 ^ 64 - 1) start end before after_ (Ok (Waits why)) → IsFull v.core.records
+    pub waits-room : {why : Wait} → Ends {O = O} {R = R} keeps cmp join f code op v w 0 (2 ^ 64 - 1) start end before after_ (Ok (Waits why)) → IsFull v.core.records.log
     waits-room {why} ends =
         let h = waited ends in
         let settled = s.idle.settled in
-        let sees : seen_at w.core 0 ≡ view_of v.core.records.regions.offsets = ap (λ (r : RegionsView). view_at r.views 0) h.open_is.frame.regions ∙ settled.sees in
+        let sees : seen_at w.core 0 ≡ view_of v.core.records.log.regions.offsets = ap (λ (r : RegionsView). view_at r.views 0) h.open_is.frame.regions ∙ settled.sees in
         let same : (seen_at w.core 0).safe_read_only ≡ (seen_at w.core 0).read_only = ap (λ (x : View). x.safe_read_only) sees ∙ settled.safe ∙ sym (ap (λ (x : View). x.read_only) sees) in
         full-before v.core.records w.core.records h.open_is.records (waits-full cmp join f code w.core 0 same 0 h.operation why h.reason)
 

@@ -47,7 +47,7 @@ module _ {P : Type 0} (reads : P → ℕ) (old now : List P) (i : ℕ) (r r_now 
   readers-counted e = view-same reads now i r r_now here e ∙ counts
 
   pub unlisted-here : {K V I : Type 0} (keeps : Bool) (parts : List (PartitionView K V I)) (v : PartitionView K V I) (why : Refused) → slice_get parts i ≡ Some v
-      → IsScanRefusal keeps (page_at v.core.records.page_bits v.core.records.begin) (length v.core.records.receipts) (reads r) (reads r_now) why
+      → IsScanRefusal keeps (page_at v.core.records.log.bits v.core.records.log.begin) (length v.core.records.log.receipts) (reads r) (reads r_now) why
       → IsUnlistedAt keeps reads parts old (slice_set now i r_now) i why
   unlisted-here keeps parts v why at refused = record {
     view = v;
@@ -142,7 +142,7 @@ module _ {S K V I P : Type 0} (part : S → PartitionView K V I) (reader : S →
         ∙ front-view items n (take n items) last refl
 
     pub read-unlisted : (keeps : Bool) (reads : P → ℕ) (why : Refused) → n ≡ length items - 1
-        → IsScanRefusal keeps (page_at (part x).core.records.page_bits (part x).core.records.begin) (length (part x).core.records.receipts) (reads (reader x)) (reads (reader y)) why
+        → IsScanRefusal keeps (page_at (part x).core.records.log.bits (part x).core.records.log.begin) (length (part x).core.records.log.receipts) (reads (reader x)) (reads (reader y)) why
         → IsUnlistedAt keeps reads (listed items).parts (listed items).readers (map reader (slice_set items n y)) (length (listed items).parts - 1) why
     read-unlisted keeps reads why last refused =
         subst (λ rs. IsUnlistedAt keeps reads (map part items) (map reader items) rs (length (map part items) - 1) why) (sym (view-set reader items n y))

@@ -51,14 +51,14 @@ module _ {K V I : Type 0} (cmp : K → K → Ordering) (merges : Bool) (config :
         numbered = ap (λ (u : CoreView K V I). u.number) n;
         counted = ap (λ (u : CoreView K V I). u.count) n;
         made = record {
-          page_bits = ap (λ (u : CoreView K V I). u.records.page_bits) n;
-          frames = ap (λ (u : CoreView K V I). u.records.frames) n;
+          page_bits = ap (λ (u : CoreView K V I). u.records.log.bits) n;
+          frames = ap (λ (u : CoreView K V I). u.records.log.frames) n;
           bucket_bits = ap (λ (u : CoreView K V I). u.records.bucket_bits) n;
         };
         past = omega arith;
         idle = record {
           entered = ap (λ (u : CoreView K V I). is_session (slots_of u) 0) n ∙ ap (λ t. is_session (slice_set (replicate 16 None) t (Some 1)) 0) (sym zero_slot);
-          settled = subst (λ (u : CoreView K V I). IsSettled u.records.regions) (sym n) (subst (λ t. IsSettled (entered (fresh_regions config.page_bits) t)) zero_slot (enter-settles config.page_bits));
+          settled = subst (λ (u : CoreView K V I). IsSettled u.records.log.regions) (sym n) (subst (λ t. IsSettled (entered (fresh_regions config.page_bits) t)) zero_slot (enter-settles config.page_bits));
           free = λ c. ap (λ (u : CoreView K V I). context_at u 0 c) n ∙ ap on_key (unopened (slice_set (replicate 16 None) s (Some 1)) 0 c);
           relocations = λ d. ap (λ (u : CoreView K V I). relocation_in u 0 d) n ∙ ap relocating (unopened (slice_set (replicate 16 None) s (Some 1)) 0 d);
         };

@@ -32,7 +32,7 @@ session-slot (Some (Some e)) h = (e, refl)
 module _ {K V : Type 0} (code : K → ℕ) where
   -- the records below Head are some of those of the class
   evicted-in : (r : RecordsView K V) (k : K) → evicted code r k ≤ records_of code r k
-  evicted-in r k = count-fewer (λ e. same_class (class_in code r e.key) (class_in code r k)) (is_evicted code r k) (λ e h. (and_parts (nat_lt e.address r.regions.offsets.head) (same_class (class_in code r e.key) (class_in code r k)) h).1) r.entries
+  evicted-in r k = count-fewer (λ e. same_class (class_in code r e.key) (class_in code r k)) (is_evicted code r k) (λ e h. (and_parts (nat_lt e.address r.log.regions.offsets.head) (same_class (class_in code r e.key) (class_in code r k)) h).1) r.log.text
 
   pub loads-in : {I : Type 0} (r : RecordsView K V) (op : KeyedOp K V I) → loads_of code r op ≤ records_of code r (key_of op)
   loads-in r op = cond-most (may_load op) (evicted code r (key_of op)) (records_of code r (key_of op)) (evicted-in r (key_of op))

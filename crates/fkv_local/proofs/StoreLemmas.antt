@@ -183,7 +183,7 @@ module _ {K V I W P S : Type 0} (view : S → PartitionView K V I) (writer : S �
   module _ (writes : W → ℕ) (reads : P → ℕ) where
     -- why an operation is refused
     pub home-refusal : {keeps merges : Bool} (code : K → ℕ) (op : KeyedOp K V I) (k : K) → home ≡ partition_of (length self.parts) (code k) → k ≡ key_of op
-        → (e : Refused) → IsRefusedBy keeps merges keeps_log writes reads op (view y).core.records.tail then (writer x) (reader x) (writer y) (reader y) e
+        → (e : Refused) → IsRefusedBy keeps merges keeps_log writes reads op (view y).core.records.log.tail then (writer x) (reader x) (writer y) (reader y) e
         → IsRefusal keeps merges code writes reads self (of_items view writer reader (slice_set items home y) config keeps_log then) op e
     home-refusal {keeps} {merges} code op k at key e h =
         let sized : length (map view (slice_set items home y)) ≡ length self.parts = view-length view (slice_set items home y) ∙ length-set items home y ∙ sym (view-length view items) ∙ ap length (parts-is is) in
@@ -198,7 +198,7 @@ module _ {K V I W P S : Type 0} (view : S → PartitionView K V I) (writer : S �
           ends = subst (λ p. HasEnds self p (writer x) (reader x)) (sym own) ends-were;
           ends_now = subst (λ p. HasEnds (of_items view writer reader (slice_set items home y) config keeps_log then) p (writer y) (reader y)) (sym own) ends-are;
           others = λ p apart. others-stay p (λ same. apart (same ∙ sym own));
-          refused = subst (λ (s : StoreView K V I W P). IsRefusedBy keeps merges s.keeps_log writes reads op (view y).core.records.tail then (writer x) (reader x) (writer y) (reader y) e) is h;
+          refused = subst (λ (s : StoreView K V I W P). IsRefusedBy keeps merges s.keeps_log writes reads op (view y).core.records.log.tail then (writer x) (reader x) (writer y) (reader y) e) is h;
         }
 
     -- how many pages it reads
@@ -220,7 +220,7 @@ module _ {K V I W P S : Type 0} (view : S → PartitionView K V I) (writer : S �
         own = ap (λ q. partition_of (length self.parts) (code q)) (sym key) ∙ sym at
 
     -- why a log is not compacted
-    pub home-uncompacted : {keeps : Bool} (e : Refused) → IsWorkRefusal keeps (view y).core.records.tail then (failures_of writes reads (writer x) (reader x)) (failures_of writes reads (writer y) (reader y)) e
+    pub home-uncompacted : {keeps : Bool} (e : Refused) → IsWorkRefusal keeps (view y).core.records.log.tail then (failures_of writes reads (writer x) (reader x)) (failures_of writes reads (writer y) (reader y)) e
         → IsUncompactedAt keeps writes reads self (of_items view writer reader (slice_set items home y) config keeps_log then) home e
     home-uncompacted e h = record {
       part = view y;
@@ -241,14 +241,14 @@ module _ {K V I W P S : Type 0} (view : S → PartitionView K V I) (writer : S �
     )
 
   -- what a compaction leaves there
-  begun : begin_at self home ≡ Some (view x).core.records.begin
-  begun = subst (λ (s : StoreView K V I W P). begin_at s home ≡ Some (view x).core.records.begin) is (ap (option_map (λ (v : PartitionView K V I). v.core.records.begin)) (view-get view items home x here))
+  begun : begin_at self home ≡ Some (view x).core.records.log.begin
+  begun = subst (λ (s : StoreView K V I W P). begin_at s home ≡ Some (view x).core.records.log.begin) is (ap (option_map (λ (v : PartitionView K V I). v.core.records.log.begin)) (view-get view items home x here))
 
-  begins : begin_at (of_items view writer reader (slice_set items home y) config keeps_log then) home ≡ Some (view y).core.records.begin
-  begins = ap (option_map (λ (v : PartitionView K V I). v.core.records.begin)) (view-get view (slice_set items home y) home y now-there)
+  begins : begin_at (of_items view writer reader (slice_set items home y) config keeps_log then) home ≡ Some (view y).core.records.log.begin
+  begins = ap (option_map (λ (v : PartitionView K V I). v.core.records.log.begin)) (view-get view (slice_set items home y) home y now-there)
 
   pub home-cut : WasCut (view x) (view y) true → IsCutAt self (of_items view writer reader (slice_set items home y) config keeps_log then) home
-  home-cut risen = record { begin = (view x).core.records.begin; begin_now = (view y).core.records.begin; was = begun; is = begins; risen = risen }
+  home-cut risen = record { begin = (view x).core.records.log.begin; begin_now = (view y).core.records.log.begin; was = begun; is = begins; risen = risen }
 
   pub home-uncut : WasCut (view x) (view y) false → begin_at (of_items view writer reader (slice_set items home y) config keeps_log then) home ≡ begin_at self home
   home-uncut same = begins ∙ ap Some same ∙ sym begun
@@ -275,7 +275,7 @@ module _ {K V I W P : Type 0} {v w : StoreView K V I W P} {home : ℕ} where
   begin-stays others same p = by (nat_lt p home) (nat_lt home p) refl refl
     where
       other : p ≢ home → begin_at w p ≡ begin_at v p
-      other apart = ap (option_map (λ (x : PartitionView K V I). x.core.records.begin)) (others p apart).part
+      other apart = ap (option_map (λ (x : PartitionView K V I). x.core.records.log.begin)) (others p apart).part
 
       by : (a b : Bool) → nat_lt p home ≡ a → nat_lt home p ≡ b → begin_at w p ≡ begin_at v p
       by true b q r = other (λ e. absurd (let l : p < home = grind (arith, nat_tests) in omega arith))
@@ -284,7 +284,7 @@ module _ {K V I W P : Type 0} {v w : StoreView K V I W P} {home : ℕ} where
 
   -- the log at a place is the first of which the start is cut there
   pub cut-here : {u : StoreView K V I W P} → StaysAt u v home → IsCutAt v w home → IsCutAt u w home
-  cut-here stays c = record { begin = c.begin; begin_now = c.begin_now; was = sym (ap (option_map (λ (x : PartitionView K V I). x.core.records.begin)) stays.part) ∙ c.was; is = c.is; risen = c.risen }
+  cut-here stays c = record { begin = c.begin; begin_now = c.begin_now; was = sym (ap (option_map (λ (x : PartitionView K V I). x.core.records.log.begin)) stays.part) ∙ c.was; is = c.is; risen = c.risen }
 
   pub cut-still : (u : StoreView K V I W P) (b : Bool) → AnyIsCut u v b → ((p : ℕ) → p ≢ home → StaysAt v w p) → begin_at w home ≡ begin_at v home → AnyIsCut u w b
   cut-still u true c others same = (c.0, record { begin = c.1.begin; begin_now = c.1.begin_now; was = c.1.was; is = begin-stays others same c.0 ∙ c.1.is; risen = c.1.risen })

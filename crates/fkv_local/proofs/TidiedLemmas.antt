@@ -52,7 +52,7 @@ module _ {K V I : Type 0} {keeps : Bool} {cmp : K → K → Ordering} where
         count = ap (λ (u : CoreView K V I). u.count) same;
         sessions = λ s. ap (λ (u : CoreView K V I). is_session (slots_of u) s) same;
         contexts = ap (λ (u : CoreView K V I). u.contexts) same;
-        begin = ap (λ (u : CoreView K V I). u.records.begin) same;
+        begin = ap (λ (u : CoreView K V I). u.records.log.begin) same;
         live = λ k q. ap (λ (u : CoreView K V I). live cmp u.records.text q) same;
       }
 
@@ -64,13 +64,13 @@ module _ {K V I : Type 0} {keeps : Bool} {cmp : K → K → Ordering} where
         count = ap (λ (u : CoreView K V I). u.count) is;
         sessions = λ s. ap (λ (u : CoreView K V I). is_session (slots_of u) s) is;
         contexts = ap (λ (u : CoreView K V I). u.contexts) is;
-        begin = ap (λ (u : CoreView K V I). u.records.begin) is;
+        begin = ap (λ (u : CoreView K V I). u.records.log.begin) is;
         live = λ k q. ap (λ (u : CoreView K V I). live cmp u.records.text q) is;
       }
 
 -- the start of a log was cut, from where it began before pages moved
-pub cut-since : {K V I : Type 0} (u v w : PartitionView K V I) (r : Result Bool Refused) → v.core.records.begin ≡ u.core.records.begin → IfOk r (WasCut v w) → IfOk r (WasCut u w)
-cut-since u v w (Ok true) same h = subst (λ n. n < w.core.records.begin) same h
+pub cut-since : {K V I : Type 0} (u v w : PartitionView K V I) (r : Result Bool Refused) → v.core.records.log.begin ≡ u.core.records.log.begin → IfOk r (WasCut v w) → IfOk r (WasCut u w)
+cut-since u v w (Ok true) same h = subst (λ n. n < w.core.records.log.begin) same h
 cut-since u v w (Ok false) same h = h ∙ same
 cut-since u v w (Err e) same h = tt
 

@@ -8,7 +8,7 @@ use Rattle.fkv_regions.specs.declared.offsets.View.{View}
 use Rattle.fkv_regions.specs.Offsets.{region_of}
 use Rattle.fkv_operations.specs.declared.operations.KeyedOp.{KeyedOp}
 use Rattle.fkv_operations.specs.declared.operations.KeyedOp.TheVariants.{Read, Upsert, Rmw, Delete, Merge}
-use Rattle.fkv_lookups.specs.RecordsViews.{IsFull}
+use Rattle.fkv_hybrid.specs.Views.{IsFull}
 use Rattle.fkv_lookups.specs.Decisions.{met_in, met_last, met_on, replaced, parted, merged, decision}
 use Rattle.fkv_lookups.specs.Meeting.{met_from}
 use Rattle.fkv_lookups.specs.declared.decisions.LookupResult.{LookupResult}
@@ -101,10 +101,10 @@ module _ {K V I O : Type 0} (f : Meanings K V I O) where
 module _ {K V I O : Type 0} (cmp : K → K → Ordering) (join : V → V → V) (f : Meanings K V I O) (code : K → ℕ) (v : CoreView K V I) (slot : ℕ) (same : (seen_at v slot).safe_read_only ≡ (seen_at v slot).read_only) where
   met-safe : (k : K) (o : Option ℕ) → IsSafe (met_from cmp join code v.records (seen_at v slot) k o)
   met-safe k None = tt
-  met-safe k (Some a) = on-chain join v.records.begin (seen_at v slot) same _ _
+  met-safe k (Some a) = on-chain join v.records.log.begin (seen_at v slot) same _ _
 
   -- it waits since there is no room
-  pub waits-full : (c : ℕ) (x : Context K V I) (why : Wait) → IsHeldUp cmp join f code v slot c x why → IsFull v.records
+  pub waits-full : (c : ℕ) (x : Context K V I) (why : Wait) → IsHeldUp cmp join f code v slot c x why → IsFull v.records.log
   waits-full c x why (IsHeldUp.fuzzy d) = absurd (never-waits f x.op _ (met-safe _ _) d.decided)
   waits-full c x why (IsHeldUp.full payload a d full) = full
   waits-full c x why (IsHeldUp.built kept ask value q w u full) = full

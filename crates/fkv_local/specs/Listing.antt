@@ -54,8 +54,8 @@ pub record IsUnlistedAt {K V I P : Type 0} (keeps : Bool) (reads : P → ℕ) (p
   pub now : slice_get readers_now place ≡ Some reader_now
   pub before : map reads (take place readers_now) ≡ map reads (take place readers)
   pub behind : drop (suc place) readers_now ≡ drop (suc place) readers
-  pub refused : IsScanRefusal keeps (page_at view.core.records.page_bits view.core.records.begin)
-      (length view.core.records.receipts) (reads reader) (reads reader_now) why
+  pub refused : IsScanRefusal keeps (page_at view.core.records.log.bits view.core.records.log.begin)
+      (length view.core.records.log.receipts) (reads reader) (reads reader_now) why
 
 -- why the live keys of a store are not listed: one of its partitions is not
 abbrev pub IsUnlisted : {K V I P : Type 0} → Bool → (P → ℕ) → List (PartitionView K V I) → List P → List P → Refused → Type 0

@@ -19,32 +19,32 @@ pub record IsTidied {K V I : Type 0} (keeps : Bool) (cmp : K → K → Ordering)
   pub count : new.core.count ≡ old.core.count
   pub sessions : (s : ℕ) → is_session (slots_of new.core) s ≡ is_session (slots_of old.core) s
   pub contexts : new.core.contexts ≡ old.core.contexts
-  pub begin : new.core.records.begin ≡ old.core.records.begin
+  pub begin : new.core.records.log.begin ≡ old.core.records.log.begin
   pub live : IsTrue keeps → Same (live_of cmp new.core) (live_of cmp old.core)
 
 -- a session that was the only one and had seen all, is and has
 abbrev pub StaysSettled : {K V I : Type 0} → PartitionView K V I → PartitionView K V I → Type 0
-StaysSettled old new = IsSettled old.core.records.regions → IsSettled new.core.records.regions
+StaysSettled old new = IsSettled old.core.records.log.regions → IsSettled new.core.records.log.regions
 
 -- pages have the size that they had, and neither Head nor what is cleared has fallen
 pub record IsOnward {K V I : Type 0} (old new : PartitionView K V I) : Type 0 where
-  pub bits : new.core.records.regions.bits ≡ old.core.records.regions.bits
-  pub head : old.core.records.regions.offsets.head ≤ new.core.records.regions.offsets.head
+  pub bits : new.core.records.log.regions.bits ≡ old.core.records.log.regions.bits
+  pub head : old.core.records.log.regions.offsets.head ≤ new.core.records.log.regions.offsets.head
   pub cleared : old.cleared ≤ new.cleared
 
 -- the log has the size, the tail and the frames that it had, its index the same buckets, and, on a device that keeps, the log the
 -- same records
 pub record IsSameLog {K V I : Type 0} (keeps : Bool) (old new : PartitionView K V I) : Type 0 where
-  pub page_bits : new.core.records.page_bits ≡ old.core.records.page_bits
-  pub tail : new.core.records.tail ≡ old.core.records.tail
-  pub frames : new.core.records.frames ≡ old.core.records.frames
+  pub page_bits : new.core.records.log.bits ≡ old.core.records.log.bits
+  pub tail : new.core.records.log.tail ≡ old.core.records.log.tail
+  pub frames : new.core.records.log.frames ≡ old.core.records.log.frames
   pub partition_bits : new.core.records.partition_bits ≡ old.core.records.partition_bits
   pub bucket_bits : new.core.records.bucket_bits ≡ old.core.records.bucket_bits
-  pub entries : IsTrue keeps → new.core.records.entries ≡ old.core.records.entries
+  pub entries : IsTrue keeps → new.core.records.log.text ≡ old.core.records.log.text
 
 -- each page below that of SafeReadOnly is written
 abbrev pub IsWritten : {K V I : Type 0} → PartitionView K V I → Type 0
-IsWritten v = page_at v.core.records.regions.bits v.core.records.regions.offsets.safe_read_only ≤ v.core.records.regions.flushed
+IsWritten v = page_at v.core.records.log.regions.bits v.core.records.log.regions.offsets.safe_read_only ≤ v.core.records.log.regions.flushed
 
 -- the partition's last moment is past, and the clock has not gone back
 pub record IsPassed (last clock clock_now : ℕ) : Type 0 where

@@ -10,7 +10,7 @@ use Rattle.fkv_local.specs.Refusing.{home_of}
 
 -- how many records of a key's class are in a log: those of keys that share its bucket and its tag
 abbrev pub records_of : {K V : Type 0} → (K → ℕ) → RecordsView K V → K → ℕ
-records_of code r k = length (filter (λ e. same_class (class_in code r e.key) (class_in code r k)) r.entries)
+records_of code r k = length (filter (λ e. same_class (class_in code r e.key) (class_in code r k)) r.log.text)
 
 -- HOW MANY PAGES AN OPERATION READS: at most two for each record of its key's class in the log of its partition, since one that finds
 -- no room begins anew after pages moved on; and none of another partition

@@ -11,7 +11,7 @@ use Rattle.fkv_partition.specs.Views.{PartitionView, relocation_at}
 -- a session with nothing open, neither an operation on a key nor a relocation; it is the only one, and has seen all
 pub record IsIdle {K V I : Type 0} (v : PartitionView K V I) (slot : ℕ) : Type 0 where
   pub entered : IsEntered v.core slot
-  pub settled : IsSettled v.core.records.regions
+  pub settled : IsSettled v.core.records.log.regions
   pub free : (c : ℕ) → context_at v.core slot c ≡ None
   pub relocations : (d : ℕ) → relocation_at v slot d ≡ None
 
@@ -26,7 +26,7 @@ pub record StaysIdle {K V I : Type 0} (keeps : Bool) (cmp : K → K → Ordering
 -- a session with nothing open but what may stand in one context, and that is no operation on a key
 pub record IsIdleBut {K V I : Type 0} (v : PartitionView K V I) (slot c : ℕ) : Type 0 where
   pub entered : IsEntered v.core slot
-  pub settled : IsSettled v.core.records.regions
+  pub settled : IsSettled v.core.records.log.regions
   pub free : (d : ℕ) → context_at v.core slot d ≡ None
   pub relocations : (d : ℕ) → d ≢ c → relocation_at v slot d ≡ None
 
@@ -39,8 +39,8 @@ pub record StaysIdleBut {K V I : Type 0} (keeps : Bool) (cmp : K → K → Order
 
 -- a partition has the pages, the frames and the buckets of a configuration
 pub record IsMadeBy {K V I : Type 0} (config : Config) (v : PartitionView K V I) : Type 0 where
-  pub page_bits : v.core.records.page_bits ≡ config.page_bits
-  pub frames : v.core.records.frames ≡ config.frames
+  pub page_bits : v.core.records.log.bits ≡ config.page_bits
+  pub frames : v.core.records.log.frames ≡ config.frames
   pub bucket_bits : v.core.records.bucket_bits ≡ config.bucket_bits
 
 -- a partition of this number with nothing in it but a session, of slot 0

@@ -60,10 +60,10 @@ Updates keeps cmp f old new k i result = Runs keeps cmp f old new (Rmw k i) resu
 
 -- the bytes of a log from its beginning to its tail, and those of them that are below Head
 abbrev pub log_bytes : {K V I : Type 0} → PartitionView K V I → ℕ
-log_bytes v = v.core.records.tail - v.core.records.begin
+log_bytes v = v.core.records.log.tail - v.core.records.log.begin
 
 abbrev pub evicted_bytes : {K V I : Type 0} → PartitionView K V I → ℕ
-evicted_bytes v = v.core.records.regions.offsets.head - v.core.records.begin
+evicted_bytes v = v.core.records.log.regions.offsets.head - v.core.records.log.begin
 
 -- Why a store is not opened, by the count of the device's failures: the configuration is outside its limits, which asks nothing
 -- of the device; there is no memory; or the device does not open the pages of a partition.

@@ -159,7 +159,7 @@ fn event<F: Mergeable, D: Disk>(
 ) -> Result<ProgressOf<F, D::Receipt>, Refused>
     requires only { IsIdleBut shard.old.part.partition 0 context }
     requires wanted { IsWanted shard.old.part.partition context (option_map D.Receipt.stands wanted.now.receipt) }
-    requires kept { IsKeptBy D.Receipt.stands shard.old.part.partition.core.records.receipts
+    requires kept { IsKeptBy D.Receipt.stands shard.old.part.partition.core.records.log.receipts
         kept.old.is_sure kept.old.page }
     requires past { shard.old.part.partition.core.moment ≤ clock.old }
     requires numbered { D.Writer.next shard.old.part.writer ≤ clock.old }
@@ -172,13 +172,13 @@ fn event<F: Mergeable, D: Disk>(
         (IsCausedBy (CanFailToWrite D.Writer.next D.Writer.can_fail) (CanFailToRead D.Receipt.stands D.Reader.can_fail)) }
     ensures spare { clock.new + 1 < 2 ^ 64 }
     ensures wants { IfOk result (λ progress. WantsThen D.Receipt.stands shard.new.part.partition context progress) }
-    ensures kept { OnOk result (IsKeptBy D.Receipt.stands shard.new.part.partition.core.records.receipts
+    ensures kept { OnOk result (IsKeptBy D.Receipt.stands shard.new.part.partition.core.records.log.receipts
         kept.new.is_sure kept.new.page) }
     ensures same_writer { shard.new.part.writer ≡ shard.old.part.writer }
     ensures steady { OnOk result (D.Reader.failures shard.new.reader ≡ D.Reader.failures shard.old.reader) }
-    ensures same_begin { shard.new.part.partition.core.records.begin ≡ shard.old.part.partition.core.records.begin }
+    ensures same_begin { shard.new.part.partition.core.records.log.begin ≡ shard.old.part.partition.core.records.log.begin }
     ensures told { IfErr result (IsWorkRefusal D.Receipt.keeps
-        shard.new.part.partition.core.records.tail clock.new
+        shard.new.part.partition.core.records.log.tail clock.new
         (failures_of D.Writer.failures D.Reader.failures shard.old.part.writer shard.old.reader)
         (failures_of D.Writer.failures D.Reader.failures shard.new.part.writer shard.new.reader)) }
 {
@@ -213,7 +213,7 @@ fn go_on<F: Mergeable, D: Disk>(
 ) -> Result<Relocated, Refused>
     requires only { IsIdleBut shard.old.part.partition 0 context }
     requires fresh { IsWanted shard.old.part.partition context None }
-    requires kept { IsKeptBy D.Receipt.stands shard.old.part.partition.core.records.receipts
+    requires kept { IsKeptBy D.Receipt.stands shard.old.part.partition.core.records.log.receipts
         kept.old.is_sure kept.old.page }
     requires past { shard.old.part.partition.core.moment ≤ clock.old }
     requires numbered { D.Writer.next shard.old.part.writer ≤ clock.old }
@@ -225,13 +225,13 @@ fn go_on<F: Mergeable, D: Disk>(
     ensures caused { IsTrue D.Receipt.keeps → IfErr result
         (IsCausedBy (CanFailToWrite D.Writer.next D.Writer.can_fail) (CanFailToRead D.Receipt.stands D.Reader.can_fail)) }
     ensures spare { clock.new + 1 < 2 ^ 64 }
-    ensures kept { OnOk result (IsKeptBy D.Receipt.stands shard.new.part.partition.core.records.receipts
+    ensures kept { OnOk result (IsKeptBy D.Receipt.stands shard.new.part.partition.core.records.log.receipts
         kept.new.is_sure kept.new.page) }
     ensures same_writer { shard.new.part.writer ≡ shard.old.part.writer }
     ensures steady { OnOk result (D.Reader.failures shard.new.reader ≡ D.Reader.failures shard.old.reader) }
-    ensures same_begin { shard.new.part.partition.core.records.begin ≡ shard.old.part.partition.core.records.begin }
+    ensures same_begin { shard.new.part.partition.core.records.log.begin ≡ shard.old.part.partition.core.records.log.begin }
     ensures told { IfErr result (IsWorkRefusal D.Receipt.keeps
-        shard.new.part.partition.core.records.tail clock.new
+        shard.new.part.partition.core.records.log.tail clock.new
         (failures_of D.Writer.failures D.Reader.failures shard.old.part.writer shard.old.reader)
         (failures_of D.Writer.failures D.Reader.failures shard.new.part.writer shard.new.reader)) }
 {
@@ -279,7 +279,7 @@ fn relocate<F: Mergeable, D: Disk>(
     clock: &mut Clock,
 ) -> Result<Relocated, Refused>
     requires idle { IsIdle shard.old.part.partition 0 }
-    requires kept { IsKeptBy D.Receipt.stands shard.old.part.partition.core.records.receipts
+    requires kept { IsKeptBy D.Receipt.stands shard.old.part.partition.core.records.log.receipts
         kept.old.is_sure kept.old.page }
     requires past { shard.old.part.partition.core.moment ≤ clock.old }
     requires numbered { D.Writer.next shard.old.part.writer ≤ clock.old }
@@ -290,13 +290,13 @@ fn relocate<F: Mergeable, D: Disk>(
     ensures numbered { D.Writer.next shard.new.part.writer ≤ clock.new }
     ensures caused { IsTrue D.Receipt.keeps → IfErr result
         (IsCausedBy (CanFailToWrite D.Writer.next D.Writer.can_fail) (CanFailToRead D.Receipt.stands D.Reader.can_fail)) }
-    ensures kept { OnOk result (IsKeptBy D.Receipt.stands shard.new.part.partition.core.records.receipts
+    ensures kept { OnOk result (IsKeptBy D.Receipt.stands shard.new.part.partition.core.records.log.receipts
         kept.new.is_sure kept.new.page) }
     ensures same_writer { shard.new.part.writer ≡ shard.old.part.writer }
     ensures steady { OnOk result (D.Reader.failures shard.new.reader ≡ D.Reader.failures shard.old.reader) }
-    ensures same_begin { shard.new.part.partition.core.records.begin ≡ shard.old.part.partition.core.records.begin }
+    ensures same_begin { shard.new.part.partition.core.records.log.begin ≡ shard.old.part.partition.core.records.log.begin }
     ensures told { IfErr result (IsWorkRefusal D.Receipt.keeps
-        shard.new.part.partition.core.records.tail clock.new
+        shard.new.part.partition.core.records.log.tail clock.new
         (failures_of D.Writer.failures D.Reader.failures shard.old.part.writer shard.old.reader)
         (failures_of D.Writer.failures D.Reader.failures shard.new.part.writer shard.new.reader)) }
 {
@@ -375,9 +375,9 @@ fn clear<F: Mergeable, D: Disk>(
         (IsCausedBy (CanFailToWrite D.Writer.next D.Writer.can_fail) (CanFailToRead D.Receipt.stands D.Reader.can_fail)) }
     ensures steady { OnOk result (failures_of D.Writer.failures D.Reader.failures shard.new.part.writer shard.new.reader
         ≡ failures_of D.Writer.failures D.Reader.failures shard.old.part.writer shard.old.reader) }
-    ensures same_begin { shard.new.part.partition.core.records.begin ≡ shard.old.part.partition.core.records.begin }
+    ensures same_begin { shard.new.part.partition.core.records.log.begin ≡ shard.old.part.partition.core.records.log.begin }
     ensures told { IfErr result (IsWorkRefusal D.Receipt.keeps
-        shard.new.part.partition.core.records.tail clock.new
+        shard.new.part.partition.core.records.log.tail clock.new
         (failures_of D.Writer.failures D.Reader.failures shard.old.part.writer shard.old.reader)
         (failures_of D.Writer.failures D.Reader.failures shard.new.part.writer shard.new.reader)) }
 {
@@ -422,7 +422,7 @@ fn cut<F: Mergeable, R: Receipt>(
     requires past { partition.old.core.moment ≤ clock.old }
     ensures stays { StaysIdle R.keeps F.Key.cmp partition.old partition.new }
     ensures onward { IsOnward partition.old partition.new }
-    ensures same_tail { partition.new.core.records.tail ≡ partition.old.core.records.tail }
+    ensures same_tail { partition.new.core.records.log.tail ≡ partition.old.core.records.log.tail }
     ensures cut { IfOk result (WasCut partition.old partition.new) }
     ensures whole { OnOk result (IsAllCut partition.new) }
     ensures passed { IsPassed partition.new.core.moment clock.old clock.new }
@@ -464,7 +464,7 @@ pub fn compact<F: Mergeable, D: Disk>(
     ensures steady { OnOk result (failures_of D.Writer.failures D.Reader.failures shard.new.part.writer shard.new.reader
         ≡ failures_of D.Writer.failures D.Reader.failures shard.old.part.writer shard.old.reader) }
     ensures told { IfErr result (IsWorkRefusal D.Receipt.keeps
-        shard.new.part.partition.core.records.tail clock.new
+        shard.new.part.partition.core.records.log.tail clock.new
         (failures_of D.Writer.failures D.Reader.failures shard.old.part.writer shard.old.reader)
         (failures_of D.Writer.failures D.Reader.failures shard.new.part.writer shard.new.reader)) }
 {

@@ -3,7 +3,7 @@ ghost use Rattle.std.specs.Prelude.{◌≡◌, ◌≢◌, ◌<◌, ◌≤◌, �
 ghost use Rattle.fkv_operations.specs.After.{key_of};
 ghost use Rattle.fkv_operations.specs.declared.operations.KeyedOp.TheVariants.{Read, Rmw};
 ghost use Rattle.fkv_operations.specs.declared.operations.Answer.TheVariants.{Value};
-ghost use Rattle.fkv_lookups.specs.RecordsViews.{IsFull};
+ghost use Rattle.fkv_hybrid.specs.Views.{IsFull};
 ghost use Rattle.fkv_partition.specs.CoreViews.{partition_of};
 ghost use Rattle.fkv_partition.specs.Events.{IsPassedOn};
 ghost use Rattle.fkv_alone.specs.Ending.{Ends};
@@ -88,7 +88,7 @@ fn try_by_events<F: Mergeable, D: Disk, P: PageReader<Receipt = D::Receipt>>(
         Runs D.Receipt.keeps F.Key.cmp F.meaning part.old.partition part.new.partition op (Ok answer))) }
     ensures stays { IfOk result (λ told. told ≡ None
         → StaysIdle D.Receipt.keeps F.Key.cmp part.old.partition part.new.partition) }
-    ensures full { IfOk result (λ told. told ≡ None → IsFull part.old.partition.core.records) }
+    ensures full { IfOk result (λ told. told ≡ None → IsFull part.old.partition.core.records.log) }
     ensures same_log { IfOk result (λ told. told ≡ None → IsSameLog D.Receipt.keeps part.old.partition part.new.partition) }
     ensures loads { IsTrue D.Receipt.keeps → P.reads reader.new
         ≤ P.reads reader.old + records_of F.code part.old.partition.core.records (key_of op) }
@@ -101,7 +101,7 @@ fn try_by_events<F: Mergeable, D: Disk, P: PageReader<Receipt = D::Receipt>>(
     ensures unread { may_load op ≡ false → reader.new ≡ reader.old }
     ensures same_writer { part.new.writer ≡ part.old.writer }
     ensures told { IfErr result (IsStopped D.Receipt.keeps F.MERGES
-        op part.new.partition.core.records.tail clock.new
+        op part.new.partition.core.records.log.tail clock.new
         (failures_of D.Writer.failures P.failures part.old.writer reader.old)
         (failures_of D.Writer.failures P.failures part.new.writer reader.new)) }
 {
@@ -145,7 +145,7 @@ pub fn run_by_events<F: Mergeable, D: Disk, P: PageReader<Receipt = D::Receipt>>
         (IsCausedBy (CanFailToWrite D.Writer.next D.Writer.can_fail) (CanFailToRead D.Receipt.stands P.can_fail)) }
     ensures unread { may_load op ≡ false → reader.new ≡ reader.old }
     ensures told { IfErr result (IsStopped D.Receipt.keeps F.MERGES
-        op part.new.partition.core.records.tail clock.new
+        op part.new.partition.core.records.log.tail clock.new
         (failures_of D.Writer.failures P.failures part.old.writer reader.old)
         (failures_of D.Writer.failures P.failures part.new.writer reader.new)) }
 {
@@ -298,7 +298,7 @@ pub fn operate<F: Mergeable, D: Disk>(
     ensures caused { IsTrue D.Receipt.keeps → IfErr result
         (IsCausedBy (CanFailToWrite D.Writer.next D.Writer.can_fail) (CanFailToRead D.Receipt.stands D.Reader.can_fail)) }
     ensures told { IfErr result (IsRefusedBy D.Receipt.keeps F.MERGES terms.now.keeps_log
-        D.Writer.failures D.Reader.failures op shard.new.part.partition.core.records.tail clock.new
+        D.Writer.failures D.Reader.failures op shard.new.part.partition.core.records.log.tail clock.new
         shard.old.part.writer shard.old.reader shard.new.part.writer shard.new.reader) }
 {
     match op {
@@ -331,7 +331,7 @@ fn operate_by_events<F: Mergeable, D: Disk>(
     ensures caused { IsTrue D.Receipt.keeps → IfErr result
         (IsCausedBy (CanFailToWrite D.Writer.next D.Writer.can_fail) (CanFailToRead D.Receipt.stands D.Reader.can_fail)) }
     ensures told { IfErr result (IsRefusedBy D.Receipt.keeps F.MERGES terms.now.keeps_log
-        D.Writer.failures D.Reader.failures op shard.new.part.partition.core.records.tail clock.new
+        D.Writer.failures D.Reader.failures op shard.new.part.partition.core.records.log.tail clock.new
         shard.old.part.writer shard.old.reader shard.new.part.writer shard.new.reader) }
 {
     let tidied = tidy_at_times(terms, shard, clock);
@@ -365,7 +365,7 @@ pub fn read<F: Mergeable, D: Disk>(
     ensures caused { IsTrue D.Receipt.keeps → IfErr result
         (IsCausedBy (CanFailToWrite D.Writer.next D.Writer.can_fail) (CanFailToRead D.Receipt.stands D.Reader.can_fail)) }
     ensures told { IfErr result (IsRefusedBy {V = F.Value} D.Receipt.keeps F.MERGES terms.now.keeps_log
-        D.Writer.failures D.Reader.failures (Read key.now input.now) shard.new.part.partition.core.records.tail clock.new
+        D.Writer.failures D.Reader.failures (Read key.now input.now) shard.new.part.partition.core.records.log.tail clock.new
         shard.old.part.writer shard.old.reader shard.new.part.writer shard.new.reader) }
 {
     match tidy_at_times(terms, shard, clock) {
@@ -409,7 +409,7 @@ pub fn update<F: Mergeable, D: Disk>(
     ensures caused { IsTrue D.Receipt.keeps → IfErr result
         (IsCausedBy (CanFailToWrite D.Writer.next D.Writer.can_fail) (CanFailToRead D.Receipt.stands D.Reader.can_fail)) }
     ensures told { IfErr result (IsRefusedBy {V = F.Value} D.Receipt.keeps F.MERGES terms.now.keeps_log
-        D.Writer.failures D.Reader.failures (Rmw key.now input.now) shard.new.part.partition.core.records.tail clock.new
+        D.Writer.failures D.Reader.failures (Rmw key.now input.now) shard.new.part.partition.core.records.log.tail clock.new
         shard.old.part.writer shard.old.reader shard.new.part.writer shard.new.reader) }
 {
     match tidy_at_times(terms, shard, clock) {

@@ -43,7 +43,7 @@ fn run_in_memory<F: Mergeable, D: Disk>(
     ensures caused { IsTrue D.Receipt.keeps → IfErr result
         (IsCausedBy (CanFailToWrite D.Writer.next D.Writer.can_fail) (CanFailToRead D.Receipt.stands D.Reader.can_fail)) }
     ensures told { IfErr result (λ e. (reads : ℕ) → IsStopped D.Receipt.keeps F.MERGES
-        op part.new.partition.core.records.tail clock.new
+        op part.new.partition.core.records.log.tail clock.new
         (record { writes = D.Writer.failures part.old.writer; reads = reads })
         (record { writes = D.Writer.failures part.new.writer; reads = reads }) e) }
 {
@@ -82,7 +82,7 @@ fn merge_for_page<F: Mergeable, D: Disk>(
     ensures caused { IsTrue D.Receipt.keeps → IfErr result
         (IsCausedBy (CanFailToWrite D.Writer.next D.Writer.can_fail) (CanFailToRead D.Receipt.stands D.Reader.can_fail)) }
     ensures told { IfErr result (λ e. (reads : ℕ) → IsStopped {V = F.Value} D.Receipt.keeps F.MERGES
-        (Rmw key.now input.now) part.new.partition.core.records.tail clock.new
+        (Rmw key.now input.now) part.new.partition.core.records.log.tail clock.new
         (record { writes = D.Writer.failures part.old.writer; reads = reads })
         (record { writes = D.Writer.failures part.new.writer; reads = reads }) e) }
 {
@@ -123,7 +123,7 @@ pub fn update_or_merge<F: Mergeable, D: Disk>(
     ensures caused { IsTrue D.Receipt.keeps → IfErr result
         (IsCausedBy (CanFailToWrite D.Writer.next D.Writer.can_fail) (CanFailToRead D.Receipt.stands D.Reader.can_fail)) }
     ensures told { IfErr result (IsRefusedBy {V = F.Value} D.Receipt.keeps F.MERGES terms.now.keeps_log
-        D.Writer.failures D.Reader.failures (Rmw key.now input.now) shard.new.part.partition.core.records.tail clock.new
+        D.Writer.failures D.Reader.failures (Rmw key.now input.now) shard.new.part.partition.core.records.log.tail clock.new
         shard.old.part.writer shard.old.reader shard.new.part.writer shard.new.reader) }
     ensures unread { IsTrue F.MERGES → IsTrue terms.now.keeps_log → shard.new.reader ≡ shard.old.reader }
 {

@@ -7,7 +7,7 @@ ghost use Rattle.std.specs.Prelude.{◌≡◌, ◌<◌, ◌≤◌, ◌+◌, ◌^
 ghost use Rattle.fkv_records.specs.Places.{page_at, start_at};
 ghost use Rattle.fkv_regions.specs.Settled.{IsSettled};
 ghost use Rattle.fkv_regions.specs.RegionsView.{refreshed};
-ghost use Rattle.fkv_lookups.specs.RecordsViews.{IsFull};
+ghost use Rattle.fkv_hybrid.specs.Views.{IsFull};
 ghost use Rattle.fkv_partition.specs.CoreBeginning.{IsEntered};
 ghost use Rattle.fkv_alone.specs.Causes.{CanFailToRead, CanFailToWrite};
 ghost use Rattle.fkv_local.specs.Causing.{IsCausedBy};
@@ -27,7 +27,7 @@ fn refresh<F: Mergeable, R: Receipt>(partition: &mut Partition<F, R>, now: u64)
     requires later { partition.old.core.moment < now }
     ensures tidied { IsTidied R.keeps F.Key.cmp partition.old partition.new }
     ensures onward { IsOnward partition.old partition.new }
-    ensures refreshed { partition.new.core.records.regions ≡ refreshed partition.old.core.records.regions 0 }
+    ensures refreshed { partition.new.core.records.log.regions ≡ refreshed partition.old.core.records.log.regions 0 }
     ensures same_log { IsSameLog R.keeps partition.old partition.new }
     ensures moment { partition.new.core.moment ≤ now }
 {
@@ -46,10 +46,10 @@ fn freeze<F: Mergeable, R: Receipt>(
     ensures tidied { IsTidied R.keeps F.Key.cmp partition.old partition.new }
     ensures onward { IsOnward partition.old partition.new }
     ensures settled { StaysSettled partition.old partition.new }
-    ensures frozen { OnOk result (IsSettled partition.old.core.records.regions
-        → page ≤ page_at partition.old.core.records.regions.bits partition.old.core.records.tail
-        → start_at partition.old.core.records.regions.bits page
-        ≤ partition.new.core.records.regions.offsets.read_only) }
+    ensures frozen { OnOk result (IsSettled partition.old.core.records.log.regions
+        → page ≤ page_at partition.old.core.records.log.regions.bits partition.old.core.records.log.tail
+        → start_at partition.old.core.records.log.regions.bits page
+        ≤ partition.new.core.records.log.regions.offsets.read_only) }
     ensures same_log { IsSameLog R.keeps partition.old partition.new }
     ensures passed { IsPassed partition.new.core.moment clock.old clock.new }
     ensures told { IfErr result (λ e. (e ≡ Refused.Worn) × (2 ^ 64 ≤ clock.new + 2)) }
@@ -75,10 +75,10 @@ fn evict<F: Mergeable, R: Receipt>(
     ensures tidied { IsTidied R.keeps F.Key.cmp partition.old partition.new }
     ensures onward { IsOnward partition.old partition.new }
     ensures settled { StaysSettled partition.old partition.new }
-    ensures evicted { OnOk result (IsSettled partition.old.core.records.regions
-        → page ≤ partition.old.core.records.regions.flushed
-        → start_at partition.old.core.records.regions.bits page
-        ≤ partition.new.core.records.regions.offsets.head) }
+    ensures evicted { OnOk result (IsSettled partition.old.core.records.log.regions
+        → page ≤ partition.old.core.records.log.regions.flushed
+        → start_at partition.old.core.records.log.regions.bits page
+        ≤ partition.new.core.records.log.regions.offsets.head) }
     ensures same_log { IsSameLog R.keeps partition.old partition.new }
     ensures passed { IsPassed partition.new.core.moment clock.old clock.new }
     ensures told { IfErr result (λ e. (e ≡ Refused.Worn) × (2 ^ 64 ≤ clock.new + 2)) }
@@ -110,7 +110,7 @@ fn flush<F: Mergeable, D: Disk>(
     ensures caused { IsTrue D.Receipt.keeps → IfErr result
         (IsCausedBy (CanFailToWrite D.Writer.next D.Writer.can_fail) (CanFailToRead D.Receipt.stands D.Reader.can_fail)) }
     ensures same_log { IsSameLog D.Receipt.keeps part.old.partition part.new.partition }
-    ensures same_offsets { part.new.partition.core.records.regions.offsets ≡ part.old.partition.core.records.regions.offsets }
+    ensures same_offsets { part.new.partition.core.records.log.regions.offsets ≡ part.old.partition.core.records.log.regions.offsets }
     ensures later { OnOk result (clock.old < clock.new) }
     ensures written { IfOk result (λ did. did ≡ false → IsWritten part.new.partition) }
     ensures steady { OnOk result (D.Writer.failures part.new.writer ≡ D.Writer.failures part.old.writer) }
@@ -157,7 +157,7 @@ fn flush_all<F: Mergeable, D: Disk>(
     ensures onward { IsOnward part.old.partition part.new.partition }
     ensures settled { StaysSettled part.old.partition part.new.partition }
     ensures same_log { IsSameLog D.Receipt.keeps part.old.partition part.new.partition }
-    ensures same_offsets { part.new.partition.core.records.regions.offsets ≡ part.old.partition.core.records.regions.offsets }
+    ensures same_offsets { part.new.partition.core.records.log.regions.offsets ≡ part.old.partition.core.records.log.regions.offsets }
     ensures written { OnOk result (IsWritten part.new.partition) }
     ensures passed { IsPassed part.new.partition.core.moment clock.old clock.new }
     ensures numbered { D.Writer.next part.new.writer ≤ clock.new }
@@ -180,7 +180,7 @@ fn flush_all<F: Mergeable, D: Disk>(
 
 /// The page of an address of a partition's log.
 pub fn page_of<F: Mergeable, R: Receipt>(partition: &Partition<F, R>, address: Address) -> u64
-    ensures value { result ≡ page_at partition.now.core.records.page_bits address }
+    ensures value { result ≡ page_at partition.now.core.records.log.bits address }
 {
     // which says that a page has bytes
     partition.known();
@@ -202,8 +202,8 @@ pub fn tidy<F: Mergeable, D: Disk>(
     ensures tidied { IsTidied D.Receipt.keeps F.Key.cmp part.old.partition part.new.partition }
     ensures onward { IsOnward part.old.partition part.new.partition }
     ensures settled { StaysSettled part.old.partition part.new.partition }
-    ensures roomy { OnOk result (IsSettled part.old.partition.core.records.regions
-        → IsFull part.new.partition.core.records → ⊥) }
+    ensures roomy { OnOk result (IsSettled part.old.partition.core.records.log.regions
+        → IsFull part.new.partition.core.records.log → ⊥) }
     ensures same_log { IsSameLog D.Receipt.keeps part.old.partition part.new.partition }
     ensures passed { IsPassed part.new.partition.core.moment clock.old clock.new }
     ensures numbered { D.Writer.next part.new.writer ≤ clock.new }

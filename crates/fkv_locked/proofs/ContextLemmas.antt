@@ -52,4 +52,4 @@ module _ {K V I : Type 0} (cmp : K → K → Ordering) (v : CoreView K V I) (slo
   was-pending l a =
       ap (pending_of cmp v.records) h
       ∙ ap (λ (p : Phase V). pending_of cmp v.records (Some (at_phase x p))) a.loading
-      ∙ rw (eq-eqb l.begin v.records.begin a.begin) refl
+      ∙ rw (eq-eqb l.begin v.records.log.begin a.begin) refl

@@ -75,7 +75,7 @@ module _ {K V I O R : Type 0} (stands : R → Standing) (entry : ℕ → List �
       let new-is : pending cmp new slot c ≡ Some (record { moment = l.looked; value = value_of (newest cmp old.records.text (key_of x.op) (address_of l.kept.word)) }) =
       ap (λ (v : CoreView K V I). pending cmp v slot c) n
       ∙ (same-pend cmp old slot c now x w.awaits.here (Some (at_phase x (Load (record l { wanted = b; parts = parts }))))
-      ∙ rw (eq-eqb l.begin old.records.begin w.awaits.begin) refl) in
+      ∙ rw (eq-eqb l.begin old.records.log.begin w.awaits.begin) refl) in
       let both : Some (record { moment = l.looked; value = value_of (newest cmp old.records.text (key_of x.op) (address_of l.kept.word)) }) ≡ Some is.found = sym new-is ∙ is.is in
       let looked : l.looked ≡ is.found.moment = cc in
       record { found = _; is = was-pending cmp old slot c now x w.awaits.here l w.awaits; at = looked ∙ is.at }

@@ -10,21 +10,21 @@ use fkv_records::Address;
 impl<F: Mergeable, R: Receipt, H: Recorder<F>> Locked<F, R, H> {
     /// The address of the next record, or 2^48 where there can't be one.
     pub fn tail(&self) -> Address
-        ensures { result ≡ self.now.partition.core.records.tail }
+        ensures { result ≡ self.now.partition.core.records.log.tail }
     {
         self.partition.tail()
     }
 
     /// Head: records below it are read from the device by sessions that are refreshed from now on.
     pub fn head(&self) -> Address
-        ensures { result ≡ self.now.partition.core.records.regions.offsets.head }
+        ensures { result ≡ self.now.partition.core.records.log.regions.offsets.head }
     {
         self.partition.head()
     }
 
     /// The lowest page that is not flushed.
     pub fn unflushed(&self) -> u64
-        ensures { result ≡ length self.now.partition.core.records.receipts }
+        ensures { result ≡ length self.now.partition.core.records.log.receipts }
     {
         self.partition.unflushed()
     }
@@ -38,7 +38,7 @@ impl<F: Mergeable, R: Receipt, H: Recorder<F>> Locked<F, R, H> {
 
     /// The bytes of a page.
     pub fn page_size(&self) -> usize
-        ensures { result ≡ 2 ^ self.now.partition.core.records.page_bits }
+        ensures { result ≡ 2 ^ self.now.partition.core.records.log.bits }
     {
         self.partition.page_size()
     }

@@ -49,30 +49,30 @@ tail-most bits size begin tail (e ∷ es) le h = tail-most bits size (tail_after
 
 module _ {K V : Type 0} {keeps : Bool} {code : K → ℕ} (v : RecordsView K V) (t : IsTraced keeps code v) where
   -- where the text begins is a place, no higher than 2^48
-  first-low : v.from ≤ 2 ^ 48
+  first-low : v.log.from ≤ 2 ^ 48
   first-low =
       let o = t.regions.agree.in_order in
-      rw t.begins (begins_low keeps v.begin v.regions.offsets.closed (2 ^ 48) (omega (arith, t.regions.headed, o.head, o.safe, o.most)) (omega (arith, o.closed, o.head, o.safe, o.most)))
+      rw t.begins (begins_low keeps v.log.begin v.log.regions.offsets.closed (2 ^ 48) (omega (arith, t.regions.headed, o.head, o.safe, o.most)) (omega (arith, o.closed, o.head, o.safe, o.most)))
 
-  first-place : v.from < 2 ^ 48 → IsRecordStart v.page_bits v.record_size v.from
+  first-place : v.log.from < 2 ^ 48 → IsRecordStart v.log.bits v.record_size v.log.from
   first-place =
       let o = t.regions.agree.in_order in
-      let marked = subst (λ bits. IsMark bits v.regions.offsets.closed) t.regions.bits o.closed_mark in
-      rw t.begins (begin_place v.page_bits v.record_size v.begin v.regions.offsets.closed
-      (mark-place v.page_bits v.record_size v.begin t.shape t.marked t.first)
-      (mark-place v.page_bits v.record_size v.regions.offsets.closed t.shape marked o.first) keeps)
+      let marked = subst (λ bits. IsMark bits v.log.regions.offsets.closed) t.regions.bits o.closed_mark in
+      rw t.begins (begin_place v.log.bits v.record_size v.log.begin v.log.regions.offsets.closed
+      (mark-place v.log.bits v.record_size v.log.begin t.shape t.marked t.first)
+      (mark-place v.log.bits v.record_size v.log.regions.offsets.closed t.shape marked o.first) keeps)
 
-  record-place : (e : Entry K V) → IsIn v.text e → IsRecordStart v.page_bits v.record_size e.address
+  record-place : (e : Entry K V) → IsIn v.text e → IsRecordStart v.log.bits v.record_size e.address
   record-place e m =
-      let most = tail-most v.page_bits v.record_size v.from v.tail v.text first-low t.laid_out in
-      let s = stands v.page_bits v.record_size t.shape v.from v.tail v.text first-place most t.laid_out m.place e m.here in
+      let most = tail-most v.log.bits v.record_size v.log.from v.log.tail v.text first-low t.laid_out in
+      let s = stands v.log.bits v.record_size t.shape v.log.from v.log.tail v.text first-place most t.laid_out m.place e m.here in
       s.place
 
   pub cleared-raised : (cmp : K → K → Ordering) (limit : ℕ)
-      → IsRecordStart v.page_bits v.record_size limit
+      → IsRecordStart v.log.bits v.record_size limit
       → IsCleared cmp v.text limit
       → ((e : Entry K V) → entry_at v.text limit ≡ Some e → IsSuperseded cmp v.text e)
-      → IsCleared cmp v.text (tail_after v.page_bits v.record_size limit)
+      → IsCleared cmp v.text (tail_after v.log.bits v.record_size limit)
   cleared-raised cmp limit place h superseded e here under = elim (cases_lt e.address limit) [
     | inl low ↦ h e here low
     | inr high ↦ elim (cases_eq e.address limit) [
@@ -80,11 +80,11 @@ module _ {K V : Type 0} {keeps : Bool} {code : K → ℕ} (v : RecordsView K V) 
       | inr ne ↦
           (let less : limit < e.address = grind (arith, ne) in
           let there = record-place e (last_where-in (λ x. x.address == e.address) v.text e here) in
-          let next = after-nearest v.page_bits v.record_size t.shape limit e.address place there less in
+          let next = after-nearest v.log.bits v.record_size t.shape limit e.address place there less in
           absurd (omega arith))
     ]
   ]
 
   -- a record stands below the tail
-  pub record-low : (limit : ℕ) (e : Entry K V) → entry_at v.text limit ≡ Some e → e.address < v.tail
+  pub record-low : (limit : ℕ) (e : Entry K V) → entry_at v.text limit ≡ Some e → e.address < v.log.tail
   record-low limit e here = let m = last_where-in (λ x. x.address == limit) v.text e here in t.below m.place e m.here

@@ -42,12 +42,12 @@ use Rattle.fkv_lookups.specs.Traced.{IsTraced, IsStood}
 -- ---- the records as pages spell them
 -- in place of what they stand for
 abbrev pub raw : {K V : Type 0} → RecordsView K V → RecordsView K V
-raw v = record v { text = v.entries }
+raw v = record v { text = v.log.text }
 
 -- they are traced too
-pub raw-traced : {K V : Type 0} {keeps : Bool} {code : K → ℕ} (cmp : K → K → Ordering) (join : V → V → V) (v : RecordsView K V) → v.text ≡ stood cmp join v.entries → IsTraced keeps code v → IsTraced keeps code (raw v)
+pub raw-traced : {K V : Type 0} {keeps : Bool} {code : K → ℕ} (cmp : K → K → Ordering) (join : V → V → V) (v : RecordsView K V) → v.text ≡ stood cmp join v.log.text → IsTraced keeps code v → IsTraced keeps code (raw v)
 raw-traced {code = code} cmp join v is t =
-    let back = subst (λ (es : List (Entry _ _)). AreAlike es v.entries) (sym is) (alike_back cmp join v.entries) in
+    let back = subst (λ (es : List (Entry _ _)). AreAlike es v.log.text) (sym is) (alike_back cmp join v.log.text) in
     record {
       partition_bits = t.partition_bits;
       bucket_bits = t.bucket_bits;
@@ -55,18 +55,18 @@ raw-traced {code = code} cmp join v is t =
       first = t.first;
       marked = t.marked;
       begins = t.begins;
-      laid_out = alike-laid_out v.page_bits v.record_size v.from v.tail v.text v.entries back t.laid_out;
-      rising = alike-rising v.text v.entries back t.rising;
-      from = alike-from v.from v.text v.entries back t.from;
-      below = alike-below v.tail v.text v.entries back t.below;
+      laid_out = alike-laid_out v.log.bits v.record_size v.log.from v.log.tail v.text v.log.text back t.laid_out;
+      rising = alike-rising v.text v.log.text back t.rising;
+      from = alike-from v.log.from v.text v.log.text back t.from;
+      below = alike-below v.log.tail v.text v.log.text back t.below;
       regions = t.regions;
       flushed = t.flushed;
       gone = t.gone;
       held = t.held;
-      chained = alike-chained (class_in code v) same_class v.from v.text v.entries back t.chained;
+      chained = alike-chained (class_in code v) same_class v.log.from v.text v.log.text back t.chained;
       buckets = t.buckets;
       map = t.map;
-      leads = λ c. alike-leads (class_in code v) same_class v.from v.text v.entries back c _ (t.leads c);
+      leads = λ c. alike-leads (class_in code v) same_class v.log.from v.text v.log.text back c _ (t.leads c);
       placed = t.placed;
     }
 
@@ -137,77 +137,77 @@ chain_of_all low text a es (goes {e = e} high here is on) =
     goes high was.0 is (chain_of_all low text _ _ on)
 
 -- where a session reads in memory, the text has begun
-pub begun : {K V : Type 0} {keeps : Bool} {code : K → ℕ} (v : RecordsView K V) (low : ℕ) → IsTraced keeps code v → v.regions.offsets.closed ≤ low → v.begin ≤ low → v.from ≤ low
+pub begun : {K V : Type 0} {keeps : Bool} {code : K → ℕ} (v : RecordsView K V) (low : ℕ) → IsTraced keeps code v → v.log.regions.offsets.closed ≤ low → v.log.begin ≤ low → v.log.from ≤ low
 begun {keeps = keeps} v low t closed begin = subst (λ n. n ≤ low) (sym t.begins) (by_keeps keeps)
   where
-    by_closed : (b : Bool) → cond b v.regions.offsets.closed v.begin ≤ low
+    by_closed : (b : Bool) → cond b v.log.regions.offsets.closed v.log.begin ≤ low
     by_closed true = closed
     by_closed false = begin
 
-    by_keeps : (k : Bool) → text_begin k v.begin v.regions.offsets.closed ≤ low
+    by_keeps : (k : Bool) → text_begin k v.log.begin v.log.regions.offsets.closed ≤ low
     by_keeps true = begin
-    by_keeps false = by_closed (nat_le v.begin v.regions.offsets.closed)
+    by_keeps false = by_closed (nat_le v.log.begin v.log.regions.offsets.closed)
 
 -- below where the text begins a key has nothing
-pub newest_below : {K V : Type 0} {keeps : Bool} (cmp : K → K → Ordering) (code : K → ℕ) (v : RecordsView K V) (k : K) → IsKeyOrder cmp → IsTraced keeps code v → (a : ℕ) → a < v.from → newest cmp v.text k a ≡ None
+pub newest_below : {K V : Type 0} {keeps : Bool} (cmp : K → K → Ordering) (code : K → ℕ) (v : RecordsView K V) (k : K) → IsKeyOrder cmp → IsTraced keeps code v → (a : ℕ) → a < v.log.from → newest cmp v.text k a ≡ None
 newest_below cmp code v k order t a low = last_where-none (λ e. nat_le e.address a && has_key cmp k e) v.text (λ i e h.
-    let high : v.from ≤ e.address = t.from i e h in
+    let high : v.log.from ≤ e.address = t.from i e h in
     let no : nat_le e.address a ≡ false = grind (arith, nat_tests) in
     rw no refl)
 
 -- what is newest, step by step: what `ComesTo` says of the first record of the key alone
 pub data FirstComesTo {K V : Type 0} (cmp : K → K → Ordering) (code : K → ℕ) (v : RecordsView K V) (k : K) (low : ℕ) : ℕ → ChainPosition K V → Type 0 where
   first_found : {a : ℕ} {e : Entry K V}
-      → newest cmp v.entries k a ≡ Some e
-      → entry_at v.entries e.address ≡ Some e
+      → newest cmp v.log.text k a ≡ Some e
+      → entry_at v.log.text e.address ≡ Some e
       → low ≤ e.address
       → FirstComesTo cmp code v k low a (Found e)
   first_below : {a b : ℕ}
       → b < low
-      → newest cmp v.entries k a ≡ newest cmp v.entries k b
-      → (v.from ≤ b → IsOfClass code v k b)
+      → newest cmp v.log.text k a ≡ newest cmp v.log.text k b
+      → (v.log.from ≤ b → IsOfClass code v k b)
       → FirstComesTo cmp code v k low a (Below b)
 
 module _ {K V : Type 0} {keeps : Bool} (cmp : K → K → Ordering) (code : K → ℕ) (v : RecordsView K V) (k : K) (order : IsKeyOrder cmp) (t : IsTraced keeps code (raw v)) where
   -- ---- along the records of a class
-  in_text : (a : ℕ) (e : Entry K V) → entry_at v.entries a ≡ Some e → IsIn v.entries e × (e.address ≡ a)
-  in_text a e h = (last_where-in (λ x. x.address == a) v.entries e h, eqb-true e.address a (last_where-found (λ x. x.address == a) v.entries e h))
+  in_text : (a : ℕ) (e : Entry K V) → entry_at v.log.text a ≡ Some e → IsIn v.log.text e × (e.address ≡ a)
+  in_text a e h = (last_where-in (λ x. x.address == a) v.log.text e h, eqb-true e.address a (last_where-found (λ x. x.address == a) v.log.text e h))
 
-  of_class : (p : Entry K V → Bool) (e : Entry K V) → last_where p v.entries ≡ Some e → class_in code v e.key ≡ class_in code v k → IsOfClass code v k e.address
-  of_class p e h class = record { entry = e; here = entry_at-in v.entries t.rising e (last_where-in p v.entries e h) e.address refl; class = class }
+  of_class : (p : Entry K V → Bool) (e : Entry K V) → last_where p v.log.text ≡ Some e → class_in code v e.key ≡ class_in code v k → IsOfClass code v k e.address
+  of_class p e h class = record { entry = e; here = entry_at-in v.log.text t.rising e (last_where-in p v.log.text e h) e.address refl; class = class }
 
   -- what leads to the last of a class that passes a test leads below where the text begins, or there
-  led : (p : Entry K V → Bool) (l : Option (Entry K V)) (a : ℕ) → last_where p v.entries ≡ l → ((e : Entry K V) → last_where p v.entries ≡ Some e → class_in code v e.key ≡ class_in code v k)
-      → Leads v.from l a → v.from ≤ a → IsOfClass code v k a
-  led p None a h class leads high = absurd (let low : a < v.from = leads in omega arith)
+  led : (p : Entry K V → Bool) (l : Option (Entry K V)) (a : ℕ) → last_where p v.log.text ≡ l → ((e : Entry K V) → last_where p v.log.text ≡ Some e → class_in code v e.key ≡ class_in code v k)
+      → Leads v.log.from l a → v.log.from ≤ a → IsOfClass code v k a
+  led p None a h class leads high = absurd (let low : a < v.log.from = leads in omega arith)
   led p (Some e) a h class leads high = let at : a ≡ e.address = leads in subst (IsOfClass code v k) (sym at) (of_class p e h (class e h))
 
-  pub leads_class : (a : ℕ) → entry_of v (class_in code v k) ≡ Some a → v.from ≤ a → IsOfClass code v k a
-  leads_class a entry = led (has_class (class_in code v) same_class (class_in code v k)) (last_of_class (class_in code v) same_class v.entries (class_in code v k)) a refl
-      (λ e h. class_test.only (class_in code v e.key) (class_in code v k) (last_where-found (has_class (class_in code v) same_class (class_in code v k)) v.entries e h)) (leads_of t (class_in code v k) a entry)
+  pub leads_class : (a : ℕ) → entry_of v (class_in code v k) ≡ Some a → v.log.from ≤ a → IsOfClass code v k a
+  leads_class a entry = led (has_class (class_in code v) same_class (class_in code v k)) (last_of_class (class_in code v) same_class v.log.text (class_in code v k)) a refl
+      (λ e h. class_test.only (class_in code v e.key) (class_in code v k) (last_where-found (has_class (class_in code v) same_class (class_in code v k)) v.log.text e h)) (leads_of t (class_in code v k) a entry)
 
-  next_class : (a : ℕ) (o : IsOfClass code v k a) → v.from ≤ o.entry.previous → IsOfClass code v k o.entry.previous
+  next_class : (a : ℕ) (o : IsOfClass code v k a) → v.log.from ≤ o.entry.previous → IsOfClass code v k o.entry.previous
   next_class a o =
       let e = o.entry in
       let m = (in_text a e o.here).0 in
       let p = λ (x : Entry K V). nat_lt x.address e.address && has_class (class_in code v) same_class (class_in code v e.key) x in
-      led p (last_below (class_in code v) same_class v.entries (class_in code v e.key) e.address) e.previous refl
-      (λ d h. class_test.only (class_in code v d.key) (class_in code v e.key) (and_parts (nat_lt d.address e.address) (has_class (class_in code v) same_class (class_in code v e.key) d) (last_where-found p v.entries d h)).1 ∙ o.class)
+      led p (last_below (class_in code v) same_class v.log.text (class_in code v e.key) e.address) e.previous refl
+      (λ d h. class_test.only (class_in code v d.key) (class_in code v e.key) (and_parts (nat_lt d.address e.address) (has_class (class_in code v) same_class (class_in code v e.key) d) (last_where-found p v.log.text d h)).1 ∙ o.class)
       (t.chained m.place e m.here)
 
-  next_low : (a : ℕ) (o : IsOfClass code v k a) → v.from ≤ o.entry.previous → o.entry.previous < a
-  next_low a o high = by_last (last_below (class_in code v) same_class v.entries (class_in code v e.key) e.address) refl (t.chained m.place e m.here)
+  next_low : (a : ℕ) (o : IsOfClass code v k a) → v.log.from ≤ o.entry.previous → o.entry.previous < a
+  next_low a o high = by_last (last_below (class_in code v) same_class v.log.text (class_in code v e.key) e.address) refl (t.chained m.place e m.here)
     where
       e : Entry K V
       e = o.entry
 
-      m : IsIn v.entries e
+      m : IsIn v.log.text e
       m = (in_text a e o.here).0
 
-      by_last : (l : Option (Entry K V)) → last_below (class_in code v) same_class v.entries (class_in code v e.key) e.address ≡ l → Leads v.from l e.previous → e.previous < a
-      by_last None h leads = absurd (let low : e.previous < v.from = leads in omega arith)
+      by_last : (l : Option (Entry K V)) → last_below (class_in code v) same_class v.log.text (class_in code v e.key) e.address ≡ l → Leads v.log.from l e.previous → e.previous < a
+      by_last None h leads = absurd (let low : e.previous < v.log.from = leads in omega arith)
       by_last (Some d) h leads =
-          let parts = and_parts (nat_lt d.address e.address) (has_class (class_in code v) same_class (class_in code v e.key) d) (last_where-found (λ x. nat_lt x.address e.address && has_class (class_in code v) same_class (class_in code v e.key) x) v.entries d h) in
+          let parts = and_parts (nat_lt d.address e.address) (has_class (class_in code v) same_class (class_in code v e.key) d) (last_where-found (λ x. nat_lt x.address e.address && has_class (class_in code v) same_class (class_in code v e.key) x) v.log.text d h) in
           let low : d.address < e.address = ltb-true d.address e.address parts.0 in
           let at : e.previous ≡ d.address = leads in
           let here : e.address ≡ a = (in_text a e o.here).1 in
@@ -215,23 +215,23 @@ module _ {K V : Type 0} {keeps : Bool} (cmp : K → K → Ordering) (code : K �
 
   -- ---- the chain from any of them, down to an address
   abbrev ChainDown : ℕ → ℕ → Type 0
-  ChainDown low a = (es : List (Entry K V)) × IsChainFrom low v.entries a es
+  ChainDown low a = (es : List (Entry K V)) × IsChainFrom low v.log.text a es
 
-  chain_here : (low : ℕ) → v.from ≤ low → (a : ℕ) → low ≤ a → (o : IsOfClass code v k a) → ((p : ℕ) → p < a → (v.from ≤ p → IsOfClass code v k p) → ChainDown low p) → ChainDown low a
-  chain_here low up a high o more = by_next (nat_lt o.entry.previous v.from) refl
+  chain_here : (low : ℕ) → v.log.from ≤ low → (a : ℕ) → low ≤ a → (o : IsOfClass code v k a) → ((p : ℕ) → p < a → (v.log.from ≤ p → IsOfClass code v k p) → ChainDown low p) → ChainDown low a
+  chain_here low up a high o more = by_next (nat_lt o.entry.previous v.log.from) refl
     where
-      by_next : (b : Bool) → nat_lt o.entry.previous v.from ≡ b → ChainDown low a
+      by_next : (b : Bool) → nat_lt o.entry.previous v.log.from ≡ b → ChainDown low a
       by_next true h =
           let m = in_text a o.entry o.here in
-          let under : o.entry.previous < v.from = ltb-true o.entry.previous v.from h in
+          let under : o.entry.previous < v.log.from = ltb-true o.entry.previous v.log.from h in
           (o.entry ∷ [], goes high m.0 m.1 (ends (omega (arith, under, up))))
       by_next false h =
           let m = in_text a o.entry o.here in
-          let above : v.from ≤ o.entry.previous = grind (arith, nat_tests) in
+          let above : v.log.from ≤ o.entry.previous = grind (arith, nat_tests) in
           let rest = more o.entry.previous (next_low a o above) (next_class a o) in
           (o.entry ∷ rest.0, goes high m.0 m.1 rest.1)
 
-  chain_step : (low : ℕ) → v.from ≤ low → (a : ℕ) → (v.from ≤ a → IsOfClass code v k a) → ((p : ℕ) → p < a → (v.from ≤ p → IsOfClass code v k p) → ChainDown low p) → ChainDown low a
+  chain_step : (low : ℕ) → v.log.from ≤ low → (a : ℕ) → (v.log.from ≤ a → IsOfClass code v k a) → ((p : ℕ) → p < a → (v.log.from ≤ p → IsOfClass code v k p) → ChainDown low p) → ChainDown low a
   chain_step low up a class more = by_low (nat_lt a low) refl
     where
       by_low : (b : Bool) → nat_lt a low ≡ b → ChainDown low a
@@ -240,49 +240,49 @@ module _ {K V : Type 0} {keeps : Bool} (cmp : K → K → Ordering) (code : K �
           let high : low ≤ a = grind (arith, nat_tests) in
           chain_here low up a high (class (omega (arith, up))) more
 
-  chain_within : (low : ℕ) → v.from ≤ low → (n a : ℕ) → a ≤ n → (v.from ≤ a → IsOfClass code v k a) → ChainDown low a
+  chain_within : (low : ℕ) → v.log.from ≤ low → (n a : ℕ) → a ≤ n → (v.log.from ≤ a → IsOfClass code v k a) → ChainDown low a
   chain_within low up zero a le class = chain_step low up a class (λ p under own. absurd (omega arith))
   chain_within low up (suc n) a le class = chain_step low up a class (λ p under own. chain_within low up n p (omega arith) own)
 
-  pub chain_down : (low : ℕ) → v.from ≤ low → (a : ℕ) → (v.from ≤ a → IsOfClass code v k a) → ChainDown low a
+  pub chain_down : (low : ℕ) → v.log.from ≤ low → (a : ℕ) → (v.log.from ≤ a → IsOfClass code v k a) → ChainDown low a
   chain_down low up a class = chain_within low up a a (omega arith) class
 
   -- ---- what the chain says of the key
   -- the first of the key on the whole chain is its newest
-  newest_chain : (a : ℕ) → (v.from ≤ a → IsOfClass code v k a) → (es : List (Entry K V)) → IsChainFrom v.from v.entries a es → find (has_key cmp k) es ≡ newest cmp v.entries k a
-  newest_chain a class es chain = by_low (nat_lt a v.from) refl
+  newest_chain : (a : ℕ) → (v.log.from ≤ a → IsOfClass code v k a) → (es : List (Entry K V)) → IsChainFrom v.log.from v.log.text a es → find (has_key cmp k) es ≡ newest cmp v.log.text k a
+  newest_chain a class es chain = by_low (nat_lt a v.log.from) refl
     where
-      by_low : (b : Bool) → nat_lt a v.from ≡ b → find (has_key cmp k) es ≡ newest cmp v.entries k a
+      by_low : (b : Bool) → nat_lt a v.log.from ≡ b → find (has_key cmp k) es ≡ newest cmp v.log.text k a
       by_low true h =
-          let low : a < v.from = ltb-true a v.from h in
-          ap (find (has_key cmp k)) (ended v.from v.entries a es chain low) ∙ sym (newest_below cmp code (raw v) k order t a low)
+          let low : a < v.log.from = ltb-true a v.log.from h in
+          ap (find (has_key cmp k)) (ended v.log.from v.log.text a es chain low) ∙ sym (newest_below cmp code (raw v) k order t a low)
       by_low false h =
-          let high : v.from ≤ a = grind (arith, nat_tests) in
+          let high : v.log.from ≤ a = grind (arith, nat_tests) in
           let o = class high in
           let m = in_text a o.entry o.here in
-          subst (λ (n : ℕ). find (has_key cmp k) es ≡ newest cmp v.entries k n) m.1
-          (met_from (class_in code v) same_class v.from cmp order class_test k v.entries t.rising t.from t.chained m.0.place o.entry m.0.here o.class es
-          (subst (λ (n : ℕ). IsChainFrom v.from v.entries n es) (sym m.1) chain))
+          subst (λ (n : ℕ). find (has_key cmp k) es ≡ newest cmp v.log.text k n) m.1
+          (met_from (class_in code v) same_class v.log.from cmp order class_test k v.log.text t.rising t.from t.chained m.0.place o.entry m.0.here o.class es
+          (subst (λ (n : ℕ). IsChainFrom v.log.from v.log.text n es) (sym m.1) chain))
 
   -- an entry of the key is its newest where it stands; past another entry, the newest is that from where it leads
-  newest_here : (a : ℕ) (o : IsOfClass code v k a) → v.from ≤ a → (b : Bool) → has_key cmp k o.entry ≡ b → newest cmp v.entries k a ≡ cond b (Some o.entry) (newest cmp v.entries k o.entry.previous)
+  newest_here : (a : ℕ) (o : IsOfClass code v k a) → v.log.from ≤ a → (b : Bool) → has_key cmp k o.entry ≡ b → newest cmp v.log.text k a ≡ cond b (Some o.entry) (newest cmp v.log.text k o.entry.previous)
   newest_here a o high b h =
       let m = in_text a o.entry o.here in
-      let rest = chain_down v.from (omega arith) o.entry.previous (next_class a o) in
-      let whole : IsChainFrom v.from v.entries a (o.entry ∷ rest.0) = goes high m.0 m.1 rest.1 in
+      let rest = chain_down v.log.from (omega arith) o.entry.previous (next_class a o) in
+      let whole : IsChainFrom v.log.from v.log.text a (o.entry ∷ rest.0) = goes high m.0 m.1 rest.1 in
       sym (newest_chain a (λ up. o) (o.entry ∷ rest.0) whole) ∙ by b h rest.0 (newest_chain o.entry.previous (next_class a o) rest.0 rest.1)
     where
-      by : (b : Bool) → has_key cmp k o.entry ≡ b → (es : List (Entry K V)) → find (has_key cmp k) es ≡ newest cmp v.entries k o.entry.previous
-          → find (has_key cmp k) (o.entry ∷ es) ≡ cond b (Some o.entry) (newest cmp v.entries k o.entry.previous)
+      by : (b : Bool) → has_key cmp k o.entry ≡ b → (es : List (Entry K V)) → find (has_key cmp k) es ≡ newest cmp v.log.text k o.entry.previous
+          → find (has_key cmp k) (o.entry ∷ es) ≡ cond b (Some o.entry) (newest cmp v.log.text k o.entry.previous)
       by true h es is = rw h refl
       by false h es is = rw h is
 
   -- ---- the first record of the key
-  first_further : (low a b : ℕ) (r : ChainPosition K V) → newest cmp v.entries k a ≡ newest cmp v.entries k b → FirstComesTo cmp code v k low b r → FirstComesTo cmp code v k low a r
+  first_further : (low a b : ℕ) (r : ChainPosition K V) → newest cmp v.log.text k a ≡ newest cmp v.log.text k b → FirstComesTo cmp code v k low b r → FirstComesTo cmp code v k low a r
   first_further low a b r same (first_found is stands high) = first_found (same ∙ is) stands high
   first_further low a b r same (first_below low_b is class) = first_below low_b (same ∙ is) class
 
-  further : (join : V → V → V) (low a b : ℕ) (parts : Option V) (r : ChainResult K V) → newest cmp v.entries k a ≡ newest cmp v.entries k b → ComesTo cmp join code v k low b parts r
+  further : (join : V → V → V) (low a b : ℕ) (parts : Option V) (r : ChainResult K V) → newest cmp v.log.text k a ≡ newest cmp v.log.text k b → ComesTo cmp join code v k low b parts r
       → ComesTo cmp join code v k low a parts r
   further join low a b parts r same (found is stands high whole) = found (same ∙ is) stands high whole
   further join low a b parts r same (below low_b is class) = below low_b (same ∙ is) class
@@ -290,26 +290,26 @@ module _ {K V : Type 0} {keeps : Bool} (cmp : K → K → Ordering) (code : K �
 
   -- where a chain stands at a record
   record IsHere (a : ℕ) (e : Entry K V) : Type 0 where
-    pub begun : v.from ≤ a
+    pub begun : v.log.from ≤ a
     pub class : IsOfClass code v k a
     pub own : class.entry ≡ e
 
-  here_at : (low a : ℕ) (e : Entry K V) → v.from ≤ low → low ≤ a → IsIn v.entries e → e.address ≡ a → (v.from ≤ a → IsOfClass code v k a) → IsHere a e
+  here_at : (low a : ℕ) (e : Entry K V) → v.log.from ≤ low → low ≤ a → IsIn v.log.text e → e.address ≡ a → (v.log.from ≤ a → IsOfClass code v k a) → IsHere a e
   here_at low a e up high here is class =
-      let begun : v.from ≤ a = omega (arith, up, high) in
+      let begun : v.log.from ≤ a = omega (arith, up, high) in
       let o = class begun in
-      let both : Some o.entry ≡ Some e = sym o.here ∙ entry_at-in v.entries t.rising e here a is in
+      let both : Some o.entry ≡ Some e = sym o.here ∙ entry_at-in v.log.text t.rising e here a is in
       record { begun = begun; class = o; own = cc }
 
-  here_next : (a : ℕ) (e : Entry K V) → IsHere a e → v.from ≤ e.previous → IsOfClass code v k e.previous
-  here_next a e h = subst (λ (x : Entry K V). v.from ≤ x.previous → IsOfClass code v k x.previous) h.own (next_class a h.class)
+  here_next : (a : ℕ) (e : Entry K V) → IsHere a e → v.log.from ≤ e.previous → IsOfClass code v k e.previous
+  here_next a e h = subst (λ (x : Entry K V). v.log.from ≤ x.previous → IsOfClass code v k x.previous) h.own (next_class a h.class)
 
-  here_newest : (a : ℕ) (e : Entry K V) → IsHere a e → (b : Bool) → has_key cmp k e ≡ b → newest cmp v.entries k a ≡ cond b (Some e) (newest cmp v.entries k e.previous)
+  here_newest : (a : ℕ) (e : Entry K V) → IsHere a e → (b : Bool) → has_key cmp k e ≡ b → newest cmp v.log.text k a ≡ cond b (Some e) (newest cmp v.log.text k e.previous)
   here_newest a e h b own =
       newest_here a h.class h.begun b (ap (has_key cmp k) h.own ∙ own)
-      ∙ ap (λ (x : Entry K V). cond b (Some x) (newest cmp v.entries k x.previous)) h.own
+      ∙ ap (λ (x : Entry K V). cond b (Some x) (newest cmp v.log.text k x.previous)) h.own
 
-  pub first_goes_on : (low : ℕ) → v.from ≤ low → (a : ℕ) (es : List (Entry K V)) → IsChainFrom low v.entries a es → (v.from ≤ a → IsOfClass code v k a) → FirstComesTo cmp code v k low a (first_on cmp k a es)
+  pub first_goes_on : (low : ℕ) → v.log.from ≤ low → (a : ℕ) (es : List (Entry K V)) → IsChainFrom low v.log.text a es → (v.log.from ≤ a → IsOfClass code v k a) → FirstComesTo cmp code v k low a (first_on cmp k a es)
   first_goes_on low up a es (ends less) class = first_below less refl class
   first_goes_on low up a es (goes {e = e} {es = ds} high here is on) class =
       let h = here_at low a e up high here is class in
@@ -317,11 +317,11 @@ module _ {K V : Type 0} {keeps : Bool} (cmp : K → K → Ordering) (code : K �
     where
       by_key : IsHere a e → (b : Bool) → has_key cmp k e ≡ b → FirstComesTo cmp code v k low e.previous (first_on cmp k e.previous ds) → FirstComesTo cmp code v k low a (first_on cmp k a (e ∷ ds))
       by_key h true own rest =
-          rw own (first_found (here_newest a e h true own) (entry_at-in v.entries t.rising e here e.address refl) (subst (λ (n : ℕ). low ≤ n) (sym is) high))
+          rw own (first_found (here_newest a e h true own) (entry_at-in v.log.text t.rising e here e.address refl) (subst (λ (n : ℕ). low ≤ n) (sym is) high))
       by_key h false own rest = rw own (first_further low a e.previous (first_on cmp k e.previous ds) (here_newest a e h false own) rest)
 
   -- ---- and what is gathered from there
-  pub gathers_on : (join : V → V → V) (low : ℕ) → v.from ≤ low → (a : ℕ) (es : List (Entry K V)) → IsChainFrom low v.entries a es → (v.from ≤ a → IsOfClass code v k a) → (parts : Option V)
+  pub gathers_on : (join : V → V → V) (low : ℕ) → v.log.from ≤ low → (a : ℕ) (es : List (Entry K V)) → IsChainFrom low v.log.text a es → (v.log.from ≤ a → IsOfClass code v k a) → (parts : Option V)
       → ComesTo cmp join code v k low a parts (over cmp join k parts a es)
   gathers_on join low up a es (ends less) class parts = below less refl class
   gathers_on join low up a es (goes {e = e} {es = ds} high here is on) class parts =
@@ -336,52 +336,52 @@ module _ {K V : Type 0} {keeps : Bool} (cmp : K → K → Ordering) (code : K �
       by_key h false d own delta rest =
           subst (ComesTo cmp join code v k low a parts) (sym (passes cmp join k parts a e ds own)) (further join low a e.previous parts (over cmp join k parts e.previous ds) (here_newest a e h false own) (rest parts))
       by_key h true false own delta rest =
-          subst (ComesTo cmp join code v k low a parts) (sym (stops cmp join k parts a e ds own delta)) (found (here_newest a e h true own) (entry_at-in v.entries t.rising e here e.address refl) level delta)
+          subst (ComesTo cmp join code v k low a parts) (sym (stops cmp join k parts a e ds own delta)) (found (here_newest a e h true own) (entry_at-in v.log.text t.rising e here e.address refl) level delta)
       by_key h true true own delta rest =
           subst (ComesTo cmp join code v k low a parts) (sym (collects cmp join k parts a e ds own delta)) (joins (here_newest a e h true own) level delta (rest (onto join e.value parts)))
 
   -- one page, or memory, tells how the way goes on
-  pub step_tells : (low : ℕ) → v.from ≤ low → (a : ℕ) → (v.from ≤ a → IsOfClass code v k a) → {E : Type 0} (result : Result (ChainPosition K V) E)
-      → ((es : List (Entry K V)) → IsChainFrom low v.entries a es → result ≡ Ok (first_on cmp k a es))
+  pub step_tells : (low : ℕ) → v.log.from ≤ low → (a : ℕ) → (v.log.from ≤ a → IsOfClass code v k a) → {E : Type 0} (result : Result (ChainPosition K V) E)
+      → ((es : List (Entry K V)) → IsChainFrom low v.log.text a es → result ≡ Ok (first_on cmp k a es))
       → (r : ChainPosition K V) × (result ≡ Ok r) × FirstComesTo cmp code v k low a r
   step_tells low up a class result reads =
       let chain = chain_down low up a class in
       (first_on cmp k a chain.0, reads chain.0 chain.1, first_goes_on low up a chain.0 chain.1 class)
 
   -- ---- the chain of the class down to an address
-  pub up_chain : (low : ℕ) → v.from ≤ low → (a : ℕ) → entry_of v (class_in code v k) ≡ Some a → IsChainFrom low v.entries a (falling_from code v low k)
+  pub up_chain : (low : ℕ) → v.log.from ≤ low → (a : ℕ) → entry_of v (class_in code v k) ≡ Some a → IsChainFrom low v.log.text a (falling_from code v low k)
   up_chain low up a entry =
       let class = class_in code v in
       let leads = leads_of t (class k) a entry in
-      let above = text_from low v.entries in
-      chain_of_all low v.entries a (falling class same_class above (class k))
-      (meets class same_class low class_test above (cut-rising low v.entries t.rising) (cut-from low v.entries) (cut-chained class same_class v.from low v.entries t.rising up t.chained) (class k) a
-      (cut-leads class same_class v.from low v.entries t.rising up (class k) a leads))
+      let above = text_from low v.log.text in
+      chain_of_all low v.log.text a (falling class same_class above (class k))
+      (meets class same_class low class_test above (cut-rising low v.log.text t.rising) (cut-from low v.log.text) (cut-chained class same_class v.log.from low v.log.text t.rising up t.chained) (class k) a
+      (cut-leads class same_class v.log.from low v.log.text t.rising up (class k) a leads))
 
   pub first_is : (low a : ℕ) → newest_above cmp code v low k a ≡ first_on cmp k a (falling_from code v low k)
-  first_is low a = ap (λ o. reached o (leads_to a (falling_from code v low k))) (sym (finds (class_in code v) same_class low cmp order class_test k (text_from low v.entries)))
+  first_is low a = ap (λ o. reached o (leads_to a (falling_from code v low k))) (sym (finds (class_in code v) same_class low cmp order class_test k (text_from low v.log.text)))
 
   -- ---- from a delta of the key
-  pub delta_class : (a : ℕ) (d : Entry K V) → newest cmp v.entries k a ≡ Some d → IsIn v.entries d × (has_key cmp k d ≡ true) × (d.address ≤ a)
+  pub delta_class : (a : ℕ) (d : Entry K V) → newest cmp v.log.text k a ≡ Some d → IsIn v.log.text d × (has_key cmp k d ≡ true) × (d.address ≤ a)
   delta_class a d is =
       let p = λ (e : Entry K V). nat_le e.address a && has_key cmp k e in
-      let parts = and_parts (nat_le d.address a) (has_key cmp k d) (last_where-found p v.entries d is) in
-      (last_where-in p v.entries d is, parts.1, leb-true d.address a parts.0)
+      let parts = and_parts (nat_le d.address a) (has_key cmp k d) (last_where-found p v.log.text d is) in
+      (last_where-in p v.log.text d is, parts.1, leb-true d.address a parts.0)
 
-  key_here : (e : Entry K V) → IsIn v.entries e → has_key cmp k e ≡ true → IsHere e.address e
+  key_here : (e : Entry K V) → IsIn v.log.text e → has_key cmp k e ≡ true → IsHere e.address e
   key_here e m own = record {
     begun = t.from m.place e m.here;
-    class = record { entry = e; here = entry_at-in v.entries t.rising e m e.address refl; class = ap (class_in code v) (order.same e.key k own) };
+    class = record { entry = e; here = entry_at-in v.log.text t.rising e m e.address refl; class = ap (class_in code v) (order.same e.key k own) };
     own = refl;
   }
 
   -- where it leads, a record of its class stands
-  pub newest_next : (a : ℕ) (d : Entry K V) → newest cmp v.entries k a ≡ Some d → v.from ≤ d.previous → IsOfClass code v k d.previous
+  pub newest_next : (a : ℕ) (d : Entry K V) → newest cmp v.log.text k a ≡ Some d → v.log.from ≤ d.previous → IsOfClass code v k d.previous
   newest_next a d is = let w = delta_class a d is in here_next d.address d (key_here d w.0 w.1)
 
   -- none of the key stands between
-  near : (d : Entry K V) → IsIn v.entries d → has_key cmp k d ≡ true → (e : Entry K V) → IsIn v.entries e → has_key cmp k e ≡ true → e.address < d.address → e.address ≤ d.previous
-  near d m own e n mine less = by_last (last_below (class_in code v) same_class v.entries (class_in code v d.key) d.address) refl (t.chained m.place d m.here)
+  near : (d : Entry K V) → IsIn v.log.text d → has_key cmp k d ≡ true → (e : Entry K V) → IsIn v.log.text e → has_key cmp k e ≡ true → e.address < d.address → e.address ≤ d.previous
+  near d m own e n mine less = by_last (last_below (class_in code v) same_class v.log.text (class_in code v d.key) d.address) refl (t.chained m.place d m.here)
     where
       lower : Entry K V → Bool
       lower x = nat_lt x.address d.address && has_class (class_in code v) same_class (class_in code v d.key) x
@@ -391,31 +391,31 @@ module _ {K V : Type 0} {keeps : Bool} (cmp : K → K → Ordering) (code : K �
           let is : class_in code v e.key ≡ class_in code v d.key = ap (class_in code v) (order.same e.key k mine ∙ sym (order.same d.key k own)) in
           rw (lt-ltb e.address d.address less) (ap (λ c. same_class c (class_in code v d.key)) is ∙ class_test.self (class_in code v d.key))
 
-      by_last : (l : Option (Entry K V)) → last_below (class_in code v) same_class v.entries (class_in code v d.key) d.address ≡ l → Leads v.from l d.previous → e.address ≤ d.previous
-      by_last None h leads = absurd (let no = none-passes lower v.entries h n.place e n.here in let bad : true ≡ false = sym passes_it ∙ no in cc)
+      by_last : (l : Option (Entry K V)) → last_below (class_in code v) same_class v.log.text (class_in code v d.key) d.address ≡ l → Leads v.log.from l d.previous → e.address ≤ d.previous
+      by_last None h leads = absurd (let no = none-passes lower v.log.text h n.place e n.here in let bad : true ≡ false = sym passes_it ∙ no in cc)
       by_last (Some x) h leads =
           let there : d.previous ≡ x.address = leads in
-          let up = highest lower v.entries x t.rising h n.place e n.here passes_it in
+          let up = highest lower v.log.text x t.rising h n.place e n.here passes_it in
           omega arith
 
   -- what stands at or below an address stands no higher than the newest there
-  newest_high : (a : ℕ) (d : Entry K V) → newest cmp v.entries k a ≡ Some d → (e : Entry K V) → IsIn v.entries e → has_key cmp k e ≡ true → e.address ≤ a → e.address ≤ d.address
+  newest_high : (a : ℕ) (d : Entry K V) → newest cmp v.log.text k a ≡ Some d → (e : Entry K V) → IsIn v.log.text e → has_key cmp k e ≡ true → e.address ≤ a → e.address ≤ d.address
   newest_high a d is e m own low =
       let yes : nat_le e.address a ≡ true = le-leb e.address a low in
       let passes_it : (nat_le e.address a && has_key cmp k e) ≡ true = rw yes own in
-      highest (λ (x : Entry K V). nat_le x.address a && has_key cmp k x) v.entries d t.rising is m.place e m.here passes_it
+      highest (λ (x : Entry K V). nat_le x.address a && has_key cmp k x) v.log.text d t.rising is m.place e m.here passes_it
 
   -- and where the newest is the same, no higher than the lower address
-  newest_low : (a b : ℕ) → newest cmp v.entries k a ≡ newest cmp v.entries k b → (e : Entry K V) → IsIn v.entries e → has_key cmp k e ≡ true → e.address ≤ a → e.address ≤ b
-  newest_low a b same e m own low = by_newest (newest cmp v.entries k a) refl
+  newest_low : (a b : ℕ) → newest cmp v.log.text k a ≡ newest cmp v.log.text k b → (e : Entry K V) → IsIn v.log.text e → has_key cmp k e ≡ true → e.address ≤ a → e.address ≤ b
+  newest_low a b same e m own low = by_newest (newest cmp v.log.text k a) refl
     where
       p : Entry K V → Bool
       p x = nat_le x.address a && has_key cmp k x
 
-      by_newest : (o : Option (Entry K V)) → newest cmp v.entries k a ≡ o → e.address ≤ b
+      by_newest : (o : Option (Entry K V)) → newest cmp v.log.text k a ≡ o → e.address ≤ b
       by_newest None is = absurd (
           let yes : p e ≡ true = rw (le-leb e.address a low) own in
-          let no : p e ≡ false = none-passes p v.entries is m.place e m.here in
+          let no : p e ≡ false = none-passes p v.log.text is m.place e m.here in
           let bad : true ≡ false = sym yes ∙ no in cc)
       by_newest (Some d) is =
           let high = newest_high a d is e m own low in
@@ -424,13 +424,13 @@ module _ {K V : Type 0} {keeps : Bool} (cmp : K → K → Ordering) (code : K �
 
   -- ---- the records on the way are deltas, but the one at the end
   pub between_tells : (join : V → V → V) (low a : ℕ) (parts : Option V) (r : ChainResult K V) → ComesTo cmp join code v k low a parts r
-      → (e : Entry K V) → IsIn v.entries e → has_key cmp k e ≡ true → e.address ≤ a → at_of r.position < e.address → e.delta ≡ true
+      → (e : Entry K V) → IsIn v.log.text e → has_key cmp k e ≡ true → e.address ≤ a → at_of r.position < e.address → e.delta ≡ true
   between_tells join low a parts r (found {e = d} is stands high whole) e m own up above = absurd (let most = newest_high a d is e m own up in omega arith)
   between_tells join low a parts r (below {b = b} less is class) e m own up above = absurd (let most = newest_low a b is e m own up in omega arith)
   between_tells join low a parts r (joins {d = d} is high delta rest) e m own up above =
       by_level (nat_lt e.address d.address) refl (λ lower. between_tells join low d.previous (onto join d.value parts) r rest e m own lower above)
     where
-      w : IsIn v.entries d × (has_key cmp k d ≡ true) × (d.address ≤ a)
+      w : IsIn v.log.text d × (has_key cmp k d ≡ true) × (d.address ≤ a)
       w = delta_class a d is
 
       by_level : (b : Bool) → nat_lt e.address d.address ≡ b → (e.address ≤ d.previous → e.delta ≡ true) → e.delta ≡ true
@@ -438,20 +438,20 @@ module _ {K V : Type 0} {keeps : Bool} (cmp : K → K → Ordering) (code : K �
       by_level false h lower =
           let most = newest_high a d is e m own up in
           let level : e.address ≡ d.address = grind (arith, nat_tests) in
-          ap (λ (x : Entry K V). x.delta) (one_address v.entries t.rising m.place w.0.place e d m.here w.0.here level) ∙ delta
+          ap (λ (x : Entry K V). x.delta) (one_address v.log.text t.rising m.place w.0.place e d m.here w.0.here level) ∙ delta
 
 -- ---- each record leads below itself
-pub record_falls : {K V : Type 0} {keeps : Bool} (cmp : K → K → Ordering) (code : K → ℕ) (v : RecordsView K V) → IsKeyOrder cmp → IsTraced keeps code (raw v) → (e : Entry K V) → IsIn v.entries e → e.previous < e.address
-record_falls cmp code v order t e m = by_from (nat_lt e.previous v.from) refl
+pub record_falls : {K V : Type 0} {keeps : Bool} (cmp : K → K → Ordering) (code : K → ℕ) (v : RecordsView K V) → IsKeyOrder cmp → IsTraced keeps code (raw v) → (e : Entry K V) → IsIn v.log.text e → e.previous < e.address
+record_falls cmp code v order t e m = by_from (nat_lt e.previous v.log.from) refl
   where
-    by_from : (b : Bool) → nat_lt e.previous v.from ≡ b → e.previous < e.address
+    by_from : (b : Bool) → nat_lt e.previous v.log.from ≡ b → e.previous < e.address
     by_from true h =
-        let under : e.previous < v.from = ltb-true e.previous v.from h in
-        let high : v.from ≤ e.address = t.from m.place e m.here in
+        let under : e.previous < v.log.from = ltb-true e.previous v.log.from h in
+        let high : v.log.from ≤ e.address = t.from m.place e m.here in
         omega arith
     by_from false h =
-        let above : v.from ≤ e.previous = grind (arith, nat_tests) in
-        next_low cmp code v e.key order t e.address (record { entry = e; here = entry_at-in v.entries t.rising e m e.address refl; class = refl }) above
+        let above : v.log.from ≤ e.previous = grind (arith, nat_tests) in
+        next_low cmp code v e.key order t e.address (record { entry = e; here = entry_at-in v.log.text t.rising e m e.address refl; class = refl }) above
 
 -- ---- what a look-up tells of what the key has
 module _ {K V : Type 0} {keeps : Bool} (cmp : K → K → Ordering) (join : V → V → V) (code : K → ℕ) (v : RecordsView K V) (k : K) (order : IsKeyOrder cmp) (t : IsTraced keeps code v) (s : IsStood cmp join v) where
@@ -462,22 +462,22 @@ module _ {K V : Type 0} {keeps : Bool} (cmp : K → K → Ordering) (join : V �
   abbrev value : ℕ → Option V
   value a = value_of (newest cmp v.text k a)
 
-  stood_value : (a : ℕ) → value a ≡ value_of (newest cmp (stood cmp join v.entries) k a)
+  stood_value : (a : ℕ) → value a ≡ value_of (newest cmp (stood cmp join v.log.text) k a)
   stood_value a = ap (λ (es : List (Entry K V)). value_of (newest cmp es k a)) s.is
 
   -- it is the same where the same records of the key stand at or below
   same_value : (a b : ℕ)
-      → ((e : Entry K V) → IsIn v.entries e → has_key cmp k e ≡ true → e.address ≤ a → e.address ≤ b)
-      → ((e : Entry K V) → IsIn v.entries e → has_key cmp k e ≡ true → e.address ≤ b → e.address ≤ a)
+      → ((e : Entry K V) → IsIn v.log.text e → has_key cmp k e ≡ true → e.address ≤ a → e.address ≤ b)
+      → ((e : Entry K V) → IsIn v.log.text e → has_key cmp k e ≡ true → e.address ≤ b → e.address ≤ a)
       → value a ≡ value b
   same_value a b down up =
       stood_value a
-      ∙ newest-fold cmp join order v.entries traced.rising k a
-      ∙ ap (fold (risen join) None) (filter-same (λ e. nat_le e.address a && has_key cmp k e) (λ e. nat_le e.address b && has_key cmp k e) v.entries
+      ∙ newest-fold cmp join order v.log.text traced.rising k a
+      ∙ ap (fold (risen join) None) (filter-same (λ e. nat_le e.address a && has_key cmp k e) (λ e. nat_le e.address b && has_key cmp k e) v.log.text
       (λ i e h. alike (nat_le e.address a) (nat_le e.address b) (has_key cmp k e)
       (λ own low. le-leb e.address b (down e (record { place = i; here = h }) own (leb-true e.address a low)))
       (λ own low. le-leb e.address a (up e (record { place = i; here = h }) own (leb-true e.address b low)))))
-      ∙ sym (stood_value b ∙ newest-fold cmp join order v.entries traced.rising k b)
+      ∙ sym (stood_value b ∙ newest-fold cmp join order v.log.text traced.rising k b)
     where
       alike : (x y z : Bool) → (z ≡ true → x ≡ true → y ≡ true) → (z ≡ true → y ≡ true → x ≡ true) → (x && z) ≡ (y && z)
       alike true true z f g = refl
@@ -487,21 +487,21 @@ module _ {K V : Type 0} {keeps : Bool} (cmp : K → K → Ordering) (join : V �
       alike false true true f g = absurd (let no : false ≡ true = g refl refl in cc)
       alike false true false f g = refl
 
-  newest_value : (a b : ℕ) → newest cmp v.entries k a ≡ newest cmp v.entries k b → value a ≡ value b
+  newest_value : (a b : ℕ) → newest cmp v.log.text k a ≡ newest cmp v.log.text k b → value a ≡ value b
   newest_value a b same = same_value a b (newest_low cmp code v k order traced a b same) (newest_low cmp code v k order traced b a (sym same))
 
   -- a delta joins its part to what the key had
-  delta_value : (a : ℕ) (d : Entry K V) → newest cmp v.entries k a ≡ Some d → d.delta ≡ true → (parts : Option V) → onto join (value a) parts ≡ onto join (value d.previous) (onto join d.value parts)
+  delta_value : (a : ℕ) (d : Entry K V) → newest cmp v.log.text k a ≡ Some d → d.delta ≡ true → (parts : Option V) → onto join (value a) parts ≡ onto join (value d.previous) (onto join d.value parts)
   delta_value a d is delta parts =
       let w = delta_class cmp code v k order traced a d is in
-      let begun : v.from ≤ d.address = traced.from w.0.place d w.0.here in
+      let begun : v.log.from ≤ d.address = traced.from w.0.place d w.0.here in
       let level : value a ≡ value d.address = same_value a d.address (newest_high cmp code v k order traced a d is) (λ e m own low. (let high = w.2 in omega arith)) in
-      let chain : IsChainFrom d.address v.entries d.address (d ∷ []) = goes (omega arith) w.0 refl (ends (record_falls cmp code v order traced d w.0)) in
-      let own : (x : Entry K V) → IsIn v.entries x → x.address ≡ d.address → d.address ≤ d.address → class_in code v x.key ≡ class_in code v k =
-      λ x m at up. ap (λ (y : Entry K V). class_in code v y.key) (one_address v.entries traced.rising m.place w.0.place x d m.here w.0.here at) ∙ ap (class_in code v) (order.same d.key k w.1) in
+      let chain : IsChainFrom d.address v.log.text d.address (d ∷ []) = goes (omega arith) w.0 refl (ends (record_falls cmp code v order traced d w.0)) in
+      let own : (x : Entry K V) → IsIn v.log.text x → x.address ≡ d.address → d.address ≤ d.address → class_in code v x.key ≡ class_in code v k =
+      λ x m at up. ap (λ (y : Entry K V). class_in code v y.key) (one_address v.log.text traced.rising m.place w.0.place x d m.here w.0.here at) ∙ ap (class_in code v) (order.same d.key k w.1) in
       ap (λ u. onto join u parts) (level ∙ stood_value d.address)
-      ∙ read-chain cmp join order s.joins (class_in code v) same_class class_test v.from d.address begun v.entries traced.rising traced.chained k d.address (d ∷ []) chain own parts
-      ∙ ap (joined_end join s.joins (value_of (newest cmp (stood cmp join v.entries) k d.previous))) (ap (λ l. gathered join l parts) (filter-one (has_key cmp k) d [] true w.1) ∙ one_part)
+      ∙ read-chain cmp join order s.joins (class_in code v) same_class class_test v.log.from d.address begun v.log.text traced.rising traced.chained k d.address (d ∷ []) chain own parts
+      ∙ ap (joined_end join s.joins (value_of (newest cmp (stood cmp join v.log.text) k d.previous))) (ap (λ l. gathered join l parts) (filter-one (has_key cmp k) d [] true w.1) ∙ one_part)
       ∙ ap (λ u. onto join u (onto join d.value parts)) (sym (stood_value d.previous))
     where
       one_part : gathered join (d ∷ []) parts ≡ (onto join d.value parts, None)
@@ -509,7 +509,7 @@ module _ {K V : Type 0} {keeps : Bool} (cmp : K → K → Ordering) (join : V �
 
   pub values_tell : (low a : ℕ) (parts : Option V) (r : ChainResult K V) → ComesTo cmp join code v k low a parts r → onto join (value a) parts ≡ onto join (end_of cmp v k r.position) r.parts
   values_tell low a parts r (found {e = e} is stands high whole) =
-      ap (λ u. onto join u parts) (stood_value a ∙ whole-last join cmp v.entries (λ x. nat_le x.address a && has_key cmp k x) (λ x u. refl) e is whole)
+      ap (λ u. onto join u parts) (stood_value a ∙ whole-last join cmp v.log.text (λ x. nat_le x.address a && has_key cmp k x) (λ x u. refl) e is whole)
   values_tell low a parts r (below {b = b} less is class) = ap (λ u. onto join u parts) (newest_value a b is)
   values_tell low a parts r (joins {d = d} is high delta rest) = delta_value a d is delta parts ∙ values_tell low d.previous (onto join d.value parts) r rest
 
@@ -529,11 +529,11 @@ page_begun bits size begin a shape (inr start) le =
     omega (arith, up, whole, start)
 
 -- so on a device that keeps, the text has begun there
-pub page_up : {K V : Type 0} {keeps : Bool} {code : K → ℕ} (v : RecordsView K V) (low a : ℕ) → IsTraced keeps code v → IsTrue keeps → v.begin ≤ a → first_place v.page_bits (page_at v.page_bits a) ≤ low → v.from ≤ low
+pub page_up : {K V : Type 0} {keeps : Bool} {code : K → ℕ} (v : RecordsView K V) (low a : ℕ) → IsTraced keeps code v → IsTrue keeps → v.log.begin ≤ a → first_place v.log.bits (page_at v.log.bits a) ≤ low → v.log.from ≤ low
 page_up {keeps = keeps} v low a t kept le floor =
-    let begun : v.begin ≤ first_place v.page_bits (page_at v.page_bits a) = page_begun v.page_bits v.record_size v.begin a t.shape t.marked le in
+    let begun : v.log.begin ≤ first_place v.log.bits (page_at v.log.bits a) = page_begun v.log.bits v.record_size v.log.begin a t.shape t.marked le in
     subst (λ (n : ℕ). n ≤ low) (sym (t.begins ∙ by_keeps keeps kept)) (omega arith)
   where
-    by_keeps : (b : Bool) → IsTrue b → text_begin b v.begin v.regions.offsets.closed ≡ v.begin
+    by_keeps : (b : Bool) → IsTrue b → text_begin b v.log.begin v.log.regions.offsets.closed ≡ v.log.begin
     by_keeps true h = refl
     by_keeps false h = absurd (let bad : false ≡ true = h in cc)

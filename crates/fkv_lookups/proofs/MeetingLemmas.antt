@@ -69,15 +69,15 @@ module _ {K V : Type 0} {keeps : Bool} (cmp : K → K → Ordering) (join : V �
   traced = raw-traced cmp join v s.is t
 
   -- what a look-up comes to
-  pub tells : (low : ℕ) → v.from ≤ low → (a : ℕ) → entry_of v (class_in code v k) ≡ Some a → ComesTo cmp join code v k low a None (looked_up cmp join code v low k a)
+  pub tells : (low : ℕ) → v.log.from ≤ low → (a : ℕ) → entry_of v (class_in code v k) ≡ Some a → ComesTo cmp join code v k low a None (looked_up cmp join code v low k a)
   tells low up a entry =
       gathers_on cmp code v k order traced join low up a (falling_from code v low k) (up_chain cmp code v k order traced low up a entry) (leads_class cmp code v k order traced a entry) None
 
   -- and what its first record says of that
-  pub first_tells : (low : ℕ) → v.from ≤ low → (a : ℕ) → entry_of v (class_in code v k) ≡ Some a → StartsAt (newest_above cmp code v low k a) (looked_up cmp join code v low k a)
+  pub first_tells : (low : ℕ) → v.log.from ≤ low → (a : ℕ) → entry_of v (class_in code v k) ≡ Some a → StartsAt (newest_above cmp code v low k a) (looked_up cmp join code v low k a)
   first_tells low up a entry =
       subst (λ p. StartsAt p (looked_up cmp join code v low k a)) (sym (first_is cmp code v k order traced low a))
-      (chain_first cmp join k low v.entries s.valued a (falling_from code v low k) (up_chain cmp code v k order traced low up a entry))
+      (chain_first cmp join k low v.log.text s.valued a (falling_from code v low k) (up_chain cmp code v k order traced low up a entry))
 
   -- ---- how it goes on
   -- where parts were met, it has some in the end
@@ -88,8 +88,8 @@ module _ {K V : Type 0} {keeps : Bool} (cmp : K → K → Ordering) (join : V �
 
   -- with no parts in the end, it is the newest record of the key that it came to, or none above
   abbrev IsAlone : ℕ → ℕ → ChainPosition K V → Type 0
-  IsAlone low a (Found e) = (newest cmp v.entries k a ≡ Some e) × (e.delta ≡ false)
-  IsAlone low a (Below b) = newest cmp v.entries k a ≡ newest cmp v.entries k b
+  IsAlone low a (Found e) = (newest cmp v.log.text k a ≡ Some e) × (e.delta ≡ false)
+  IsAlone low a (Below b) = newest cmp v.log.text k a ≡ newest cmp v.log.text k b
 
   alone : (low a : ℕ) (r : ChainResult K V) → ComesTo cmp join code v k low a None r → r.parts ≡ None → (p : ChainPosition K V) → r.position ≡ p → IsAlone low a p
   alone low a r (found {e = e} is stands high whole) none p at = subst (IsAlone low a) at (is, whole)
@@ -105,7 +105,7 @@ module _ {K V : Type 0} {keeps : Bool} (cmp : K → K → Ordering) (join : V �
       some-onto-none o h = subst IsSome (sym (onto-none join o)) h
 
   -- with parts, the newest is a delta
-  joined : (low a : ℕ) (r : ChainResult K V) → ComesTo cmp join code v k low a None r → (p : V) → r.parts ≡ Some p → (d : Entry K V) × (newest cmp v.entries k a ≡ Some d) × (d.delta ≡ true)
+  joined : (low a : ℕ) (r : ChainResult K V) → ComesTo cmp join code v k low a None r → (p : V) → r.parts ≡ Some p → (d : Entry K V) × (newest cmp v.log.text k a ≡ Some d) × (d.delta ≡ true)
   joined low a r (found is stands high whole) p some = absurd (cc)
   joined low a r (below less is class) p some = absurd (cc)
   joined low a r (joins {d = d} is high delta rest) p some = (d, is, delta)
@@ -113,7 +113,7 @@ module _ {K V : Type 0} {keeps : Bool} (cmp : K → K → Ordering) (join : V �
   -- where it leads below, a record of the class stands
   pub record IsBelowAt (low b : ℕ) : Type 0 where
     pub under : b < low
-    pub class : v.from ≤ b → IsOfClass code v k b
+    pub class : v.log.from ≤ b → IsOfClass code v k b
 
   below_at : (low a : ℕ) (parts : Option V) (r : ChainResult K V) → ComesTo cmp join code v k low a parts r → (b : ℕ) → r.position ≡ Below b → IsBelowAt low b
   below_at low a parts r (found is stands high whole) b same = absurd (cc)
@@ -124,7 +124,7 @@ module _ {K V : Type 0} {keeps : Bool} (cmp : K → K → Ordering) (join : V �
 
   -- ---- the last record of the key
   -- what the key has
-  pub value_tells : (low : ℕ) → v.from ≤ low → (a : ℕ) → entry_of v (class_in code v k) ≡ Some a
+  pub value_tells : (low : ℕ) → v.log.from ≤ low → (a : ℕ) → entry_of v (class_in code v k) ≡ Some a
       → value_of (last_of cmp v.text k) ≡ onto join (end_of cmp v k (looked_up cmp join code v low k a).position) (looked_up cmp join code v low k a).parts
   value_tells low up a entry =
       ap value_of (sym (traced-held cmp code v k order t a entry))
@@ -132,12 +132,12 @@ module _ {K V : Type 0} {keeps : Bool} (cmp : K → K → Ordering) (join : V �
       ∙ values_tell cmp join code v k order t s low a None (looked_up cmp join code v low k a) (tells low up a entry)
 
   -- it is the newest below the entry, with what the key has then
-  last_stands : (a : ℕ) → entry_of v (class_in code v k) ≡ Some a → (o : Option (Entry K V)) → newest cmp v.entries k a ≡ o → last_of cmp v.text k ≡ option_map (having (value_of (last_of cmp v.text k))) o
+  last_stands : (a : ℕ) → entry_of v (class_in code v k) ≡ Some a → (o : Option (Entry K V)) → newest cmp v.log.text k a ≡ o → last_of cmp v.text k ≡ option_map (having (value_of (last_of cmp v.text k))) o
   last_stands a entry o is =
       let p = λ (e : Entry K V). nat_le e.address a && has_key cmp k e in
       let held = traced-held cmp code v k order t a entry in
-      let there : newest cmp v.text k a ≡ option_map (having (value_of (newest cmp v.text k a))) (newest cmp v.entries k a) =
-      subst (λ (es : List (Entry K V)). newest cmp es k a ≡ option_map (having (value_of (newest cmp es k a))) (newest cmp v.entries k a)) (sym s.is) (stood-last cmp join v.entries p (λ e w. refl)) in
+      let there : newest cmp v.text k a ≡ option_map (having (value_of (newest cmp v.text k a))) (newest cmp v.log.text k a) =
+      subst (λ (es : List (Entry K V)). newest cmp es k a ≡ option_map (having (value_of (newest cmp es k a))) (newest cmp v.log.text k a)) (sym s.is) (stood-last cmp join v.log.text p (λ e w. refl)) in
       subst (λ (l : Option (Entry K V)). l ≡ option_map (having (value_of l)) o) held (there ∙ ap (option_map (having (value_of (newest cmp v.text k a)))) is)
 
   pub record IsFoundAt (e : Entry K V) : Type 0 where
@@ -152,12 +152,12 @@ module _ {K V : Type 0} {keeps : Bool} (cmp : K → K → Ordering) (join : V �
       let one = alone low a r g none (Found e) at in
       let held = traced-held cmp code v k order t a entry in
       let value : value_of (newest cmp v.text k a) ≡ e.value =
-      ap (λ (es : List (Entry K V)). value_of (newest cmp es k a)) s.is ∙ whole-last join cmp v.entries p (λ x w. refl) e one.0 one.1 in
+      ap (λ (es : List (Entry K V)). value_of (newest cmp es k a)) s.is ∙ whole-last join cmp v.log.text p (λ x w. refl) e one.0 one.1 in
       let last : last_of cmp v.text k ≡ Some e = last_stands a entry (Some e) one.0 ∙ ap (λ u. Some (having u e)) (ap value_of (sym held) ∙ value) in
       record { last = last; stands = entry_at-in v.text t.rising e (last_where-in (has_key cmp k) v.text e last) e.address refl; whole = one.1 }
 
   -- none stands where the look-up came below Begin
-  none_at : (low a : ℕ) (r : ChainResult K V) → ComesTo cmp join code v k low a None r → entry_of v (class_in code v k) ≡ Some a → r.parts ≡ None → (b : ℕ) → r.position ≡ Below b → b < v.begin → last_of cmp v.text k ≡ None
+  none_at : (low a : ℕ) (r : ChainResult K V) → ComesTo cmp join code v k low a None r → entry_of v (class_in code v k) ≡ Some a → r.parts ≡ None → (b : ℕ) → r.position ≡ Below b → b < v.log.begin → last_of cmp v.text k ≡ None
   none_at low a r g entry none b at under =
       let one = alone low a r g none (Below b) at in
       let from = from_first t in
@@ -172,9 +172,9 @@ module _ {K V : Type 0} {keeps : Bool} (cmp : K → K → Ordering) (join : V �
   -- and so is what stands below an address that is frozen
   still_below : (low a : ℕ) (r : ChainResult K V) → ComesTo cmp join code v k low a None r → entry_of v (class_in code v k) ≡ Some a → r.parts ≡ None → (b : ℕ) → r.position ≡ Below b → (safe : ℕ) → b < safe
       → IsStill safe (last_of cmp v.text k)
-  still_below low a r g entry none b at safe under = by_newest (newest cmp v.entries k a) refl
+  still_below low a r g entry none b at safe under = by_newest (newest cmp v.log.text k a) refl
     where
-      by_newest : (o : Option (Entry K V)) → newest cmp v.entries k a ≡ o → IsStill safe (last_of cmp v.text k)
+      by_newest : (o : Option (Entry K V)) → newest cmp v.log.text k a ≡ o → IsStill safe (last_of cmp v.text k)
       by_newest None is = subst (IsStill safe) (sym (last_stands a entry None is)) tt
       by_newest (Some d) is =
           let one = alone low a r g none (Below b) at in
@@ -182,81 +182,81 @@ module _ {K V : Type 0} {keeps : Bool} (cmp : K → K → Ordering) (join : V �
           subst (IsStill safe) (sym (last_stands a entry (Some d) is)) (inr (inr (omega arith)))
 
   -- all records of the key stand at or below the entry's address
-  held_low : (a : ℕ) → entry_of v (class_in code v k) ≡ Some a → (e : Entry K V) → IsIn v.entries e → has_key cmp k e ≡ true → e.address ≤ a
-  held_low a entry e m own = by_newest (newest cmp v.entries k a) refl
+  held_low : (a : ℕ) → entry_of v (class_in code v k) ≡ Some a → (e : Entry K V) → IsIn v.log.text e → has_key cmp k e ≡ true → e.address ≤ a
+  held_low a entry e m own = by_newest (newest cmp v.log.text k a) refl
     where
-      last : newest cmp v.entries k a ≡ last_of cmp v.entries k
+      last : newest cmp v.log.text k a ≡ last_of cmp v.log.text k
       last = traced-held cmp code (raw v) k order traced a entry
 
-      by_newest : (o : Option (Entry K V)) → newest cmp v.entries k a ≡ o → e.address ≤ a
-      by_newest None is = absurd (let no = none-passes (has_key cmp k) v.entries (sym last ∙ is) m.place e m.here in let bad : true ≡ false = sym own ∙ no in cc)
+      by_newest : (o : Option (Entry K V)) → newest cmp v.log.text k a ≡ o → e.address ≤ a
+      by_newest None is = absurd (let no = none-passes (has_key cmp k) v.log.text (sym last ∙ is) m.place e m.here in let bad : true ≡ false = sym own ∙ no in cc)
       by_newest (Some d) is =
-          let high = highest (has_key cmp k) v.entries d traced.rising (sym last ∙ is) m.place e m.here own in
+          let high = highest (has_key cmp k) v.log.text d traced.rising (sym last ∙ is) m.place e m.here own in
           let low = (delta_class cmp code v k order traced a d is).2 in
           omega arith
 
-  module _ (slot : ℕ) (entered : is_entered v.regions.epochs slot ≡ true) where
+  module _ (slot : ℕ) (entered : is_entered v.log.regions.epochs slot ≡ true) where
     pub view : View
-    view = view_at v.regions.views slot
+    view = view_at v.log.regions.views slot
 
-    agrees : ViewAgrees v.regions.offsets (view_at v.regions.views slot)
-    agrees = let e = at_epoch (slice_get v.regions.epochs.slots slot) entered in t.regions.agree.agree.each slot e.0 e.1
+    agrees : ViewAgrees v.log.regions.offsets (view_at v.log.regions.views slot)
+    agrees = let e = at_epoch (slice_get v.log.regions.epochs.slots slot) entered in t.regions.agree.agree.each slot e.0 e.1
 
-    up : v.from ≤ low_of v.begin (view_at v.regions.views slot)
+    up : v.log.from ≤ low_of v.log.begin (view_at v.log.regions.views slot)
     up =
-        let head = low_head v.begin (view_at v.regions.views slot) in
+        let head = low_head v.log.begin (view_at v.log.regions.views slot) in
         let closed = agrees.closed in
-        begun v (low_of v.begin (view_at v.regions.views slot)) t (omega arith) (low_begin v.begin (view_at v.regions.views slot))
+        begun v (low_of v.log.begin (view_at v.log.regions.views slot)) t (omega arith) (low_begin v.log.begin (view_at v.log.regions.views slot))
 
     -- what is met says what the key holds
-    pub held-at : IsHeld (met_at cmp join code v (view_at v.regions.views slot) k) (value_of (last_of cmp v.text k))
+    pub held-at : IsHeld (met_at cmp join code v (view_at v.log.regions.views slot) k) (value_of (last_of cmp v.text k))
     held-at = by_entry (entry_of v (class_in code v k)) refl
       where
-        by_entry : (o : Option ℕ) → entry_of v (class_in code v k) ≡ o → IsHeld (met_from cmp join code v (view_at v.regions.views slot) k o) (value_of (last_of cmp v.text k))
+        by_entry : (o : Option ℕ) → entry_of v (class_in code v k) ≡ o → IsHeld (met_from cmp join code v (view_at v.log.regions.views slot) k o) (value_of (last_of cmp v.text k))
         by_entry None entry = ap value_of (traced-none cmp code v k order t entry)
         by_entry (Some a) entry =
-            let low = low_of v.begin (view_at v.regions.views slot) in
+            let low = low_of v.log.begin (view_at v.log.regions.views slot) in
             let r = looked_up cmp join code v low k a in
             let has = value_tells low up a entry in
-            held-met join v.begin (view_at v.regions.views slot) (Some a) r (value_of (last_of cmp v.text k)) (λ none. absurd (cc))
+            held-met join v.log.begin (view_at v.log.regions.views slot) (Some a) r (value_of (last_of cmp v.text k)) (λ none. absurd (cc))
             (λ e is. has ∙ ap (λ (p : ChainPosition K V). onto join (end_of cmp v k p) r.parts) is)
             (λ b is under.
             let from = from_first t in
             has ∙ ap (λ (p : ChainPosition K V). onto join (end_of cmp v k p) r.parts) is ∙ ap (λ (o : Option (Entry K V)). onto join (value_of o) r.parts) (newest_below cmp code v k order t b (omega arith)))
 
     -- a value is met in the region of the key's last record
-    met-in : (o : Option ℕ) → entry_of v (class_in code v k) ≡ o → (m : LookupResult V) → met_from cmp join code v (view_at v.regions.views slot) k o ≡ m → (w : V) (g : Region)
-        → ((a : ℕ) (r : ChainResult K V) → met_by join (Some a) v.begin (view_at v.regions.views slot) r ≡ m → IsMetIn join v.begin (view_at v.regions.views slot) r w g)
+    met-in : (o : Option ℕ) → entry_of v (class_in code v k) ≡ o → (m : LookupResult V) → met_from cmp join code v (view_at v.log.regions.views slot) k o ≡ m → (w : V) (g : Region)
+        → ((a : ℕ) (r : ChainResult K V) → met_by join (Some a) v.log.begin (view_at v.log.regions.views slot) r ≡ m → IsMetIn join v.log.begin (view_at v.log.regions.views slot) r w g)
         → (NoEntry ≡ m → ⊥)
-        → IsMetAt cmp join code v (view_at v.regions.views slot) k w g
+        → IsMetAt cmp join code v (view_at v.log.regions.views slot) k w g
     met-in None entry m is w g there none = absurd (none is)
     met-in (Some a) entry m is w g there none =
-        let low = low_of v.begin (view_at v.regions.views slot) in
+        let low = low_of v.log.begin (view_at v.log.regions.views slot) in
         let r = looked_up cmp join code v low k a in
         let i = there a r is in
         let f = found_at low a r (tells low up a entry) entry i.parts i.entry i.is in
         let whole : r ≡ record { parts = None; position = Found i.entry } = λ j. record { parts = i.parts j; position = i.is j } in
         record { entry = i.entry; address = a; leads = entry; reached = whole; last = f.last; stands = f.stands; whole = f.whole; value = i.value; region = i.region }
 
-    pub mutable-at : (w : V) → met_at cmp join code v (view_at v.regions.views slot) k ≡ Mutable w → IsMetAt cmp join code v (view_at v.regions.views slot) k w region.Mutable
-    mutable-at w is = met-in (entry_of v (class_in code v k)) refl (Mutable w) is w region.Mutable (λ a r h. mutable-met join v.begin (view_at v.regions.views slot) (Some a) r w h) (λ h. cc)
+    pub mutable-at : (w : V) → met_at cmp join code v (view_at v.log.regions.views slot) k ≡ Mutable w → IsMetAt cmp join code v (view_at v.log.regions.views slot) k w region.Mutable
+    mutable-at w is = met-in (entry_of v (class_in code v k)) refl (Mutable w) is w region.Mutable (λ a r h. mutable-met join v.log.begin (view_at v.log.regions.views slot) (Some a) r w h) (λ h. cc)
 
-    pub fuzzy-at : (w : V) → met_at cmp join code v (view_at v.regions.views slot) k ≡ Fuzzy w → IsMetAt cmp join code v (view_at v.regions.views slot) k w region.Fuzzy
-    fuzzy-at w is = met-in (entry_of v (class_in code v k)) refl (Fuzzy w) is w region.Fuzzy (λ a r h. fuzzy-met join v.begin (view_at v.regions.views slot) (Some a) r w h) (λ h. cc)
+    pub fuzzy-at : (w : V) → met_at cmp join code v (view_at v.log.regions.views slot) k ≡ Fuzzy w → IsMetAt cmp join code v (view_at v.log.regions.views slot) k w region.Fuzzy
+    fuzzy-at w is = met-in (entry_of v (class_in code v k)) refl (Fuzzy w) is w region.Fuzzy (λ a r h. fuzzy-met join v.log.begin (view_at v.log.regions.views slot) (Some a) r w h) (λ h. cc)
 
     -- what lies on disk
-    pub disk-at : (b : ℕ) (parts : Option V) → met_at cmp join code v (view_at v.regions.views slot) k ≡ OnDisk b parts → IsWanted cmp join code v k b parts
+    pub disk-at : (b : ℕ) (parts : Option V) → met_at cmp join code v (view_at v.log.regions.views slot) k ≡ OnDisk b parts → IsWanted cmp join code v k b parts
     disk-at b parts is = by_entry (entry_of v (class_in code v k)) refl is
       where
-        by_entry : (o : Option ℕ) → entry_of v (class_in code v k) ≡ o → met_from cmp join code v (view_at v.regions.views slot) k o ≡ OnDisk b parts → IsWanted cmp join code v k b parts
+        by_entry : (o : Option ℕ) → entry_of v (class_in code v k) ≡ o → met_from cmp join code v (view_at v.log.regions.views slot) k o ≡ OnDisk b parts → IsWanted cmp join code v k b parts
         by_entry None entry is = absurd (cc)
         by_entry (Some a) entry is =
-            let low = low_of v.begin (view_at v.regions.views slot) in
+            let low = low_of v.log.begin (view_at v.log.regions.views slot) in
             let r = looked_up cmp join code v low k a in
             let g = tells low up a entry in
-            let d = disk-met join v.begin (view_at v.regions.views slot) (Some a) r b parts is in
+            let d = disk-met join v.log.begin (view_at v.log.regions.views slot) (Some a) r b parts is in
             let w = below_at low a None r g b d.is in
-            let under = low_under v.begin (view_at v.regions.views slot) b w.under d.high in
+            let under = low_under v.log.begin (view_at v.log.regions.views slot) b w.under d.high in
             let head = agrees.head in
             let safe = t.regions.agree.in_order.head in
             record {
@@ -264,52 +264,52 @@ module _ {K V : Type 0} {keeps : Bool} (cmp : K → K → Ordering) (join : V �
               low = omega arith;
               newest = value_tells low up a entry ∙ ap (λ (p : ChainPosition K V). onto join (end_of cmp v k p) r.parts) d.is ∙ ap (onto join (value_of (newest cmp v.text k b))) d.parts;
               between = λ e m own above. between_tells cmp code v k order traced join low a None r g e m own (held_low a entry e m own) (subst (λ (p : ChainPosition K V). at_of p < e.address) (sym d.is) above);
-              still = by_parts r g entry d.is r.parts refl v.regions.offsets.safe_read_only (omega arith);
+              still = by_parts r g entry d.is r.parts refl v.log.regions.offsets.safe_read_only (omega arith);
               class = w.class;
               entry = rw entry refl;
             }
           where
-            by_parts : (r : ChainResult K V) → ComesTo cmp join code v k (low_of v.begin (view_at v.regions.views slot)) a None r → entry_of v (class_in code v k) ≡ Some a → r.position ≡ Below b
+            by_parts : (r : ChainResult K V) → ComesTo cmp join code v k (low_of v.log.begin (view_at v.log.regions.views slot)) a None r → entry_of v (class_in code v k) ≡ Some a → r.position ≡ Below b
                 → (o : Option V) → r.parts ≡ o → (safe : ℕ) → b < safe → IsStill safe (last_of cmp v.text k)
-            by_parts r g entry at None none safe under = still_below (low_of v.begin (view_at v.regions.views slot)) a r g entry none b at safe under
-            by_parts r g entry at (Some p) some safe under = still_delta (low_of v.begin (view_at v.regions.views slot)) a r g entry p some safe
+            by_parts r g entry at None none safe under = still_below (low_of v.log.begin (view_at v.log.regions.views slot)) a r g entry none b at safe under
+            by_parts r g entry at (Some p) some safe under = still_delta (low_of v.log.begin (view_at v.log.regions.views slot)) a r g entry p some safe
 
     -- the source of an update that asks for its new value is still
-    pub still-at : (by_region : IsByRegion) → (met_at cmp join code v (view_at v.regions.views slot) k ≡ NoValue) ⊎ ((w : V) × (met_at cmp join code v (view_at v.regions.views slot) k ≡ ReadOnly w))
-        → IsStill v.regions.offsets.safe_read_only (last_of cmp v.text k)
+    pub still-at : (by_region : IsByRegion) → (met_at cmp join code v (view_at v.log.regions.views slot) k ≡ NoValue) ⊎ ((w : V) × (met_at cmp join code v (view_at v.log.regions.views slot) k ≡ ReadOnly w))
+        → IsStill v.log.regions.offsets.safe_read_only (last_of cmp v.text k)
     still-at by_region is = by_entry (entry_of v (class_in code v k)) refl is
       where
-        still-found : (e : Entry K V) → last_of cmp v.text k ≡ Some e → (e.value ≡ None) ⊎ (e.delta ≡ true) ⊎ (e.address < v.regions.offsets.safe_read_only) → IsStill v.regions.offsets.safe_read_only (last_of cmp v.text k)
+        still-found : (e : Entry K V) → last_of cmp v.text k ≡ Some e → (e.value ≡ None) ⊎ (e.delta ≡ true) ⊎ (e.address < v.log.regions.offsets.safe_read_only) → IsStill v.log.regions.offsets.safe_read_only (last_of cmp v.text k)
         still-found e last h = rw last h
 
         by_entry : (o : Option ℕ) → entry_of v (class_in code v k) ≡ o
-            → (met_from cmp join code v (view_at v.regions.views slot) k o ≡ NoValue) ⊎ ((w : V) × (met_from cmp join code v (view_at v.regions.views slot) k o ≡ ReadOnly w))
-            → IsStill v.regions.offsets.safe_read_only (last_of cmp v.text k)
+            → (met_from cmp join code v (view_at v.log.regions.views slot) k o ≡ NoValue) ⊎ ((w : V) × (met_from cmp join code v (view_at v.log.regions.views slot) k o ≡ ReadOnly w))
+            → IsStill v.log.regions.offsets.safe_read_only (last_of cmp v.text k)
         by_entry None entry is = rw (traced-none cmp code v k order t entry) tt
         by_entry (Some a) entry (inl none) =
-            let low = low_of v.begin (view_at v.regions.views slot) in
+            let low = low_of v.log.begin (view_at v.log.regions.views slot) in
             let r = looked_up cmp join code v low k a in
             let g = tells low up a entry in
-            let absent = absent-met join v.begin (view_at v.regions.views slot) (Some a) r none in
+            let absent = absent-met join v.log.begin (view_at v.log.regions.views slot) (Some a) r none in
             elim absent.1 [
               | inl dead ↦ (let f = found_at low a r g entry absent.0 dead.0 dead.1 in still-found dead.0 f.last (inl dead.2))
               | inr ended ↦ rw (none_at low a r g entry absent.0 ended.0 ended.1 ended.2) tt
             ]
         by_entry (Some a) entry (inr value) =
-            let low = low_of v.begin (view_at v.regions.views slot) in
+            let low = low_of v.log.begin (view_at v.log.regions.views slot) in
             let r = looked_up cmp join code v low k a in
             let g = tells low up a entry in
-            elim (frozen-met join v.begin (view_at v.regions.views slot) (Some a) r value.0 value.1) [
+            elim (frozen-met join v.log.begin (view_at v.log.regions.views slot) (Some a) r value.0 value.1) [
               | inl m ↦
                   (let i = m.2 in
                   let f = found_at low a r g entry i.parts i.entry i.is in
-                  let e = at_epoch (slice_get v.regions.epochs.slots slot) entered in
-                  let frozen = by_region.frozen v.regions slot e.0 i.entry.address t.regions.agree e.1 (elim m.1 [ inl g ↦ inl (i.region ∙ g) | inr g ↦ inr (i.region ∙ g) ]) in
+                  let e = at_epoch (slice_get v.log.regions.epochs.slots slot) entered in
+                  let frozen = by_region.frozen v.log.regions slot e.0 i.entry.address t.regions.agree e.1 (elim m.1 [ inl g ↦ inl (i.region ∙ g) | inr g ↦ inr (i.region ∙ g) ]) in
                   still-found i.entry f.last (inr (inr frozen)))
-              | inr j ↦ still_delta low a r g entry j.part j.parts v.regions.offsets.safe_read_only
+              | inr j ↦ still_delta low a r g entry j.part j.parts v.log.regions.offsets.safe_read_only
             ]
 
 -- what is mutable by a session's view is not frozen
-pub unfrozen-at : {K V : Type 0} {keeps : Bool} {code : K → ℕ} (by_region : IsByRegion) (v : RecordsView K V) (slot : ℕ) → IsTraced keeps code v → is_entered v.regions.epochs slot ≡ true
-    → (a : ℕ) → region_of (view_at v.regions.views slot) a ≡ region.Mutable → v.regions.offsets.safe_read_only ≤ a
-unfrozen-at by_region v slot t entered a is = let e = at_epoch (slice_get v.regions.epochs.slots slot) entered in by_region.mutable v.regions slot e.0 a t.regions.agree e.1 is
+pub unfrozen-at : {K V : Type 0} {keeps : Bool} {code : K → ℕ} (by_region : IsByRegion) (v : RecordsView K V) (slot : ℕ) → IsTraced keeps code v → is_entered v.log.regions.epochs slot ≡ true
+    → (a : ℕ) → region_of (view_at v.log.regions.views slot) a ≡ region.Mutable → v.log.regions.offsets.safe_read_only ≤ a
+unfrozen-at by_region v slot t entered a is = let e = at_epoch (slice_get v.log.regions.epochs.slots slot) entered in by_region.mutable v.log.regions slot e.0 a t.regions.agree e.1 is

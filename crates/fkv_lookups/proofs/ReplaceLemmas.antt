@@ -33,11 +33,11 @@ module _ {K V : Type 0} (cmp : K → K → Ordering) (join : V → V → V) wher
           let own : value ≡ d.value = whole-last join cmp es p blind d h (ap (λ (x : Entry K V). x.delta) same ∙ whole) in
           h ∙ ap Some (ap (λ v. having v d) (sym own) ∙ same)
 
-  pub replaceable-raw : (v : RecordsView K V) (a : ℕ) → v.text ≡ stood cmp join v.entries → IsReplaceable cmp v a → IsReplaceable cmp (raw v) a
+  pub replaceable-raw : (v : RecordsView K V) (a : ℕ) → v.text ≡ stood cmp join v.log.text → IsReplaceable cmp v a → IsReplaceable cmp (raw v) a
   replaceable-raw v a is r = record {
     entry = r.entry;
-    here = whole-entry v.entries (λ x. x.address == a) (λ e w. refl) r.entry (rw is at r.here) r.whole;
-    last = whole-entry v.entries (has_key cmp r.entry.key) (λ e w. refl) r.entry (rw is at r.last) r.whole;
+    here = whole-entry v.log.text (λ x. x.address == a) (λ e w. refl) r.entry (rw is at r.here) r.whole;
+    last = whole-entry v.log.text (has_key cmp r.entry.key) (λ e w. refl) r.entry (rw is at r.last) r.whole;
     some = r.some;
     whole = r.whole;
   }

@@ -55,19 +55,19 @@ begin_low false begin closed = by_closed (nat_le begin closed) refl
     by_closed false h = omega arith
 
 -- the text begins no lower than Begin
-pub from_first : {K V : Type 0} {keeps : Bool} {code : K → ℕ} {v : RecordsView K V} → IsTraced keeps code v → v.begin ≤ v.from
-from_first {keeps = keeps} {v = v} t = subst (λ n. v.begin ≤ n) (sym t.begins) (begin_low keeps v.begin v.regions.offsets.closed)
+pub from_first : {K V : Type 0} {keeps : Bool} {code : K → ℕ} {v : RecordsView K V} → IsTraced keeps code v → v.log.begin ≤ v.log.from
+from_first {keeps = keeps} {v = v} t = subst (λ n. v.log.begin ≤ n) (sym t.begins) (begin_low keeps v.log.begin v.log.regions.offsets.closed)
 
-pub tail_from : {K V : Type 0} {keeps : Bool} {code : K → ℕ} {v : RecordsView K V} → IsTraced keeps code v → 64 ≤ v.tail
+pub tail_from : {K V : Type 0} {keeps : Bool} {code : K → ℕ} {v : RecordsView K V} → IsTraced keeps code v → 64 ≤ v.log.tail
 tail_from {v = v} t =
-    let low = low_tail v.page_bits v.record_size v.from v.tail v.text t.laid_out in
+    let low = low_tail v.log.bits v.record_size v.log.from v.log.tail v.text t.laid_out in
     let begin = from_first t in
     omega (arith, t.first)
 
 -- ---- the records as pages spell them
 -- the records, each with its own value
 abbrev pub raw : {K V : Type 0} → RecordsView K V → RecordsView K V
-raw v = record v { text = v.entries }
+raw v = record v { text = v.log.text }
 
 -- what is kept does not speak of values
 traced-alike : {K V : Type 0} {keeps : Bool} {code : K → ℕ} (v : RecordsView K V) (text : List (Entry K V))
@@ -81,18 +81,18 @@ traced-alike {code = code} v text same t = record {
   first = t.first;
   marked = t.marked;
   begins = t.begins;
-  laid_out = alike-laid_out v.page_bits v.record_size v.from v.tail v.text text same t.laid_out;
+  laid_out = alike-laid_out v.log.bits v.record_size v.log.from v.log.tail v.text text same t.laid_out;
   rising = alike-rising v.text text same t.rising;
-  from = alike-from v.from v.text text same t.from;
-  below = alike-below v.tail v.text text same t.below;
+  from = alike-from v.log.from v.text text same t.from;
+  below = alike-below v.log.tail v.text text same t.below;
   regions = t.regions;
   flushed = t.flushed;
   gone = t.gone;
   held = t.held;
-  chained = alike-chained (class_in code v) same_class v.from v.text text same t.chained;
+  chained = alike-chained (class_in code v) same_class v.log.from v.text text same t.chained;
   buckets = t.buckets;
   map = t.map;
-  leads = λ c. alike-leads (class_in code v) same_class v.from v.text text same c (leads_to (entry_of v c)) (t.leads c);
+  leads = λ c. alike-leads (class_in code v) same_class v.log.from v.text text same c (leads_to (entry_of v c)) (t.leads c);
   placed = t.placed;
 }
 
@@ -100,7 +100,7 @@ pub traced-raw : {K V : Type 0} {keeps : Bool} {code : K → ℕ} {cmp : K → K
     → IsTraced keeps code v
     → IsStood cmp join v
     → IsTraced keeps code (raw v)
-traced-raw {cmp = cmp} {join = join} {v = v} t s = traced-alike v v.entries (rw s.is (alike_back cmp join v.entries)) t
+traced-raw {cmp = cmp} {join = join} {v = v} t s = traced-alike v v.log.text (rw s.is (alike_back cmp join v.log.text)) t
 
 -- the same of what a log is seen as
 pub log-raw : {K V : Type 0} {keeps : Bool} {code : K → ℕ} (cmp : K → K → Ordering) (join : V → V → V) (p k size : ℕ) (words : List (List Word)) (l : LogView K V)
@@ -301,18 +301,18 @@ traced-value {keeps = keeps} {code = code} v a value t = record {
   first = t.first;
   marked = t.marked;
   begins = t.begins;
-  laid_out = laid_out-changed a value v.page_bits v.record_size v.from v.tail v.text t.laid_out;
+  laid_out = laid_out-changed a value v.log.bits v.record_size v.log.from v.log.tail v.text t.laid_out;
   rising = rising-changed a value v.text t.rising;
-  from = from-changed a value v.from v.text t.from;
-  below = below-changed a value v.tail v.text t.below;
+  from = from-changed a value v.log.from v.text t.from;
+  below = below-changed a value v.log.tail v.text t.below;
   regions = t.regions;
   flushed = t.flushed;
   gone = t.gone;
   held = t.held;
-  chained = chained-changed a value (class_in code v) same_class v.from v.text t.chained;
+  chained = chained-changed a value (class_in code v) same_class v.log.from v.text t.chained;
   buckets = t.buckets;
   map = t.map;
-  leads = λ c. leads-changed a value (class_in code v) same_class v.from v.text c (leads_to (entry_of v c)) (t.leads c);
+  leads = λ c. leads-changed a value (class_in code v) same_class v.log.from v.text c (leads_to (entry_of v c)) (t.leads c);
   placed = t.placed;
 }
 
@@ -337,11 +337,11 @@ placed-by false tail next p low rises (inr some) = inr (some.0, omega (arith, so
 
 -- what a log says of its text, and that the text is chained
 pub record IsTextOf {K V : Type 0} (code : K → ℕ) (w : RecordsView K V) : Type 0 where
-  pub laid_out : IsLaidOut w.page_bits w.record_size w.from w.tail w.text
+  pub laid_out : IsLaidOut w.log.bits w.record_size w.log.from w.log.tail w.text
   pub rising : IsRising w.text
-  pub from : IsFrom w.from w.text
-  pub below : IsBelow w.tail w.text
-  pub chained : IsChained (class_in code w) same_class w.from w.text
+  pub from : IsFrom w.log.from w.text
+  pub below : IsBelow w.log.tail w.text
+  pub chained : IsChained (class_in code w) same_class w.log.from w.text
 
 -- what a record that is written stands for: a value for itself, and a part joined with what the key had
 rises-to : {K V : Type 0} (join : V → V → V) (held : Option V) (a previous : ℕ) (key : K) (payload : Payload V)
@@ -388,11 +388,11 @@ module _ {K V : Type 0} (cmp : K → K → Ordering) (join : V → V → V) (p k
         let w : RecordsView K V = with_written (view_of cmp join p k size old words) e key payload has in
         let same : AreAlike (old.text ++ written ∷ []) w.text = rw (← written-append) (alike cmp join (old.text ++ written ∷ [])) in
         record {
-          laid_out = alike-laid_out w.page_bits w.record_size w.from w.tail (old.text ++ written ∷ []) w.text same l.laid_out;
+          laid_out = alike-laid_out w.log.bits w.record_size w.log.from w.log.tail (old.text ++ written ∷ []) w.text same l.laid_out;
           rising = alike-rising (old.text ++ written ∷ []) w.text same l.rising;
-          from = alike-from w.from (old.text ++ written ∷ []) w.text same l.from;
-          below = alike-below w.tail (old.text ++ written ∷ []) w.text same l.below;
-          chained = alike-chained (class_in code w) same_class w.from (old.text ++ written ∷ []) w.text same chained;
+          from = alike-from w.log.from (old.text ++ written ∷ []) w.text same l.from;
+          below = alike-below w.log.tail (old.text ++ written ∷ []) w.text same l.below;
+          chained = alike-chained (class_in code w) same_class w.log.from (old.text ++ written ∷ []) w.text same chained;
         }
 
 -- and what an index says of its words once an entry has moved
@@ -417,14 +417,14 @@ moved-there c p w a old new bucket tag sets map buckets = record {
 pub traced-record : {K V : Type 0} {keeps : Bool} {code : K → ℕ} (v : RecordsView K V) (e : IndexEntry) (key : K) (payload : Payload V) (has : Option V)
     → IsTraced keeps code v
     → IsTextOf code (with_written v e key payload has)
-    → AreMoved (class_in code v key) v.tail v.words (with_written v e key payload has).words
+    → AreMoved (class_in code v key) v.log.tail v.words (with_written v e key payload has).words
     → IsTraced keeps code (with_written v e key payload has)
 traced-record {K} {V} {keeps} {code} v e key payload has t new moved =
     let c : Class = class_in code v key in
     let w : RecordsView K V = with_written v e key payload has in
-    let x : Entry K V = record { address = v.tail; previous = address_of e.word; key = key; value = has; delta = is_part payload } in
+    let x : Entry K V = record { address = v.log.tail; previous = address_of e.word; key = key; value = has; delta = is_part payload } in
     let rises = new.below (length v.text) x (get-append_last v.text x) in
-    let entry = entry-set v.words w.words c v.tail moved.sets in
+    let entry = entry-set v.words w.words c v.log.tail moved.sets in
     record {
       partition_bits = t.partition_bits;
       bucket_bits = t.bucket_bits;
@@ -446,13 +446,13 @@ traced-record {K} {V} {keeps} {code} v e key payload has t new moved =
       leads = λ d.
           let last : last_of_class (class_in code v) same_class (v.text ++ x ∷ []) d ≡ cond (same_class c d) (Some x) (last_of_class (class_in code v) same_class v.text d) =
           last_where-append (has_class (class_in code v) same_class d) v.text x in
-          rw (last, entry d) (leads-by v.from (same_class c d) x (last_of_class (class_in code v) same_class v.text d) (entry_of v d) (t.leads d));
-      placed = λ d. rw (entry d) (placed-by (same_class c d) v.tail _ (entry_of v d) (tail_from t) rises (t.placed d));
+          rw (last, entry d) (leads-by v.log.from (same_class c d) x (last_of_class (class_in code v) same_class v.text d) (entry_of v d) (t.leads d));
+      placed = λ d. rw (entry d) (placed-by (same_class c d) v.log.tail _ (entry_of v d) (tail_from t) rises (t.placed d));
     }
 
 -- ---- what an entry says of the keys of its class
-pub leads_of : {K V : Type 0} {keeps : Bool} {code : K → ℕ} {v : RecordsView K V} → IsTraced keeps code v → (c : Class) (a : ℕ) → entry_of v c ≡ Some a → Leads v.from (last_of_class (class_in code v) same_class v.text c) a
-leads_of {K} {V} {keeps} {code} {v} t c a entry = subst (λ p. Leads v.from (last_of_class (class_in code v) same_class v.text c) (leads_to p)) entry (t.leads c)
+pub leads_of : {K V : Type 0} {keeps : Bool} {code : K → ℕ} {v : RecordsView K V} → IsTraced keeps code v → (c : Class) (a : ℕ) → entry_of v c ≡ Some a → Leads v.log.from (last_of_class (class_in code v) same_class v.text c) a
+leads_of {K} {V} {keeps} {code} {v} t c a entry = subst (λ p. Leads v.log.from (last_of_class (class_in code v) same_class v.text c) (leads_to p)) entry (t.leads c)
 
 above_in : {K V : Type 0} (a : ℕ) (xs : List (Entry K V)) → AllAbove a xs → (i : ℕ) (x : Entry K V) → slice_get xs i ≡ Some x → a < x.address
 above_in a [] h i x e = absurd (cc)
@@ -512,7 +512,7 @@ module _ {K V : Type 0} {keeps : Bool} (cmp : K → K → Ordering) (code : K �
         last = e;
         is = h;
         high = highest (has_class (class_in code v) same_class (class_in code v k)) v.text t.rising e h m.place x m.here own;
-        entry = subst (λ (l : Option (Entry K V)). Leads v.from l (leads_to (entry_of v (class_in code v k)))) h (t.leads (class_in code v k));
+        entry = subst (λ (l : Option (Entry K V)). Leads v.log.from l (leads_to (entry_of v (class_in code v k)))) h (t.leads (class_in code v k));
       }
 
   pub traced-held : (a : ℕ) → entry_of v (class_in code v k) ≡ Some a → newest cmp v.text k a ≡ last_of cmp v.text k
@@ -539,10 +539,10 @@ module _ {K V : Type 0} {keeps : Bool} (cmp : K → K → Ordering) (code : K �
           let there : 1 ≡ at.last.address = sym (ap leads_to entry) ∙ at.entry in
           absurd (let begin = from_first t in omega (arith, t.first))
 
-pub traced-low : {K V : Type 0} {keeps : Bool} {code : K → ℕ} (v : RecordsView K V) (c : Class) (a : ℕ) → IsTraced keeps code v → entry_of v c ≡ Some a → a < v.tail
+pub traced-low : {K V : Type 0} {keeps : Bool} {code : K → ℕ} (v : RecordsView K V) (c : Class) (a : ℕ) → IsTraced keeps code v → entry_of v c ≡ Some a → a < v.log.tail
 traced-low v c a t entry =
     let some = tail_from t in
-    elim (subst (λ p. IsPrevious v.tail (leads_to p)) entry (t.placed c)) [ inl one ↦ omega arith | inr placed ↦ omega (arith, placed.1) ]
+    elim (subst (λ p. IsPrevious v.log.tail (leads_to p)) entry (t.placed c)) [ inl one ↦ omega arith | inr placed ↦ omega (arith, placed.1) ]
 
 -- the index leads to the last records
 pub traced-led : {K V : Type 0} {keeps : Bool} (cmp : K → K → Ordering) (code : K → ℕ) (v : RecordsView K V) → IsKeyOrder cmp → IsTraced keeps code v → IsLed cmp (class_in code v) (indexed v)

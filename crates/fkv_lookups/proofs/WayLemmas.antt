@@ -33,7 +33,7 @@ use Rattle.fkv_lookups.proofs.LookupLemmas.FirstComesTo.{first_found, first_belo
 pub record IsOnWay {K V : Type 0} (cmp : K → K → Ordering) (join : V → V → V) (code : K → ℕ) (v : RecordsView K V) (k : K) (low entry : ℕ) (parts : Option V) (position : ChainPosition K V) : Type 0 where
   pub at : ℕ
   pub rest : List (Entry K V)
-  pub chain : IsChainFrom low v.entries at rest
+  pub chain : IsChainFrom low v.log.text at rest
   pub first : position ≡ first_on cmp k at rest
   pub same : looked_up cmp join code v low k entry ≡ over cmp join k parts at rest
 
@@ -81,14 +81,14 @@ module _ {K V : Type 0} (cmp : K → K → Ordering) (join : V → V → V) (tex
       by_key false own rest = passes cmp join k parts a e es own ∙ rest (rw own at is) parts
 
 module _ {K V : Type 0} (cmp : K → K → Ordering) (join : V → V → V) (code : K → ℕ) (v : RecordsView K V) (k : K) (low entry : ℕ) (parts : Option V) (position : ChainPosition K V) (w : IsOnWay cmp join code v k low entry parts position) where
-  way-met : (d : Entry K V) → position ≡ Found d → IsMetOn cmp join v.entries k low w.at w.rest d
-  way-met d is = met_on cmp join v.entries k low w.at w.rest w.chain d (sym w.first ∙ is)
+  way-met : (d : Entry K V) → position ≡ Found d → IsMetOn cmp join v.log.text k low w.at w.rest d
+  way-met d is = met_on cmp join v.log.text k low w.at w.rest w.chain d (sym w.first ∙ is)
 
   -- past a delta
-  pub way-chain : (d : Entry K V) → position ≡ Found d → (es : List (Entry K V)) × IsChainFrom low v.entries d.previous es
+  pub way-chain : (d : Entry K V) → position ≡ Found d → (es : List (Entry K V)) × IsChainFrom low v.log.text d.previous es
   way-chain d is = let m = way-met d is in (m.rest, m.chain)
 
-  pub way-on : (d : Entry K V) → position ≡ Found d → d.delta ≡ true → (next : ChainPosition K V) → ((es : List (Entry K V)) → IsChainFrom low v.entries d.previous es → next ≡ first_on cmp k d.previous es)
+  pub way-on : (d : Entry K V) → position ≡ Found d → d.delta ≡ true → (next : ChainPosition K V) → ((es : List (Entry K V)) → IsChainFrom low v.log.text d.previous es → next ≡ first_on cmp k d.previous es)
       → IsOnWay cmp join code v k low entry (onto join d.value parts) next
   way-on d is delta next reads =
       let m = way-met d is in
@@ -104,11 +104,11 @@ module _ {K V : Type 0} (cmp : K → K → Ordering) (join : V → V → V) (cod
           ∙ sym (w.same ∙ (way-met d is).stops (none d is) parts)
       by_position (Below b) is =
           ap (λ (p : ChainPosition K V). record { parts = parts; position = p }) is
-          ∙ sym (w.same ∙ below_on cmp join v.entries k low w.at w.rest b (sym w.first ∙ is) parts)
+          ∙ sym (w.same ∙ below_on cmp join v.log.text k low w.at w.rest b (sym w.first ∙ is) parts)
 
 -- the way falls
 module _ {K V : Type 0} {keeps : Bool} (cmp : K → K → Ordering) (join : V → V → V) (code : K → ℕ) (v : RecordsView K V) (k : K) (order : IsKeyOrder cmp) (t : IsTraced keeps code (raw v)) (low entry : ℕ) where
-  first_low : (a : ℕ) (es : List (Entry K V)) → IsChainFrom low v.entries a es → at_of (first_on cmp k a es) ≤ a
+  first_low : (a : ℕ) (es : List (Entry K V)) → IsChainFrom low v.log.text a es → at_of (first_on cmp k a es) ≤ a
   first_low a es (ends less) = omega arith
   first_low a es (goes {e = e} {es = ds} high here is on) = by_key (has_key cmp k e) refl (first_low e.previous ds on)
     where
@@ -117,7 +117,7 @@ module _ {K V : Type 0} {keeps : Bool} (cmp : K → K → Ordering) (join : V �
       by_key false own rest = rw own (let falls = record_falls cmp code v order t e here in omega (arith, is, rest, falls))
 
   pub way-falls : (parts : Option V) (position : ChainPosition K V) → IsOnWay cmp join code v k low entry parts position
-      → (d : Entry K V) → position ≡ Found d → (next : ChainPosition K V) → ((es : List (Entry K V)) → IsChainFrom low v.entries d.previous es → next ≡ first_on cmp k d.previous es)
+      → (d : Entry K V) → position ≡ Found d → (next : ChainPosition K V) → ((es : List (Entry K V)) → IsChainFrom low v.log.text d.previous es → next ≡ first_on cmp k d.previous es)
       → at_of next < at_of position
   way-falls parts position w d is next reads =
       let m = way-met cmp join code v k low entry parts position w d is in
@@ -128,7 +128,7 @@ module _ {K V : Type 0} {keeps : Bool} (cmp : K → K → Ordering) (join : V �
       omega (arith, falls, down, there, here)
 
   -- where it begins
-  pub way-begins : (first : ChainPosition K V) → v.from ≤ low → entry_of v (class_in code v k) ≡ Some entry → first ≡ newest_above cmp code v low k entry → IsOnWay cmp join code v k low entry None first
+  pub way-begins : (first : ChainPosition K V) → v.log.from ≤ low → entry_of v (class_in code v k) ≡ Some entry → first ≡ newest_above cmp code v low k entry → IsOnWay cmp join code v k low entry None first
   way-begins first up leads is = record {
     at = entry;
     rest = falling_from code v low k;
@@ -139,14 +139,14 @@ module _ {K V : Type 0} {keeps : Bool} (cmp : K → K → Ordering) (join : V �
 
 -- ---- in one loaded page, as a device that keeps gave it
 -- each step tells
-pub kept-told : {K V : Type 0} {keeps : Bool} (cmp : K → K → Ordering) (join : V → V → V) (code : K → ℕ) (v : RecordsView K V) (k : K) → IsKeyOrder cmp → IsTraced keeps code v → v.text ≡ stood cmp join v.entries → (low from : ℕ)
+pub kept-told : {K V : Type 0} {keeps : Bool} (cmp : K → K → Ordering) (join : V → V → V) (code : K → ℕ) (v : RecordsView K V) (k : K) → IsKeyOrder cmp → IsTraced keeps code v → v.text ≡ stood cmp join v.log.text → (low from : ℕ)
     → IsTrue keeps
-    → v.begin ≤ from
-    → first_place v.page_bits (page_at v.page_bits from) ≤ low
+    → v.log.begin ≤ from
+    → first_place v.log.bits (page_at v.log.bits from) ≤ low
     → (a : ℕ)
-    → (v.from ≤ a → IsOfClass code v k a)
+    → (v.log.from ≤ a → IsOfClass code v k a)
     → {E : Type 0} (result : Result (ChainPosition K V) E)
-    → ((es : List (Entry K V)) → IsChainFrom low v.entries a es → result ≡ Ok (first_on cmp k a es))
+    → ((es : List (Entry K V)) → IsChainFrom low v.log.text a es → result ≡ Ok (first_on cmp k a es))
     → (r : ChainPosition K V) × (result ≡ Ok r) × FirstComesTo cmp code v k low a r
 kept-told cmp join code v k order t is low from kept begun floor a class result reads =
     step_tells cmp code v k order (raw-traced cmp join v is t) low (page_up v low from t kept begun floor) a class result reads
@@ -159,17 +159,17 @@ pub record IsKeptOn {K V : Type 0} (cmp : K → K → Ordering) (join : V → V 
 
 module _ {K V : Type 0} (cmp : K → K → Ordering) (join : V → V → V) (code : K → ℕ) (v : RecordsView K V) (k : K) (low from : ℕ) (before : Option V) where
   first-met : (a : ℕ) (p : ChainPosition K V) → FirstComesTo cmp code v k low a p → (d : Entry K V) → p ≡ Found d
-      → (newest cmp v.entries k a ≡ Some d) × (entry_at v.entries d.address ≡ Some d) × (low ≤ d.address)
+      → (newest cmp v.log.text k a ≡ Some d) × (entry_at v.log.text d.address ≡ Some d) × (low ≤ d.address)
   first-met a p (first_found {e = e} is stands high) d same =
       let one : e ≡ d = cc in
-      subst (λ (x : Entry K V). (newest cmp v.entries k a ≡ Some x) × (entry_at v.entries x.address ≡ Some x) × (low ≤ x.address)) one (is, stands, high)
+      subst (λ (x : Entry K V). (newest cmp v.log.text k a ≡ Some x) × (entry_at v.log.text x.address ≡ Some x) × (low ≤ x.address)) one (is, stands, high)
   first-met a p (first_below less is class) d same = absurd (cc)
 
   pub kept-begins : (position : ChainPosition K V) → FirstComesTo cmp code v k low from position → IsKeptOn cmp join code v k low from before before position
   kept-begins position told = record { at = from; goes = told; same = λ r g. g }
 
   module _ (parts : Option V) (position : ChainPosition K V) (w : IsKeptOn cmp join code v k low from before parts position) where
-    pub kept-class : {keeps : Bool} → IsKeyOrder cmp → IsTraced keeps code (raw v) → (d : Entry K V) → position ≡ Found d → v.from ≤ d.previous → IsOfClass code v k d.previous
+    pub kept-class : {keeps : Bool} → IsKeyOrder cmp → IsTraced keeps code (raw v) → (d : Entry K V) → position ≡ Found d → v.log.from ≤ d.previous → IsOfClass code v k d.previous
     kept-class order t d is = newest_next cmp code v k order t w.at d (first-met w.at position w.goes d is).0
 
     pub kept-on : (d : Entry K V) → position ≡ Found d → d.delta ≡ true → (next : ChainPosition K V) → FirstComesTo cmp code v k low d.previous next

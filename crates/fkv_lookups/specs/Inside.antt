@@ -12,16 +12,8 @@ abbrev pub view_of : {K V : Type 0} → (K → K → Ordering) → (V → V → 
 view_of cmp join partition_bits bucket_bits record_size log words = record {
   partition_bits = partition_bits;
   bucket_bits = bucket_bits;
-  page_bits = log.bits;
   record_size = record_size;
-  frames = log.frames;
-  begin = log.begin;
-  from = log.from;
-  tail = log.tail;
-  regions = log.regions;
-  receipts = log.receipts;
-  waiting = log.waiting;
-  entries = log.text;
+  log = log;
   text = stood cmp join log.text;
   words = words;
 }

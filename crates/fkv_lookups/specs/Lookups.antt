@@ -15,12 +15,12 @@ use Rattle.fkv_lookups.specs.RecordsViews.{RecordsView, class_in}
 
 -- the records of a key's class at or above an address, the last one first
 abbrev pub falling_from : {K V : Type 0} → (K → ℕ) → RecordsView K V → ℕ → K → List (Entry K V)
-falling_from code v low k = falling (class_in code v) same_class (text_from low v.entries) (class_in code v k)
+falling_from code v low k = falling (class_in code v) same_class (text_from low v.log.text) (class_in code v k)
 
 -- from the address of a class's entry: the last record of the key among those at or above an address, or where the
 -- class's records there lead
 abbrev pub newest_above : {K V : Type 0} → (K → K → Ordering) → (K → ℕ) → RecordsView K V → ℕ → K → ℕ → ChainPosition K V
-newest_above cmp code v low k a = reached (last_of cmp (text_from low v.entries) k) (leads_to a (falling_from code v low k))
+newest_above cmp code v low k a = reached (last_of cmp (text_from low v.log.text) k) (leads_to a (falling_from code v low k))
 
 -- from an address through the records of a class, the last one first: the parts of the key's deltas, and the first record
 -- of the key that is no delta, or where the records lead
@@ -38,7 +38,7 @@ looked_up cmp join code v low k a = gathered_on cmp join k a (falling_from code 
 -- a record of the class of a key stands at an address
 pub record IsOfClass {K V : Type 0} (code : K → ℕ) (v : RecordsView K V) (k : K) (a : ℕ) : Type 0 where
   pub entry : Entry K V
-  pub here : entry_at v.entries a ≡ Some entry
+  pub here : entry_at v.log.text a ≡ Some entry
   pub class : class_in code v entry.key ≡ class_in code v k
 
 -- from an address on, with the parts of the key's records above: the newest record of the key at or below it, where that is
@@ -48,18 +48,18 @@ pub record IsOfClass {K V : Type 0} (code : K → ℕ) (v : RecordsView K V) (k 
 pub data ComesTo {K V : Type 0} (cmp : K → K → Ordering) (join : V → V → V) (code : K → ℕ) (v : RecordsView K V) (k : K)
     (low : ℕ) : ℕ → Option V → ChainResult K V → Type 0 where
   found : {a : ℕ} {parts : Option V} {e : Entry K V}
-      → newest cmp v.entries k a ≡ Some e
-      → entry_at v.entries e.address ≡ Some e
+      → newest cmp v.log.text k a ≡ Some e
+      → entry_at v.log.text e.address ≡ Some e
       → low ≤ e.address
       → e.delta ≡ false
       → ComesTo cmp join code v k low a parts (record { parts = parts; position = Found e })
   below : {a : ℕ} {parts : Option V} {b : ℕ}
       → b < low
-      → newest cmp v.entries k a ≡ newest cmp v.entries k b
-      → (v.from ≤ b → IsOfClass code v k b)
+      → newest cmp v.log.text k a ≡ newest cmp v.log.text k b
+      → (v.log.from ≤ b → IsOfClass code v k b)
       → ComesTo cmp join code v k low a parts (record { parts = parts; position = Below b })
   joins : {a : ℕ} {parts : Option V} {d : Entry K V} {r : ChainResult K V}
-      → newest cmp v.entries k a ≡ Some d
+      → newest cmp v.log.text k a ≡ Some d
       → low ≤ d.address
       → d.delta ≡ true
       → ComesTo cmp join code v k low d.previous (onto join d.value parts) r

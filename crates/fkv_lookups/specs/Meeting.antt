@@ -21,7 +21,7 @@ abbrev pub met_from : {K V : Type 0} → (K → K → Ordering) → (V → V →
     → LookupResult V
 met_from cmp join code v view k None = NoEntry
 met_from cmp join code v view k (Some a) =
-    met_by join (Some a) v.begin view (looked_up cmp join code v (low_of v.begin view) k a)
+    met_by join (Some a) v.log.begin view (looked_up cmp join code v (low_of v.log.begin view) k a)
 
 abbrev pub met_at : {K V : Type 0} → (K → K → Ordering) → (V → V → V) → (K → ℕ) → RecordsView K V → View → K → LookupResult V
 met_at cmp join code v view k = met_from cmp join code v view k (entry_of v (class_in code v k))
@@ -33,7 +33,7 @@ pub record IsMetAt {K V : Type 0} (cmp : K → K → Ordering) (join : V → V �
   pub entry : Entry K V
   pub address : ℕ
   pub leads : entry_of v (class_in code v k) ≡ Some address
-  pub reached : looked_up cmp join code v (low_of v.begin view) k address ≡ record { parts = None; position = Found entry }
+  pub reached : looked_up cmp join code v (low_of v.log.begin view) k address ≡ record { parts = None; position = Found entry }
   pub last : last_of cmp v.text k ≡ Some entry
   pub stands : entry_at v.text entry.address ≡ Some entry
   pub whole : entry.delta ≡ false
@@ -45,10 +45,10 @@ pub record IsMetAt {K V : Type 0} (cmp : K → K → Ordering) (join : V → V �
 -- has not ended, a record of the class stands there
 pub record IsWanted {K V : Type 0} (cmp : K → K → Ordering) (join : V → V → V) (code : K → ℕ) (v : RecordsView K V) (k : K)
     (b : ℕ) (parts : Option V) : Type 0 where
-  pub begun : v.begin ≤ b
-  pub low : b < v.regions.offsets.head
+  pub begun : v.log.begin ≤ b
+  pub low : b < v.log.regions.offsets.head
   pub newest : value_of (last_of cmp v.text k) ≡ onto join (value_of (newest cmp v.text k b)) parts
-  pub between : (e : Entry K V) → IsIn v.entries e → has_key cmp k e ≡ true → b < e.address → e.delta ≡ true
-  pub still : IsStill v.regions.offsets.safe_read_only (last_of cmp v.text k)
-  pub class : v.from ≤ b → IsOfClass code v k b
+  pub between : (e : Entry K V) → IsIn v.log.text e → has_key cmp k e ≡ true → b < e.address → e.delta ≡ true
+  pub still : IsStill v.log.regions.offsets.safe_read_only (last_of cmp v.text k)
+  pub class : v.log.from ≤ b → IsOfClass code v k b
   pub entry : IsSome (entry_of v (class_in code v k))

@@ -1,15 +1,14 @@
 -- What a contract sees of the records of a partition.
-use Rattle.std.specs.Prelude.{◌≡◌, ◌+◌, ◌^◌, ◌<◌, ◌≤◌, ℕ, Bool, IsTrue, List, [], ◌∷◌, ◌++◌, Option, Some, None, IsSome, option_map, false}
-use Rattle.std.specs.Prelude.{drop, replicate, map}
+use Rattle.std.specs.Prelude.{◌≡◌, ◌^◌, ℕ, Bool, IsTrue, List, [], ◌∷◌, ◌++◌, Option, Some, None, IsSome, option_map, false}
+use Rattle.std.specs.Prelude.{replicate, map}
 use Rattle.std.specs.declared.cmp.Ordering.{Ordering}
-use Rattle.fkv_records.specs.Places.{page_at, offset_at, start_at}
 use Rattle.fkv_device.specs.Standing.{Standing}
-use Rattle.fkv_hybrid.specs.Views.{text_begin, let_go, LogView}
+use Rattle.fkv_hybrid.specs.Views.{LogView, empty_log, with_entry}
+use Rattle.fkv_hybrid.specs.Views as logs
 use Rattle.fkv_texts.specs.declared.entries.Entry.{Entry}
-use Rattle.fkv_texts.specs.Places.{tail_after}
-use Rattle.fkv_texts.specs.Text.{changed, text_from}
+use Rattle.fkv_texts.specs.Text.{changed}
 use Rattle.fkv_texts.specs.Text as text
-use Rattle.fkv_regions.specs.RegionsView.{RegionsView, fresh_regions, with_flushed}
+use Rattle.fkv_regions.specs.RegionsView.{RegionsView}
 use Rattle.fkv_index.specs.declared.words.Word.{Word}
 use Rattle.fkv_index.specs.declared.places.Place.{Place}
 use Rattle.fkv_index.specs.Words.{empty, final_word, tentative_word, address_of, tag_of, is_final, swept}
@@ -24,55 +23,24 @@ use Rattle.fkv_operations.specs.declared.entries.IndexEntry.{IndexEntry}
 use Rattle.fkv_operations.specs.Classes.{class_at}
 use Rattle.fkv_operations.specs.KeptWords.{IndexedText}
 
--- The records of one of 2 ^ partition_bits partitions, whose classes have 2 ^ bucket_bits buckets: what a log is seen as,
--- with its regions, its sessions and what each has seen of them, and its pages' receipts; and the words of an index,
--- bucket by bucket. `entries` are the records as pages spell them, `text` the same records, each with what its key has
--- once it stands: a delta is joined with what the key had.
+-- The records of one of 2 ^ partition_bits partitions, whose classes have 2 ^ bucket_bits buckets: their log, whose text
+-- has the records as pages spell them; `text`, the same records, each with what its key has once it stands: a delta is
+-- joined with what the key had; and the words of an index, bucket by bucket.
 pub record RecordsView (K V : Type 0) : Type 0 where
   pub partition_bits : ℕ
   pub bucket_bits : ℕ
-  pub page_bits : ℕ
   pub record_size : ℕ
-  pub frames : ℕ
-  pub begin : ℕ
-  pub from : ℕ
-  pub tail : ℕ
-  pub regions : RegionsView
-  pub receipts : List (Option Standing)
-  pub waiting : List (List ℕ)
-  pub entries : List (Entry K V)
+  pub log : LogView K V
   pub text : List (Entry K V)
   pub words : List (List Word)
-
--- the log of the records
-abbrev pub log_of : {K V : Type 0} → RecordsView K V → LogView K V
-log_of v = record {
-  bits = v.page_bits;
-  frames = v.frames;
-  begin = v.begin;
-  from = v.from;
-  tail = v.tail;
-  regions = v.regions;
-  receipts = v.receipts;
-  waiting = v.waiting;
-  text = v.entries;
-}
 
 -- no records, no sessions and no entries
 abbrev pub empty_records : {K V : Type 0} → ℕ → ℕ → ℕ → ℕ → ℕ → RecordsView K V
 empty_records partition_bits bucket_bits page_bits record_size frames = record {
   partition_bits = partition_bits;
   bucket_bits = bucket_bits;
-  page_bits = page_bits;
   record_size = record_size;
-  frames = frames;
-  begin = 64;
-  from = 64;
-  tail = 64;
-  regions = fresh_regions page_bits;
-  receipts = [];
-  waiting = [];
-  entries = [];
+  log = empty_log page_bits frames;
   text = [];
   words = replicate (2 ^ bucket_bits) (replicate 7 empty);
 }
@@ -84,9 +52,9 @@ class_in code v k = class_at v.partition_bits v.bucket_bits (code k)
 -- the records and the words of the index over them
 abbrev pub indexed : {K V : Type 0} → RecordsView K V → IndexedText K V
 indexed v = record {
-  begin = v.begin;
-  frozen = v.regions.offsets.safe_read_only;
-  tail = v.tail;
+  begin = v.log.begin;
+  frozen = v.log.regions.offsets.safe_read_only;
+  tail = v.log.tail;
   text = v.text;
   words = v.words;
 }
@@ -119,15 +87,14 @@ pub record WasEntryOf {K V : Type 0} (v : RecordsView K V) (c : Class) (e : Inde
 -- tombstone, and whether it is a delta
 abbrev pub record_for : {K V : Type 0} → RecordsView K V → IndexEntry → K → Option V → Bool → Entry K V
 record_for v e key value delta =
-    record { address = v.tail; previous = address_of e.word; key = key; value = value; delta = delta }
+    record { address = v.log.tail; previous = address_of e.word; key = key; value = value; delta = delta }
 
 -- with a record of this payload, by which its key has this value, or none, and the entry moved to it
 abbrev pub with_written : {K V : Type 0} → RecordsView K V → IndexEntry → K → Payload V → Option V → RecordsView K V
 with_written v e key payload has = record v {
-  entries = v.entries ++ record_for v e key (value_in payload) (is_part payload) ∷ [];
+  log = with_entry v.record_size v.log (address_of e.word) key (value_in payload) (is_part payload);
   text = v.text ++ record_for v e key has (is_part payload) ∷ [];
-  tail = tail_after v.page_bits v.record_size v.tail;
-  words = with_word v.words e.place (final_word (tag_of e.word) v.tail);
+  words = with_word v.words e.place (final_word (tag_of e.word) v.log.tail);
 }
 
 -- with a record of a value, or a tombstone
@@ -145,11 +112,11 @@ pub record IsReplaceable {K V : Type 0} (cmp : K → K → Ordering) (v : Record
 
 -- with another value in the record at an address, which is the last of its key and no delta, or with a tombstone there
 abbrev pub with_value : {K V : Type 0} → RecordsView K V → ℕ → Option V → RecordsView K V
-with_value v a value = record v { entries = changed v.entries a value; text = changed v.text a value }
+with_value v a value = record v { log = logs.with_value v.log a value; text = changed v.text a value }
 
 -- with these regions
 abbrev pub with_regions : {K V : Type 0} → RecordsView K V → RegionsView → RecordsView K V
-with_regions v regions = record v { regions = regions }
+with_regions v regions = record v { log = logs.with_regions v.log regions }
 
 -- a tentative entry is made for a class, at the first empty place of its bucket
 pub record Claims {K V : Type 0} (old new : RecordsView K V) (c : Class) (p : Place) : Type 0 where
@@ -167,53 +134,29 @@ released v p = record v { words = with_word v.words p empty }
 
 -- with the lowest waiting page flushed, by this receipt
 abbrev pub with_receipt : {K V : Type 0} → RecordsView K V → Standing → RecordsView K V
-with_receipt v s = record v {
-  receipts = v.receipts ++ Some s ∷ [];
-  waiting = drop 1 v.waiting;
-  regions = with_flushed v.regions (v.regions.flushed + 1);
-}
+with_receipt v s = record v { log = logs.with_receipt v.log s }
 
--- with these regions, by which more may be frozen and closed: more pages may wait to be flushed, and the records begin no
--- lower than where frames are closed, unless the device keeps; each is then in this text with what its key has
+-- with these regions, by which more may be frozen and closed, as the log then is; each record is then in this text with
+-- what its key has
 abbrev pub moved : {K V : Type 0} → Bool → RecordsView K V → RegionsView → List (List ℕ) → List (Entry K V)
     → RecordsView K V
-moved keeps v regions more text = record v {
-  regions = regions;
-  from = text_begin keeps v.begin regions.offsets.closed;
-  waiting = v.waiting ++ more;
-  entries = text_from (text_begin keeps v.begin regions.offsets.closed) v.entries;
-  text = text;
-}
+moved keeps v regions more text = record v { log = logs.moved keeps v.log regions more; text = text }
 
 -- the regions have become these, and the records followed; on a device that keeps, the text stays
 pub record IsMoved {K V : Type 0} (keeps : Bool) (regions : RegionsView) (old new : RecordsView K V) : Type 0 where
   pub more : List (List ℕ)
   pub is : new ≡ moved keeps old regions more new.text
   pub kept : IsTrue keeps → new.text ≡ old.text
-  pub entries : IsTrue keeps → new.entries ≡ old.entries
+  pub entries : IsTrue keeps → new.log.text ≡ old.log.text
 
--- when Begin may move to the start of a page: it rises, no higher than Head
-pub record IsTruncationDue {K V : Type 0} (v : RecordsView K V) (page : ℕ) : Type 0 where
-  pub higher : v.begin < start_at v.page_bits page
-  pub headed : start_at v.page_bits page ≤ v.regions.offsets.head
-
--- with the records below an address dropped, the receipts of the pages below its own let go, and the entries emptied that
--- lead below it; each record is then in this text with what its key has
+-- with the log cut at an address, and the entries emptied that lead below it; each record is then in this text with what
+-- its key has
 abbrev pub truncated : {K V : Type 0} → Bool → RecordsView K V → ℕ → List (Entry K V) → RecordsView K V
 truncated keeps v begin text = record v {
-  begin = begin;
-  from = text_begin keeps begin v.regions.offsets.closed;
-  receipts = let_go (page_at v.page_bits begin) v.receipts;
-  entries = text_from (text_begin keeps begin v.regions.offsets.closed) v.entries;
+  log = logs.truncated keeps v.log begin;
   text = text;
   words = map (map (swept begin)) v.words;
 }
-
--- no room: the next record needs a page whose frame is still in use
-pub record IsFull {K V : Type 0} (v : RecordsView K V) : Type 0 where
-  pub more : v.tail < 2 ^ 48
-  pub begins : offset_at v.page_bits v.tail ≡ 0
-  pub taken : page_at v.page_bits v.regions.offsets.closed + v.frames ≤ page_at v.page_bits v.tail
 
 -- words change at one place alone, and no place goes
 pub record ChangesAt (p : Place) (old new : List (List Word)) : Type 0 where

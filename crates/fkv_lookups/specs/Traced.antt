@@ -29,38 +29,38 @@ pub record AreRegionsBelow (page_bits begin tail : ℕ) (regions : RegionsView) 
 pub record IsTraced {K V : Type 0} (keeps : Bool) (code : K → ℕ) (v : RecordsView K V) : Type 0 where
   pub partition_bits : v.partition_bits ≤ 6
   pub bucket_bits : v.bucket_bits ≤ 20
-  pub shape : IsShape v.page_bits v.record_size
-  pub first : 64 ≤ v.begin
+  pub shape : IsShape v.log.bits v.record_size
+  pub first : 64 ≤ v.log.begin
   -- Begin is the first place, or starts a page
-  pub marked : IsMark v.page_bits v.begin
+  pub marked : IsMark v.log.bits v.log.begin
   -- the text begins at Begin on a device that keeps, else no lower than where frames are closed
-  pub begins : v.from ≡ text_begin keeps v.begin v.regions.offsets.closed
-  pub laid_out : IsLaidOut v.page_bits v.record_size v.from v.tail v.text
+  pub begins : v.log.from ≡ text_begin keeps v.log.begin v.log.regions.offsets.closed
+  pub laid_out : IsLaidOut v.log.bits v.record_size v.log.from v.log.tail v.text
   pub rising : IsRising v.text
-  pub from : IsFrom v.from v.text
-  pub below : IsBelow v.tail v.text
-  pub regions : AreRegionsBelow v.page_bits v.begin v.tail v.regions
+  pub from : IsFrom v.log.from v.text
+  pub below : IsBelow v.log.tail v.text
+  pub regions : AreRegionsBelow v.log.bits v.log.begin v.log.tail v.log.regions
   -- each flushed page has its receipt, but for those below that of Begin, of which none is held
-  pub flushed : v.regions.flushed ≡ length v.receipts
-  pub gone : (page : ℕ) → page < page_at v.page_bits v.begin → receipt_at v.receipts page ≡ None
+  pub flushed : v.log.regions.flushed ≡ length v.log.receipts
+  pub gone : (page : ℕ) → page < page_at v.log.bits v.log.begin → receipt_at v.log.receipts page ≡ None
   pub held : (page : ℕ)
-      → page_at v.page_bits v.begin ≤ page
-      → page < length v.receipts
-      → HasReceipt v.receipts page
-  pub chained : IsChained (class_in code v) same_class v.from v.text
+      → page_at v.log.bits v.log.begin ≤ page
+      → page < length v.log.receipts
+      → HasReceipt v.log.receipts page
+  pub chained : IsChained (class_in code v) same_class v.log.from v.text
   -- the final entries are a map from class to address
   pub buckets : length v.words ≡ 2 ^ v.bucket_bits
   pub map : IsIndexMap v.words
   -- the entry of a class leads to the class's last record, and where it has none there is no entry, or it leads below
   -- where the text begins
   pub leads : (c : Class)
-      → Leads v.from (last_of_class (class_in code v) same_class v.text c) (leads_to (entry_of v c))
+      → Leads v.log.from (last_of_class (class_in code v) same_class v.text c) (leads_to (entry_of v c))
   -- so it can be the previous address of the next record
-  pub placed : (c : Class) → IsPrevious v.tail (leads_to (entry_of v c))
+  pub placed : (c : Class) → IsPrevious v.log.tail (leads_to (entry_of v c))
 
 -- the text has the records, each with what its key has once it stands, in this order of keys and by this join; a delta has a
 -- part, and parts may be joined first
 pub record IsStood {K V : Type 0} (cmp : K → K → Ordering) (join : V → V → V) (v : RecordsView K V) : Type 0 where
-  pub is : v.text ≡ stood cmp join v.entries
-  pub valued : AreValued v.entries
+  pub is : v.text ≡ stood cmp join v.log.text
+  pub valued : AreValued v.log.text
   pub joins : IsAssociative join

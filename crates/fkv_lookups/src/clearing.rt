@@ -23,33 +23,33 @@ pub fn cleared_stay<K, V>()
     // a record is appended
     ensures appended { (cmp : K → K → Ordering) (v : RecordsView K V) (entry : IndexEntry) (key : K) (payload : Payload V)
         (has : Option V) (limit : ℕ)
-        → limit ≤ v.tail
-        → IsCleared cmp v.entries limit
-        → IsCleared cmp (with_written v entry key payload has).entries limit }
+        → limit ≤ v.log.tail
+        → IsCleared cmp v.log.text limit
+        → IsCleared cmp (with_written v entry key payload has).log.text limit }
     // a record above gets another value, or becomes a tombstone
     ensures changed { (cmp : K → K → Ordering) (v : RecordsView K V) (a : ℕ) (value : Option V) (limit : ℕ)
         → limit ≤ a
-        → IsCleared cmp v.entries limit
-        → IsCleared cmp (with_value v a value).entries limit }
+        → IsCleared cmp v.log.text limit
+        → IsCleared cmp (with_value v a value).log.text limit }
     // records below an address are dropped
     ensures dropped { (cmp : K → K → Ordering) (v : RecordsView K V) (low limit : ℕ)
-        → IsCleared cmp v.entries limit
-        → IsCleared cmp (text_from low v.entries) limit }
+        → IsCleared cmp v.log.text limit
+        → IsCleared cmp (text_from low v.log.text) limit }
     // where the record at the limit is superseded too, the limit goes on to the next place
     ensures raised { (keeps : Bool) (cmp : K → K → Ordering) (join : V → V → V) (code : K → ℕ) (v : RecordsView K V)
         (limit : ℕ)
         → IsTraced keeps code v → IsStood cmp join v
-        → IsRecordStart v.page_bits v.record_size limit
-        → limit < v.tail
-        → IsCleared cmp v.entries limit
-        → ((e : Entry K V) → entry_at v.entries limit ≡ Some e → IsSuperseded cmp v.entries e)
-        → IsCleared cmp v.entries (tail_after v.page_bits v.record_size limit) }
+        → IsRecordStart v.log.bits v.record_size limit
+        → limit < v.log.tail
+        → IsCleared cmp v.log.text limit
+        → ((e : Entry K V) → entry_at v.log.text limit ≡ Some e → IsSuperseded cmp v.log.text e)
+        → IsCleared cmp v.log.text (tail_after v.log.bits v.record_size limit) }
     // a record is superseded once a value of its key is appended
     ensures renewed { (keeps : Bool) (cmp : K → K → Ordering) (join : V → V → V) (code : K → ℕ) (v : RecordsView K V)
         (entry : IndexEntry) (limit : ℕ) (e : Entry K V) (value : Option V)
         → IsKeyOrder cmp → IsTraced keeps code v → IsStood cmp join v
-        → entry_at v.entries limit ≡ Some e
-        → IsSuperseded cmp (with_record v entry e.key value).entries e }
+        → entry_at v.log.text limit ≡ Some e
+        → IsSuperseded cmp (with_record v entry e.key value).log.text e }
     // and where its key has that value, no key's value changes by that
     ensures kept { (cmp : K → K → Ordering) (v : RecordsView K V) (entry : IndexEntry) (key : K) (value : Option V)
         → IsKeyOrder cmp
@@ -59,17 +59,17 @@ pub fn cleared_stay<K, V>()
     ensures lowest { (keeps : Bool) (cmp : K → K → Ordering) (join : V → V → V) (code : K → ℕ) (v : RecordsView K V)
         (e : Entry K V)
         → IsKeyOrder cmp → IsTraced keeps code v → IsStood cmp join v
-        → entry_at v.entries e.address ≡ Some e
-        → IsCleared cmp v.entries e.address
-        → (IsCovered cmp v.entries e → ⊥)
+        → entry_at v.log.text e.address ≡ Some e
+        → IsCleared cmp v.log.text e.address
+        → (IsCovered cmp v.log.text e → ⊥)
         → value_of (newest cmp v.text e.key e.address) ≡ e.value }
     // no key's value goes with what is dropped where the text is cleared
     ensures lives { (keeps : Bool) (cmp : K → K → Ordering) (join : V → V → V) (code : K → ℕ) (v : RecordsView K V)
         (low limit : ℕ)
         → IsKeyOrder cmp → IsTraced keeps code v → IsStood cmp join v
-        → IsCleared cmp v.entries limit
+        → IsCleared cmp v.log.text limit
         → low ≤ limit
-        → Same (live cmp (stood cmp join (text_from low v.entries))) (live cmp v.text) }
+        → Same (live cmp (stood cmp join (text_from low v.log.text))) (live cmp v.text) }
 {}
 
 /// What is superseded and cleared, and what is not, shown on small texts.

@@ -15,13 +15,14 @@ ghost use Rattle.std.specs.Prelude.{option_map};
 ghost use Rattle.std.specs.List.{list_any};
 ghost use Rattle.std.specs.Bool.{OnTrue, OnFalse};
 ghost use Rattle.fkv_records.specs.Records.{size_of};
+ghost use Rattle.fkv_hybrid.specs.Views.{IsFull};
 ghost use Rattle.fkv_index.specs.Words.{address_of, tag_of, tentative_word, is_empty, is_tentative};
 ghost use Rattle.fkv_index.specs.Places.{words_of, word_at, IsPlace};
 ghost use Rattle.fkv_index.specs.Entries.{IsAlone};
 ghost use Rattle.fkv_index.specs.Changes.{SameEntries, SameTentative, SetsEntry};
 ghost use Rattle.fkv_operations.specs.declared.classes.Class.{Class};
 ghost use Rattle.fkv_operations.specs.Classes.{IsClass};
-ghost use Rattle.fkv_lookups.specs.RecordsViews.{empty_records, log_of, class_in, entry_of, found_in, IsEntryOf, with_written, Claims, confirmed, released, IsFull};
+ghost use Rattle.fkv_lookups.specs.RecordsViews.{empty_records, class_in, entry_of, found_in, IsEntryOf, with_written, Claims, confirmed, released};
 ghost use Rattle.fkv_lookups.specs.RecordsViews.{ChangesAt};
 ghost use Rattle.fkv_lookups.specs.Traced.{IsTraced, IsStood};
 ghost use Rattle.fkv_lookups.specs.Lookups.{newest_above, looked_up};
@@ -157,8 +158,8 @@ impl<F: Mergeable, R: Receipt> Records<F, R> {
         low: Address,
     ) -> ChainPosition<F::Key, F::Value>
         requires entry { entry_of self.now (class_in F.code self.now key.now) ≡ Some entry }
-        requires in_frames { self.now.regions.offsets.closed ≤ low }
-        requires begin { self.now.begin ≤ low }
+        requires in_frames { self.now.log.regions.offsets.closed ≤ low }
+        requires begin { self.now.log.begin ≤ low }
         ensures { result ≡ newest_above F.Key.cmp F.code self.now low key.now entry }
     {
         chains::<F::Key, F::Value, Class>();
@@ -177,8 +178,8 @@ impl<F: Mergeable, R: Receipt> Records<F, R> {
     ) -> ChainResult<F::Key, F::Value>
         requires entry { entry_of self.now (class_in F.code self.now key.now) ≡ Some entry }
         requires first { first ≡ newest_above F.Key.cmp F.code self.now low key.now entry }
-        requires in_frames { self.now.regions.offsets.closed ≤ low }
-        requires begin { self.now.begin ≤ low }
+        requires in_frames { self.now.log.regions.offsets.closed ≤ low }
+        requires begin { self.now.log.begin ≤ low }
         ensures { result ≡ looked_up F.Key.cmp F.parts.joined F.code self.now low key.now entry }
     {
         let mut parts = None;
@@ -252,17 +253,17 @@ impl<F: Mergeable, R: Receipt> Records<F, R> {
         payload: Payload<F::Value>,
     ) -> Result<Option<Address>, Refused>
         requires { IsEntryOf self.old (class_in F.code self.old key) entry }
-        ensures ok { IfOk result (λ o. IfSome o (λ address. address ≡ self.old.tail)) }
+        ensures ok { IfOk result (λ o. IfSome o (λ address. address ≡ self.old.log.tail)) }
         ensures appended { IfOk result (λ o. IfSome o (λ _.
             self.new ≡ with_written self.old entry key payload
             (standing F.parts.joined (live F.Key.cmp self.old.text key) payload))) }
         ensures entries { IfOk result (λ o. IfSome o (λ _.
-            SetsEntry entry.place.bucket (tag_of entry.word) self.old.tail self.old.words self.new.words)) }
+            SetsEntry entry.place.bucket (tag_of entry.word) self.old.log.tail self.old.words self.new.words)) }
         ensures changes { IfOk result (λ o. IfSome o (λ _. ChangesAt entry.place self.old.words self.new.words)) }
         ensures tentative { IfOk result (λ o. IfSome o (λ _. SameTentative self.old.words self.new.words)) }
-        ensures room { (result ≡ Ok None) ↔ IsFull self.old }
+        ensures room { (result ≡ Ok None) ↔ IsFull self.old.log }
         ensures full { result ≡ Ok None → self.new ≡ self.old }
-        ensures worn { (result ≡ Err Refused.Worn) ↔ (self.old.tail ≡ 2 ^ 48) }
+        ensures worn { (result ≡ Err Refused.Worn) ↔ (self.old.log.tail ≡ 2 ^ 48) }
         ensures only { IfErr result (λ refused. refused ≡ Refused.Worn) }
         ensures unchanged { OnErr result (self.new ≡ self.old) }
     {
@@ -284,14 +285,14 @@ impl<F: Mergeable, R: Receipt> Records<F, R> {
 
     /// Where the records begin that are not dropped.
     pub fn begin(&self) -> Address
-        ensures { result ≡ self.now.begin }
+        ensures { result ≡ self.now.log.begin }
     {
         self.log.begin()
     }
 
     /// The log of the records.
     pub fn log(&self) -> &Log<F::Key, F::Value, R>
-        ensures { result.now ≡ log_of self.now }
+        ensures { result.now ≡ self.now.log }
     {
         &self.log
     }

@@ -63,15 +63,15 @@ keep-moment {keeps = keeps} {cmp = cmp} {join = join} {code = code} v s now = re
 -- ---- what look-ups that wait for a page are to find
 module _ {K V : Type 0} (keeps : Bool) (cmp : K → K → Ordering) (join : V → V → V) (code : K → ℕ) (r : RecordsView K V) (e : IndexEntry) (key : K) (value : Option V) where
   kept-same : (k : K) (l : Loading V) → IsLoading keeps cmp join code r k l → newest cmp (with_record r e key value).text k (address_of l.kept.word) ≡ newest cmp r.text k (address_of l.kept.word)
-  kept-same k l h = newest-below cmp r.text (record { address = r.tail; previous = address_of e.word; key = key; value = value; delta = false }) k (address_of l.kept.word) h.low
+  kept-same k l h = newest-below cmp r.text (record { address = r.log.tail; previous = address_of e.word; key = key; value = value; delta = false }) k (address_of l.kept.word) h.low
 
   pending-same : {I : Type 0} (op : KeyedOp K V I) (p : Phase V) → StandsFor keeps cmp join code r op p → pending_by cmp (with_record r e key value) op p ≡ pending_by cmp r op p
   pending-same op phase.Fresh h = refl
   pending-same op (phase.Confirm q) h = refl
   pending-same op (phase.Prepared b s) h = refl
-  pending-same (Read k i) (phase.Load l) h = ap (λ o. cond (l.begin == r.begin) (Some (record { moment = l.looked; value = value_of o })) None) (kept-same k l h)
+  pending-same (Read k i) (phase.Load l) h = ap (λ o. cond (l.begin == r.log.begin) (Some (record { moment = l.looked; value = value_of o })) None) (kept-same k l h)
   pending-same (Upsert k u) (phase.Load l) h = absurd h
-  pending-same (Rmw k i) (phase.Load l) h = ap (λ o. cond (l.begin == r.begin) (Some (record { moment = l.looked; value = value_of o })) None) (kept-same k l h)
+  pending-same (Rmw k i) (phase.Load l) h = ap (λ o. cond (l.begin == r.log.begin) (Some (record { moment = l.looked; value = value_of o })) None) (kept-same k l h)
   pending-same (Delete k) (phase.Load l) h = absurd h
   pending-same (Merge k i) (phase.Load l) h = absurd h
 
@@ -118,22 +118,22 @@ module _ {K V I : Type 0} {keeps : Bool} (cmp : K → K → Ordering) (join : V 
         ])
 
     -- the record of the place is superseded then
-    pub superseded-again : IsKeyOrder cmp → IsTrue keeps → (d : Entry K V) → entry_at (with_record v.core.records kept e.key e.value).entries x.target ≡ Some d → IsSuperseded cmp (with_record v.core.records kept e.key e.value).entries d
+    pub superseded-again : IsKeyOrder cmp → IsTrue keeps → (d : Entry K V) → entry_at (with_record v.core.records kept e.key e.value).log.text x.target ≡ Some d → IsSuperseded cmp (with_record v.core.records kept e.key e.value).log.text d
     superseded-again order yes_keeps d there =
         let r = v.core.records in
-        let n : Entry K V = record { address = r.tail; previous = address_of kept.word; key = e.key; value = e.value; delta = false } in
+        let n : Entry K V = record { address = r.log.tail; previous = address_of kept.word; key = e.key; value = e.value; delta = false } in
         let frozen = (stands-here v slot c x h s).frozen in
         let o = p.traced.regions.agree.in_order in
-        let low : x.target < r.tail = omega (arith, frozen, o.safe, p.traced.regions.read_only) in
-        let was : entry_at r.entries x.target ≡ Some d = sym (entry_at-old r.entries n x.target (λ same. omega arith)) ∙ there in
-        let at = eqb-true d.address x.target (last_where-found (λ y. y.address == x.target) r.entries d was) in
-        superseded-renewed cmp r.entries order n d (sym (stands.1.own yes_keeps d was)) refl (omega arith)
+        let low : x.target < r.log.tail = omega (arith, frozen, o.safe, p.traced.regions.read_only) in
+        let was : entry_at r.log.text x.target ≡ Some d = sym (entry_at-old r.log.text n x.target (λ same. omega arith)) ∙ there in
+        let at = eqb-true d.address x.target (last_where-found (λ y. y.address == x.target) r.log.text d was) in
+        superseded-renewed cmp r.log.text order n d (sym (stands.1.own yes_keeps d was)) refl (omega arith)
 
     pub event-again : IsKeyOrder cmp → IsRelocating keeps cmp v (again_at v slot c x.target kept e now) slot c now
     event-again order = record {
       same = λ a d. ap (option_map asked_by) (contexts-same a d kept e.key e.value);
       pend = λ yes_keeps. all-pend p kept e.key e.value;
-      live = λ yes_keeps. lives-renewed cmp v.core.records.text order (record { address = v.core.records.tail; previous = address_of kept.word; key = e.key; value = e.value; delta = false }) (held order yes_keeps);
+      live = λ yes_keeps. lives-renewed cmp v.core.records.text order (record { address = v.core.records.log.tail; previous = address_of kept.word; key = e.key; value = e.value; delta = false }) (held order yes_keeps);
       others = λ a d other. ap relocating (context-other (slots_of v.core) v.core.contexts slot c a d None (open-here v slot c x h).low other);
       rises = (past-place v x.target p.traced (stands-here v slot c x h s).place).0;
       number = refl;

@@ -12,7 +12,8 @@ use Rattle.fkv_texts.specs.Deltas.{IsCleared}
 use Rattle.fkv_index.specs.Places.{IsPlace}
 use Rattle.fkv_operations.specs.declared.entries.IndexEntry.{IndexEntry}
 use Rattle.fkv_operations.specs.declared.operations.KeyedOp.{KeyedOp}
-use Rattle.fkv_lookups.specs.RecordsViews.{class_in, with_written, IsTruncationDue}
+use Rattle.fkv_lookups.specs.RecordsViews.{class_in, with_written}
+use Rattle.fkv_hybrid.specs.Views.{IsTruncationDue}
 use Rattle.fkv_lookups.specs.declared.payloads.Payload.{Payload}
 use Rattle.fkv_lookups.specs.declared.payloads.Payload.TheVariants.{Whole}
 use Rattle.fkv_partition.specs.declared.contexts.Progress.{Progress}
@@ -37,7 +38,7 @@ use Rattle.fkv_partition.proofs.PreservedLemmas.{borne-same, borne-record, found
 use Rattle.fkv_partition.proofs.TruncateLemmas.{cleared-below}
 
 module _ {K V I : Type 0} {keeps : Bool} (cmp : K → K → Ordering) (join : V → V → V) (code : K → ℕ) (v : PartitionView K V I) (s : IsPartition keeps cmp join code v) (new : PartitionView K V I)
-    (grows : (e : IndexEntry) (key : K) (payload : Payload V) (has : Option V) (limit : ℕ) → limit ≤ v.core.records.tail → IsCleared cmp v.core.records.entries limit → IsCleared cmp (with_written v.core.records e key payload has).entries limit) where
+    (grows : (e : IndexEntry) (key : K) (payload : Payload V) (has : Option V) (limit : ℕ) → limit ≤ v.core.records.log.tail → IsCleared cmp v.core.records.log.text limit → IsCleared cmp (with_written v.core.records e key payload has).log.text limit) where
   -- the records stay
   same : new.core.records ≡ v.core.records → IsPreserved keeps cmp join code v.core new.core
   same is = borne-same cmp join code v.core s.core new.core is
@@ -131,13 +132,13 @@ module _ {K V I : Type 0} {keeps : Bool} (cmp : K → K → Ordering) (join : V 
 
     module _ (order : IsKeyOrder cmp) (is_partition : IsPartition keeps cmp join code new)
         (goes-bear : (slot c now : ℕ) (result : Result (Progress K V I O R) Refused) → core_going.Goes stands cmp join f code v.core new.core slot c now result → IsPreserved keeps cmp join code v.core new.core)
-        (truncates-bear : (page now : ℕ) (result : Result (Unit {0}) Refused) → (IsTrue keeps → IsTruncationDue v.core.records page → IsCleared cmp v.core.records.entries (start_at v.core.records.page_bits page)) → core_truncating.Truncates keeps v.core new.core page now result → IsPreserved keeps cmp join code v.core new.core) where
+        (truncates-bear : (page now : ℕ) (result : Result (Unit {0}) Refused) → (IsTrue keeps → IsTruncationDue v.core.records.log page → IsCleared cmp v.core.records.log.text (start_at v.core.records.log.bits page)) → core_truncating.Truncates keeps v.core new.core page now result → IsPreserved keeps cmp join code v.core new.core) where
       cuts-bear : (page now : ℕ) (result : Result (Unit {0}) Refused) → Truncates keeps v new page now result → IsPreserved keeps cmp join code v.core new.core
       cuts-bear page now result (Truncates.not_due n is r) = same (ap (λ (u : PartitionView K V I). u.core.records) is)
       cuts-bear page now result (Truncates.truncates due is r) =
           let old = v.core.records in
           truncates-bear page now result
-          (λ yes_keeps at. cleared-below cmp old.entries (start_at old.page_bits page) v.cleared due.cleared (s.compacting.cleared yes_keeps))
+          (λ yes_keeps at. cleared-below cmp old.log.text (start_at old.log.bits page) v.cleared due.cleared (s.compacting.cleared yes_keeps))
           (core_truncating.Truncates.truncates due.due (ap (λ (u : PartitionView K V I). u.core) is) r)
 
       pub event-bears : Event keeps stands spells cmp join f code v new → IsPreserved keeps cmp join code v.core new.core

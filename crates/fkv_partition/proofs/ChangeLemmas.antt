@@ -40,16 +40,16 @@ IsMade w = IsTrue (is_final w) → address_of w < 64
 pub grown-words : {K V : Type 0} (keeps : Bool) (cmp : K → K → Ordering) (join : V → V → V) (code : K → ℕ) (q : Place) (old new : RecordsView K V) → IsReworded old new → ChangesAt q old.words new.words → IsMade (word_at new.words q) → Grows keeps cmp join code old new
 grown-words keeps cmp join code q old new is words made = record {
   class = λ k. ap (λ (r : RecordsView _ _). class_in code r k) is;
-  tail = (let same : new.tail ≡ old.tail = ap (λ (r : RecordsView _ _). r.tail) is in omega arith);
-  safe = (let same : new.regions.offsets.safe_read_only ≡ old.regions.offsets.safe_read_only = ap (λ (r : RecordsView _ _). r.regions.offsets.safe_read_only) is in omega arith);
-  head = (let same : new.regions.offsets.head ≡ old.regions.offsets.head = ap (λ (r : RecordsView _ _). r.regions.offsets.head) is in omega arith);
-  begin = ap (λ (r : RecordsView _ _). r.begin) is;
-  from = (let same : new.from ≡ old.from = ap (λ (r : RecordsView _ _). r.from) is in omega arith);
+  tail = (let same : new.log.tail ≡ old.log.tail = ap (λ (r : RecordsView _ _). r.log.tail) is in omega arith);
+  safe = (let same : new.log.regions.offsets.safe_read_only ≡ old.log.regions.offsets.safe_read_only = ap (λ (r : RecordsView _ _). r.log.regions.offsets.safe_read_only) is in omega arith);
+  head = (let same : new.log.regions.offsets.head ≡ old.log.regions.offsets.head = ap (λ (r : RecordsView _ _). r.log.regions.offsets.head) is in omega arith);
+  begin = ap (λ (r : RecordsView _ _). r.log.begin) is;
+  from = (let same : new.log.from ≡ old.log.from = ap (λ (r : RecordsView _ _). r.log.from) is in omega arith);
   kept = λ keeps k a h still. ap (λ (r : RecordsView _ _). newest cmp r.text k a) is;
-  was = λ e m low. (e, subst (λ (r : RecordsView _ _). IsIn r.entries e) is m, refl, refl, refl);
+  was = λ e m low. (e, subst (λ (r : RecordsView _ _). IsIn r.log.text e) is m, refl, refl, refl);
   same_class = λ k a low begun o. record {
     entry = o.entry;
-    here = ap (λ (r : RecordsView _ _). entry_at r.entries a) is ∙ o.here;
+    here = ap (λ (r : RecordsView _ _). entry_at r.log.text a) is ∙ o.here;
     class = ap (λ (r : RecordsView _ _). class_in code r o.entry.key) is ∙ o.class ∙ sym (ap (λ (r : RecordsView _ _). class_in code r k) is);
   };
   places = words.places;
@@ -117,8 +117,8 @@ module _ {K V I : Type 0} {keeps : Bool} (cmp : K → K → Ordering) (join : V 
       let claimed : IsClaimOf r class q = record { bucket = bucket; word = word } in
       sound-claimed s r slot c now x q traced stood (grown-words keeps cmp join code q v.records r reworded words (tentative-made (word_at r.words q) is)) words
       (ap (λ (w : RecordsView K V). w.partition_bits) reworded)
-      (ap (λ (w : RecordsView K V). w.regions) reworded)
-      (ap (λ (w : RecordsView K V). w.entries) reworded)
+      (ap (λ (w : RecordsView K V). w.log.regions) reworded)
+      (ap (λ (w : RecordsView K V). w.log.text) reworded)
       was is o.here quiet (record { inside = o.inside; low = o.low })
       (record { stands = subst (λ d. IsClaimOf r d q) same claimed; own = own-at cmp join code v s slot c x h; merging = s.merging (slot * 8 + c) x o.here })
 
@@ -137,8 +137,8 @@ module _ {K V I : Type 0} {keeps : Bool} (cmp : K → K → Ordering) (join : V 
       let fits : Fits s r (at_phase x Fresh) = record { stands = tt; own = own-at cmp join code v s slot c x h; merging = s.merging (slot * 8 + c) x o.here } in
       sound-settled s r slot c now x q (Some (OnKey (at_phase x Fresh))) traced stood (grown-words keeps cmp join code q v.records r reworded words made) words
       (ap (λ (w : RecordsView K V). w.partition_bits) reworded)
-      (ap (λ (w : RecordsView K V). w.regions) reworded)
-      (ap (λ (w : RecordsView K V). w.entries) reworded)
+      (ap (λ (w : RecordsView K V). w.log.regions) reworded)
+      (ap (λ (w : RecordsView K V). w.log.text) reworded)
       freed o.here phase refl (record { inside = o.inside; low = o.low })
       (λ z e. (let same : at_phase x Fresh ≡ z = cc in subst (Fits s r) same fits))
 
@@ -156,8 +156,8 @@ module _ {K V I : Type 0} {keeps : Bool} (cmp : K → K → Ordering) (join : V 
       let o = key_at (slots_of v) v.contexts slot c x h in
       sound-settled s r slot c now x q None traced stood (grown-words keeps cmp join code q v.records r reworded words made) words
       (ap (λ (w : RecordsView K V). w.partition_bits) reworded)
-      (ap (λ (w : RecordsView K V). w.regions) reworded)
-      (ap (λ (w : RecordsView K V). w.entries) reworded)
+      (ap (λ (w : RecordsView K V). w.log.regions) reworded)
+      (ap (λ (w : RecordsView K V). w.log.text) reworded)
       freed o.here phase refl (record { inside = o.inside; low = o.low })
       (λ z e. absurd (cc))
 

@@ -118,7 +118,7 @@ superseded-one cmp text place e is superseded yes_keeps d there =
 
 -- what a look-up in memory came to, down to the lowest address that is followed, tells this of the record of a place
 pub told-so : {K V I : Type 0} (cmp : K → K → Ordering) (join : V → V → V) (code : K → ℕ) {u v : PartitionView K V I} (same : u ≡ v) (slot place : ℕ) (key : K) {lowest low : ℕ} {came : ChainResult K V} {told outcome : Liveness V}
-    → lowest ≡ low_of u.core.records.begin (seen_at u.core slot)
+    → lowest ≡ low_of u.core.records.log.begin (seen_at u.core slot)
     → low ≡ higher_of (place + 1) lowest
     → came ≡ reached_from cmp join code u.core slot key low (entry_for code u.core key)
     → told ≡ liveness place came
@@ -176,17 +176,17 @@ module _ {K V : Type 0} (place : ℕ) where
 
 module _ {K V : Type 0} (cmp : K → K → Ordering) (join : V → V → V) (code : K → ℕ) (v : RecordsView K V) (k : K) (low : ℕ) where
   -- a record to which the way comes is one of the key, and no delta
-  pub found-in : (a : ℕ) (parts : Option V) (r : ChainResult K V) → ComesTo cmp join code v k low a parts r → (x : Entry K V) → r.position ≡ Found x → IsIn v.entries x × (has_key cmp k x ≡ true) × (x.delta ≡ false) × (low ≤ x.address)
+  pub found-in : (a : ℕ) (parts : Option V) (r : ChainResult K V) → ComesTo cmp join code v k low a parts r → (x : Entry K V) → r.position ≡ Found x → IsIn v.log.text x × (has_key cmp k x ≡ true) × (x.delta ≡ false) × (low ≤ x.address)
   found-in a parts r (ComesTo.found {e = e} is stands high whole) x at =
       let same : e ≡ x = cc in
       let passes = λ (d : Entry K V). nat_le d.address a && has_key cmp k d in
-      subst (λ (y : Entry K V). IsIn v.entries y × (has_key cmp k y ≡ true) × (y.delta ≡ false) × (low ≤ y.address)) same
-      (last_where-in passes v.entries e is, (and_parts (nat_le e.address a) (has_key cmp k e) (last_where-found passes v.entries e is)).1, whole, high)
+      subst (λ (y : Entry K V). IsIn v.log.text y × (has_key cmp k y ≡ true) × (y.delta ≡ false) × (low ≤ y.address)) same
+      (last_where-in passes v.log.text e is, (and_parts (nat_le e.address a) (has_key cmp k e) (last_where-found passes v.log.text e is)).1, whole, high)
   found-in a parts r (ComesTo.below under is class) x at = absurd (cc)
   found-in a parts r (ComesTo.joins {d = d} is high part more) x at = found-in d.previous (onto join d.value parts) r more x at
 
   -- where it leads out, a record of the key's class stands
-  pub way-class : (a : ℕ) (parts : Option V) (r : ChainResult K V) → ComesTo cmp join code v k low a parts r → (b : ℕ) → r.position ≡ Below b → v.from ≤ b → IsOfClass code v k b
+  pub way-class : (a : ℕ) (parts : Option V) (r : ChainResult K V) → ComesTo cmp join code v k low a parts r → (b : ℕ) → r.position ≡ Below b → v.log.from ≤ b → IsOfClass code v k b
   way-class a parts r (ComesTo.found is stands high whole) b at begins = absurd (cc)
   way-class a parts r (ComesTo.below {b = c} under is class) b at begins = let same : c ≡ b = cc in subst (IsOfClass code v k) same (class (omega (arith, same, begins)))
   way-class a parts r (ComesTo.joins {d = d} is high part more) b at begins = way-class d.previous (onto join d.value parts) r more b at begins
@@ -197,40 +197,40 @@ module _ {K V : Type 0} (cmp : K → K → Ordering) (join : V → V → V) (cod
   way-low a parts r (ComesTo.joins {d = d} is high part more) b at = way-low d.previous (onto join d.value parts) r more b at
 
   -- nobody changes the key's newest record where it leads below what is frozen
-  pub way-still : (safe a : ℕ) (parts : Option V) (r : ChainResult K V) → ComesTo cmp join code v k low a parts r → (b : ℕ) → r.position ≡ Below b → b < safe → IsStill safe (newest cmp v.entries k a)
+  pub way-still : (safe a : ℕ) (parts : Option V) (r : ChainResult K V) → ComesTo cmp join code v k low a parts r → (b : ℕ) → r.position ≡ Below b → b < safe → IsStill safe (newest cmp v.log.text k a)
   way-still safe a parts r (ComesTo.found is stands high whole) b at frozen = absurd (cc)
-  way-still safe a parts r (ComesTo.below {b = c} under is class) b at frozen = let same : c ≡ b = cc in rw is (still-below cmp v.entries k c safe (omega (arith, same, frozen)))
+  way-still safe a parts r (ComesTo.below {b = c} under is class) b at frozen = let same : c ≡ b = cc in rw is (still-below cmp v.log.text k c safe (omega (arith, same, frozen)))
   way-still safe a parts r (ComesTo.joins is high part more) b at frozen = rw is (inr (inl part))
 
 -- ---- down to a place
-module _ {K V : Type 0} {keeps : Bool} (cmp : K → K → Ordering) (join : V → V → V) (code : K → ℕ) (order : IsKeyOrder cmp) (v : RecordsView K V) (t : IsTraced keeps code v) (s : IsStood cmp join v) (place : ℕ) (e : Entry K V) (here : entry_at v.entries place ≡ Some e) where
-  rising : IsRising v.entries
+module _ {K V : Type 0} {keeps : Bool} (cmp : K → K → Ordering) (join : V → V → V) (code : K → ℕ) (order : IsKeyOrder cmp) (v : RecordsView K V) (t : IsTraced keeps code v) (s : IsStood cmp join v) (place : ℕ) (e : Entry K V) (here : entry_at v.log.text place ≡ Some e) where
+  rising : IsRising v.log.text
   rising = rises cmp join v s t
 
   -- where a newer record that is no delta is met
-  pub met-dead : (low a : ℕ) (parts : Option V) (r : ChainResult K V) → ComesTo cmp join code v e.key low a parts r → liveness place r ≡ Superseded → IsSuperseded cmp v.entries e
+  pub met-dead : (low a : ℕ) (parts : Option V) (r : ChainResult K V) → ComesTo cmp join code v e.key low a parts r → liveness place r ≡ Superseded → IsSuperseded cmp v.log.text e
   met-dead low a parts r goes j =
       let d = at-dead place r.parts r.position j in
       let f = found-in cmp join code v e.key low a parts r goes d.0 d.1 in
-      inr (covered-by cmp order v.entries rising place e here d.0 f.0 f.1 f.2 d.2)
+      inr (covered-by cmp order v.log.text rising place e here d.0 f.0 f.1 f.2 d.2)
 
   -- the way leads from a delta to no lower than the place
-  delta-leads : (a : ℕ) (d : Entry K V) → newest cmp v.entries e.key a ≡ Some d → place < d.address → place ≤ d.previous
+  delta-leads : (a : ℕ) (d : Entry K V) → newest cmp v.log.text e.key a ≡ Some d → place < d.address → place ≤ d.previous
   delta-leads a d is above =
       let passes = λ (x : Entry K V). nat_le x.address a && has_key cmp e.key x in
-      let m = last_where-in passes v.entries d is in
-      let own : d.key ≡ e.key = order.same d.key e.key (and_parts (nat_le d.address a) (has_key cmp e.key d) (last_where-found passes v.entries d is)).1 in
-      let st = stands-in cmp order v.entries rising place e here in
-      by_last (last_below (class_in code v) same_class v.entries (class_in code v d.key) d.address) refl ((traced-raw t s).chained m.place d m.here)
+      let m = last_where-in passes v.log.text d is in
+      let own : d.key ≡ e.key = order.same d.key e.key (and_parts (nat_le d.address a) (has_key cmp e.key d) (last_where-found passes v.log.text d is)).1 in
+      let st = stands-in cmp order v.log.text rising place e here in
+      by_last (last_below (class_in code v) same_class v.log.text (class_in code v d.key) d.address) refl ((traced-raw t s).chained m.place d m.here)
     where
       at : e.address ≡ place
-      at = (stands-in cmp order v.entries rising place e here).1
+      at = (stands-in cmp order v.log.text rising place e here).1
 
       before : Entry K V → Bool
       before x = nat_lt x.address d.address && has_class (class_in code v) same_class (class_in code v d.key) x
 
       own-key : d.key ≡ e.key
-      own-key = order.same d.key e.key (and_parts (nat_le d.address a) (has_key cmp e.key d) (last_where-found (λ (x : Entry K V). nat_le x.address a && has_key cmp e.key x) v.entries d is)).1
+      own-key = order.same d.key e.key (and_parts (nat_le d.address a) (has_key cmp e.key d) (last_where-found (λ (x : Entry K V). nat_le x.address a && has_key cmp e.key x) v.log.text d is)).1
 
       is-before : before e ≡ true
       is-before =
@@ -238,14 +238,14 @@ module _ {K V : Type 0} {keeps : Bool} (cmp : K → K → Ordering) (join : V �
           let class : has_class (class_in code v) same_class (class_in code v d.key) e ≡ true = ap (λ q. same_class (class_in code v e.key) (class_in code v q)) own-key ∙ class_test.self (class_in code v e.key) in
           rw (less, class) refl
 
-      by_last : (o : Option (Entry K V)) → last_where before v.entries ≡ o → Leads v.from o d.previous → place ≤ d.previous
+      by_last : (o : Option (Entry K V)) → last_where before v.log.text ≡ o → Leads v.log.from o d.previous → place ≤ d.previous
       by_last None h leads = absurd (
-          let m = (stands-in cmp order v.entries rising place e here).0 in
-          let no = none-passes before v.entries h m.place e m.here in
+          let m = (stands-in cmp order v.log.text rising place e here).0 in
+          let no = none-passes before v.log.text h m.place e m.here in
           let yes = is-before in cc)
       by_last (Some y) h leads =
-          let m = (stands-in cmp order v.entries rising place e here).0 in
-          let up = highest before v.entries rising y h m.place e m.here is-before in
+          let m = (stands-in cmp order v.log.text rising place e here).0 in
+          let up = highest before v.log.text rising y h m.place e m.here is-before in
           let same : d.previous ≡ y.address = leads in
           omega (arith, up, same, at)
 
@@ -254,24 +254,24 @@ module _ {K V : Type 0} {keeps : Bool} (cmp : K → K → Ordering) (join : V �
   lands low a parts r under le (ComesTo.found is stands high whole) b at = absurd (cc)
   lands low a parts r under le (ComesTo.below {b = c} out is class) b at =
       let same : c ≡ b = cc in
-      by_newest (newest cmp v.entries e.key a) refl same
+      by_newest (newest cmp v.log.text e.key a) refl same
     where
       passes : (nat_le e.address a && has_key cmp e.key e) ≡ true
       passes =
-          let at = (stands-in cmp order v.entries rising place e here).1 in
+          let at = (stands-in cmp order v.log.text rising place e here).1 in
           let low : nat_le e.address a ≡ true = grind (arith, nat_tests) in
           let mine : has_key cmp e.key e ≡ true = order.self e.key in
           rw (low, mine) refl
 
-      by_newest : (o : Option (Entry K V)) → newest cmp v.entries e.key a ≡ o → c ≡ b → place ≤ b
+      by_newest : (o : Option (Entry K V)) → newest cmp v.log.text e.key a ≡ o → c ≡ b → place ≤ b
       by_newest None h same = absurd (
-          let m = (stands-in cmp order v.entries rising place e here).0 in
-          let no = none-passes (λ (d : Entry K V). nat_le d.address a && has_key cmp e.key d) v.entries h m.place e m.here in
+          let m = (stands-in cmp order v.log.text rising place e here).0 in
+          let no = none-passes (λ (d : Entry K V). nat_le d.address a && has_key cmp e.key d) v.log.text h m.place e m.here in
           let yes = passes in cc)
       by_newest (Some x) h same =
-          let st = stands-in cmp order v.entries rising place e here in
-          let up = highest (λ (d : Entry K V). nat_le d.address a && has_key cmp e.key d) v.entries rising x h st.0.place e st.0.here passes in
-          let down = newest-low cmp order v.entries rising place e here c x (sym is ∙ h) in
+          let st = stands-in cmp order v.log.text rising place e here in
+          let up = highest (λ (d : Entry K V). nat_le d.address a && has_key cmp e.key d) v.log.text rising x h st.0.place e st.0.here passes in
+          let down = newest-low cmp order v.log.text rising place e here c x (sym is ∙ h) in
           let at = st.1 in
           omega (arith, up, down, at, same)
   lands low a parts r under le (ComesTo.joins {d = d} is high part more) b at =
@@ -279,16 +279,16 @@ module _ {K V : Type 0} {keeps : Bool} (cmp : K → K → Ordering) (join : V �
 
   -- and what its key has from where an entry leads is its own value, joined with the parts above
   pub place-value : (a : ℕ) (parts : Option V)
-      → newest cmp v.entries e.key a ≡ last_of cmp v.entries e.key
-      → ((d : Entry K V) → IsIn v.entries d → has_key cmp e.key d ≡ true → place < d.address → d.address ≤ a → d.delta ≡ true)
-      → IsCleared cmp v.entries place
+      → newest cmp v.log.text e.key a ≡ last_of cmp v.log.text e.key
+      → ((d : Entry K V) → IsIn v.log.text d → has_key cmp e.key d ≡ true → place < d.address → d.address ≤ a → d.delta ≡ true)
+      → IsCleared cmp v.log.text place
       → value_of (newest cmp v.text e.key a) ≡ onto join (value_of (newest cmp v.text e.key place)) parts
       → value_of (newest cmp v.text e.key a) ≡ onto join e.value parts
   place-value a parts held deltas clear is =
-      let at = (stands-in cmp order v.entries rising place e here).1 in
-      let own : entry_at v.entries e.address ≡ Some e = ap (entry_at v.entries) at ∙ here in
-      let lowest = lowest-value cmp v.entries order rising e own join (subst (IsCleared cmp v.entries) (sym at) clear) (uncovered-by cmp order v.entries rising place e here a held deltas) in
-      let there : value_of (newest cmp v.text e.key place) ≡ e.value = ap (λ u. value_of (newest cmp u e.key place)) s.is ∙ ap (λ n. value_of (newest cmp (stood cmp join v.entries) e.key n)) (sym at) ∙ lowest in
+      let at = (stands-in cmp order v.log.text rising place e here).1 in
+      let own : entry_at v.log.text e.address ≡ Some e = ap (entry_at v.log.text) at ∙ here in
+      let lowest = lowest-value cmp v.log.text order rising e own join (subst (IsCleared cmp v.log.text) (sym at) clear) (uncovered-by cmp order v.log.text rising place e here a held deltas) in
+      let there : value_of (newest cmp v.text e.key place) ≡ e.value = ap (λ u. value_of (newest cmp u e.key place)) s.is ∙ ap (λ n. value_of (newest cmp (stood cmp join v.log.text) e.key n)) (sym at) ∙ lowest in
       is ∙ ap (λ o. onto join o parts) there
 
 -- a value joined with parts is a value
@@ -302,12 +302,12 @@ pub ready-by : {K V : Type 0} {keeps : Bool} (cmp : K → K → Ordering) (join 
     → e.address ≡ place
     → IsSome e.value
     → WasEntryOf v (class_in code v e.key) kept
-    → address_of kept.word < v.tail
-    → (IsTrue keeps → entry_at v.entries place ≡ Some e)
+    → address_of kept.word < v.log.tail
+    → (IsTrue keeps → entry_at v.log.text place ≡ Some e)
     → (IsTrue keeps → word_at v.words kept.place ≡ kept.word → value_of (newest cmp v.text e.key (address_of kept.word)) ≡ onto join e.value parts)
-    → (IsTrue keeps → word_at v.words kept.place ≡ kept.word → IsStill v.regions.offsets.safe_read_only (newest cmp v.text e.key (address_of kept.word)))
+    → (IsTrue keeps → word_at v.words kept.place ≡ kept.word → IsStill v.log.regions.offsets.safe_read_only (newest cmp v.text e.key (address_of kept.word)))
     → (IsTrue keeps → address_of kept.word < 64 → ⊥)
-    → (IsTrue keeps → (d : Entry K V) → IsIn v.entries d → has_key cmp e.key d ≡ true → place < d.address → d.address ≤ address_of kept.word → d.delta ≡ true)
+    → (IsTrue keeps → (d : Entry K V) → IsIn v.log.text d → has_key cmp e.key d ≡ true → place < d.address → d.address ≤ address_of kept.word → d.delta ≡ true)
     → IsReady keeps cmp join code v place (renewed join e parts) kept
 ready-by cmp join code order v t place e parts kept here some entry low is value still nowhere between = record {
   here = here;
@@ -324,44 +324,44 @@ at-epoch (Some None) h = absurd (cc)
 at-epoch (Some (Some n)) h = (n, refl)
 
 module _ {K V I : Type 0} {keeps : Bool} (cmp : K → K → Ordering) (join : V → V → V) (code : K → ℕ) (v : CoreView K V I) (s : IsSound keeps cmp join code v) (slot : ℕ) (entered : IsEntered v slot) where
-  pub view-agrees : ViewAgrees v.records.regions.offsets (seen_at v slot)
+  pub view-agrees : ViewAgrees v.records.log.regions.offsets (seen_at v slot)
   view-agrees = let e = at-epoch (slice_get (slots_of v) slot) entered in s.traced.regions.agree.agree.each slot e.0 e.1
 
   -- where a session reads in memory, frames are open, and the text has begun
-  pub low-open : v.records.regions.offsets.closed ≤ low_of v.records.begin (seen_at v slot)
+  pub low-open : v.records.log.regions.offsets.closed ≤ low_of v.records.log.begin (seen_at v slot)
   low-open =
-      let head = low_head v.records.begin (seen_at v slot) in
+      let head = low_head v.records.log.begin (seen_at v slot) in
       let closed = view-agrees.closed in
       omega arith
 
-  pub low-begun : v.records.from ≤ low_of v.records.begin (seen_at v slot)
-  low-begun = begun v.records (low_of v.records.begin (seen_at v slot)) s.traced low-open (low_begin v.records.begin (seen_at v slot))
+  pub low-begun : v.records.log.from ≤ low_of v.records.log.begin (seen_at v slot)
+  low-begun = begun v.records (low_of v.records.log.begin (seen_at v slot)) s.traced low-open (low_begin v.records.log.begin (seen_at v slot))
 
   -- what lies below is on disk
-  pub low-disk : (b : ℕ) → b < low_of v.records.begin (seen_at v slot) → v.records.begin ≤ b → b < v.records.regions.offsets.head
+  pub low-disk : (b : ℕ) → b < low_of v.records.log.begin (seen_at v slot) → v.records.log.begin ≤ b → b < v.records.log.regions.offsets.head
   low-disk b under high =
-      let low = low_under v.records.begin (seen_at v slot) b under high in
+      let low = low_under v.records.log.begin (seen_at v slot) b under high in
       let head = view-agrees.head in
       omega arith
 
   -- down to above a place
-  pub above-open : (place : ℕ) → v.records.regions.offsets.closed ≤ above v slot place
-  above-open place = let up = higher-right (place + 1) (low_of v.records.begin (seen_at v slot)) in let opens = low-open in omega arith
+  pub above-open : (place : ℕ) → v.records.log.regions.offsets.closed ≤ above v slot place
+  above-open place = let up = higher-right (place + 1) (low_of v.records.log.begin (seen_at v slot)) in let opens = low-open in omega arith
 
-  pub above-begin : (place : ℕ) → v.records.begin ≤ above v slot place
-  above-begin place = let up = higher-right (place + 1) (low_of v.records.begin (seen_at v slot)) in let begin = low_begin v.records.begin (seen_at v slot) in omega arith
+  pub above-begin : (place : ℕ) → v.records.log.begin ≤ above v slot place
+  above-begin place = let up = higher-right (place + 1) (low_of v.records.log.begin (seen_at v slot)) in let begin = low_begin v.records.log.begin (seen_at v slot) in omega arith
 
   pub above-place : (place : ℕ) → place < above v slot place
-  above-place place = let up = higher-left (place + 1) (low_of v.records.begin (seen_at v slot)) in omega arith
+  above-place place = let up = higher-left (place + 1) (low_of v.records.log.begin (seen_at v slot)) in omega arith
 
-  above-begun : (place : ℕ) → v.records.from ≤ above v slot place
-  above-begun place = let up = higher-right (place + 1) (low_of v.records.begin (seen_at v slot)) in let begun = low-begun in omega arith
+  above-begun : (place : ℕ) → v.records.log.from ≤ above v slot place
+  above-begun place = let up = higher-right (place + 1) (low_of v.records.log.begin (seen_at v slot)) in let begun = low-begun in omega arith
 
   -- where the way leads out above the place, it leads to the disk
-  above-under : (place b : ℕ) → b < above v slot place → place < b → b < low_of v.records.begin (seen_at v slot)
-  above-under place b under high = by_test (nat_le (place + 1) (low_of v.records.begin (seen_at v slot))) refl under
+  above-under : (place b : ℕ) → b < above v slot place → place < b → b < low_of v.records.log.begin (seen_at v slot)
+  above-under place b under high = by_test (nat_le (place + 1) (low_of v.records.log.begin (seen_at v slot))) refl under
     where
-      by_test : (c : Bool) → nat_le (place + 1) (low_of v.records.begin (seen_at v slot)) ≡ c → b < cond c (low_of v.records.begin (seen_at v slot)) (place + 1) → b < low_of v.records.begin (seen_at v slot)
+      by_test : (c : Bool) → nat_le (place + 1) (low_of v.records.log.begin (seen_at v slot)) ≡ c → b < cond c (low_of v.records.log.begin (seen_at v slot)) (place + 1) → b < low_of v.records.log.begin (seen_at v slot)
       by_test true h less = less
       by_test false h less = absurd (omega (arith, less, high))
 
@@ -371,26 +371,26 @@ module _ {K V I : Type 0} {keeps : Bool} (cmp : K → K → Ordering) (join : V 
         (tells cmp join code v.records k order s.traced s.stood (above v slot place) (above-begun place) a leads)
 
     -- the entry leads to the last record of the key
-    pub held : newest cmp v.records.entries k a ≡ last_of cmp v.records.entries k
+    pub held : newest cmp v.records.log.text k a ≡ last_of cmp v.records.log.text k
     held = traced-held cmp code (raw v.records) k order (traced-raw s.traced s.stood) a leads
 
 was-entry : {K V : Type 0} (code : K → ℕ) (r : RecordsView K V) (k : K) (kept : IndexEntry) → IsEntryOf r (class_in code r k) kept → WasEntryOf r (class_in code r k) kept
 was-entry code r k kept h = record { place = h.place; bucket = h.bucket; final = h.final; tag = h.tag }
 
 module _ {K V I : Type 0} {keeps : Bool} (cmp : K → K → Ordering) (join : V → V → V) (code : K → ℕ) (order : IsKeyOrder cmp) (v : CoreView K V I) (s : IsSound keeps cmp join code v) (slot : ℕ) (entered : IsEntered v slot) (place : ℕ) (e : Entry K V)
-    (here : e.address ≡ place) (is : IsTrue keeps → entry_at v.records.entries place ≡ Some e) where
-  rises-here : IsRising v.records.entries
+    (here : e.address ≡ place) (is : IsTrue keeps → entry_at v.records.log.text place ≡ Some e) where
+  rises-here : IsRising v.records.log.text
   rises-here = rises cmp join v.records s.stood s.traced
 
   -- a record of a key that belongs elsewhere stands here on no device that keeps
-  pub superseded-foreign : partition_of v.count (code e.key) ≢ v.number → IsTrue keeps → IsSuperseded cmp v.records.entries e
-  superseded-foreign other yes_keeps = let m = (stands-in cmp order v.records.entries rises-here place e (is yes_keeps)).0 in absurd (other (s.routed m.place e m.here))
+  pub superseded-foreign : partition_of v.count (code e.key) ≢ v.number → IsTrue keeps → IsSuperseded cmp v.records.log.text e
+  superseded-foreign other yes_keeps = let m = (stands-in cmp order v.records.log.text rises-here place e (is yes_keeps)).0 in absurd (other (s.routed m.place e m.here))
 
   -- nor does one of a key whose class has no entry
-  pub superseded-nowhere : entry_for code v e.key ≡ None → IsTrue keeps → IsSuperseded cmp v.records.entries e
+  pub superseded-nowhere : entry_for code v e.key ≡ None → IsTrue keeps → IsSuperseded cmp v.records.log.text e
   superseded-nowhere none yes_keeps =
-      let m = (stands-in cmp order v.records.entries rises-here place e (is yes_keeps)).0 in
-      let no = none-passes (has_key cmp e.key) v.records.entries (traced-none cmp code (raw v.records) e.key order (traced-raw s.traced s.stood) none) m.place e m.here in
+      let m = (stands-in cmp order v.records.log.text rises-here place e (is yes_keeps)).0 in
+      let no = none-passes (has_key cmp e.key) v.records.log.text (traced-none cmp code (raw v.records) e.key order (traced-raw s.traced s.stood) none) m.place e m.here in
       absurd (let yes : has_key cmp e.key e ≡ true = order.self e.key in cc)
 
   module _ (kept : IndexEntry) (stands : IsEntryOf v.records (class_in code v.records e.key) kept) (leads : entry_for code v e.key ≡ Some (address_of kept.word)) where
@@ -400,14 +400,14 @@ module _ {K V I : Type 0} {keeps : Bool} (cmp : K → K → Ordering) (join : V 
     way : ComesTo cmp join code v.records e.key (above v slot place) (address_of kept.word) None came
     way = going cmp join code v s slot entered order place e.key (address_of kept.word) leads
 
-    pub superseded-newer : liveness place came ≡ Superseded → IsTrue keeps → IsSuperseded cmp v.records.entries e
+    pub superseded-newer : liveness place came ≡ Superseded → IsTrue keeps → IsSuperseded cmp v.records.log.text e
     superseded-newer j yes_keeps = met-dead cmp join code order v.records s.traced s.stood place e (is yes_keeps) (above v slot place) (address_of kept.word) None came way j
 
-    led : newest cmp v.records.entries e.key (address_of kept.word) ≡ last_of cmp v.records.entries e.key
+    led : newest cmp v.records.log.text e.key (address_of kept.word) ≡ last_of cmp v.records.log.text e.key
     led = held cmp join code v s slot entered order place e.key (address_of kept.word) leads
 
     under : IsTrue keeps → place ≤ address_of kept.word
-    under yes_keeps = place-under cmp order v.records.entries rises-here place e (is yes_keeps) (address_of kept.word) led
+    under yes_keeps = place-under cmp order v.records.log.text rises-here place e (is yes_keeps) (address_of kept.word) led
 
     values : onto join (value_of (newest cmp v.records.text e.key (address_of kept.word))) None ≡ onto join (end_of cmp v.records e.key came.position) came.parts
     values = values_tell cmp join code v.records e.key order s.traced s.stood (above v slot place) (address_of kept.word) None came way
@@ -416,11 +416,11 @@ module _ {K V I : Type 0} {keeps : Bool} (cmp : K → K → Ordering) (join : V 
     onto-none None = refl
     onto-none (Some x) = refl
 
-    deltas : (d : Entry K V) → IsIn v.records.entries d → has_key cmp e.key d ≡ true → d.address ≤ address_of kept.word → at_of came.position < d.address → d.delta ≡ true
+    deltas : (d : Entry K V) → IsIn v.records.log.text d → has_key cmp e.key d ≡ true → d.address ≤ address_of kept.word → at_of came.position < d.address → d.delta ≡ true
     deltas = between_tells cmp code v.records e.key order (raw-traced cmp join v.records s.stood.is s.traced) join (above v slot place) (address_of kept.word) None came way
 
-    still-text : (safe : ℕ) → IsStill safe (newest cmp v.records.entries e.key (address_of kept.word)) → IsStill safe (newest cmp v.records.text e.key (address_of kept.word))
-    still-text safe h = subst (λ u. IsStill safe (newest cmp u e.key (address_of kept.word))) (sym s.stood.is) (still-stood cmp join v.records.entries s.stood.valued (λ x. nat_le x.address (address_of kept.word) && has_key cmp e.key x) (λ x y. refl) safe h)
+    still-text : (safe : ℕ) → IsStill safe (newest cmp v.records.log.text e.key (address_of kept.word)) → IsStill safe (newest cmp v.records.text e.key (address_of kept.word))
+    still-text safe h = subst (λ u. IsStill safe (newest cmp u e.key (address_of kept.word))) (sym s.stood.is) (still-stood cmp join v.records.log.text s.stood.valued (λ x. nat_le x.address (address_of kept.word) && has_key cmp e.key x) (λ x y. refl) safe h)
 
     -- the way comes down to the place: no later record of the key is whole
     module _ (parts : Option V) (j : liveness place came ≡ Last parts) where
@@ -439,7 +439,7 @@ module _ {K V I : Type 0} {keeps : Bool} (cmp : K → K → Ordering) (join : V 
           let down = ends.1.2 in
           omega (arith, up, down)
 
-      ready-value : IsTrue keeps → IsCleared cmp v.records.entries place → value_of (newest cmp v.records.text e.key (address_of kept.word)) ≡ onto join e.value parts
+      ready-value : IsTrue keeps → IsCleared cmp v.records.log.text place → value_of (newest cmp v.records.text e.key (address_of kept.word)) ≡ onto join e.value parts
       ready-value yes_keeps clear =
           let lands = lands-here yes_keeps in
           place-value cmp join code order v.records s.traced s.stood place e (is yes_keeps) (address_of kept.word) parts led
@@ -450,29 +450,29 @@ module _ {K V I : Type 0} {keeps : Bool} (cmp : K → K → Ordering) (join : V 
           ∙ ap (λ n. onto join (value_of (newest cmp v.records.text e.key n)) came.parts) lands
           ∙ ap (onto join (value_of (newest cmp v.records.text e.key place))) ends.0)
 
-      pub ready : v.records.begin ≤ place → place < v.records.regions.offsets.safe_read_only → e.value ≢ None
-          → (IsTrue keeps → IsCleared cmp v.records.entries place)
+      pub ready : v.records.log.begin ≤ place → place < v.records.log.regions.offsets.safe_read_only → e.value ≢ None
+          → (IsTrue keeps → IsCleared cmp v.records.log.text place)
           → IsReady keeps cmp join code v.records place (renewed join e parts) kept
       ready high frozen some clear =
           ready-by cmp join code order v.records s.traced place e parts kept here (some-of e.value some) (was-entry code v.records e.key kept stands)
           (traced-low v.records (class_in code v.records e.key) (address_of kept.word) s.traced leads) is
           (λ yes_keeps holds. ready-value yes_keeps (clear yes_keeps))
-          (λ yes_keeps holds. still-text v.records.regions.offsets.safe_read_only (way-still cmp join code v.records e.key (above v slot place) v.records.regions.offsets.safe_read_only (address_of kept.word) None came way ends.1.0 ends.1.1 (let down = ends.1.2 in omega (arith, down, frozen))))
+          (λ yes_keeps holds. still-text v.records.log.regions.offsets.safe_read_only (way-still cmp join code v.records e.key (above v slot place) v.records.log.regions.offsets.safe_read_only (address_of kept.word) None came way ends.1.0 ends.1.1 (let down = ends.1.2 in omega (arith, down, frozen))))
           (λ yes_keeps none. let least = s.traced.first in let low = under yes_keeps in omega (arith, least, low, high, none))
           (λ yes_keeps d m own above low. deltas d m own low (subst (λ n. n < d.address) (sym (ap at_of ends.1.1 ∙ lands-here yes_keeps)) above))
 
     -- the way goes on, in a page on disk above the place
-    module _ (b : ℕ) (parts : Option V) (high : v.records.begin ≤ place) (j : liveness place came ≡ Further b parts) where
+    module _ (b : ℕ) (parts : Option V) (high : v.records.log.begin ≤ place) (j : liveness place came ≡ Further b parts) where
       goes : (came.position ≡ Below b) × (place < b) × (came.parts ≡ parts)
       goes = at-further place came.parts parts came.position b j
 
-      pub further-disk : (v.records.begin ≤ b) × (b < v.records.regions.offsets.head)
+      pub further-disk : (v.records.log.begin ≤ b) × (b < v.records.log.regions.offsets.head)
       further-disk =
           let up = goes.1 in
-          let begins : v.records.begin ≤ b = omega arith in
+          let begins : v.records.log.begin ≤ b = omega arith in
           (begins, low-disk cmp join code v s slot entered b (above-under cmp join code v s slot entered place b (way-low cmp join code v.records e.key (above v slot place) (address_of kept.word) None came way b goes.0) up) begins)
 
-      pub tracing : (now : ℕ) → e.value ≢ None → IsTracing keeps cmp join code v.records place e (record { begin = v.records.begin; kept = kept; wanted = b; parts = parts; looked = now })
+      pub tracing : (now : ℕ) → e.value ≢ None → IsTracing keeps cmp join code v.records place e (record { begin = v.records.log.begin; kept = kept; wanted = b; parts = parts; looked = now })
       tracing now some = record {
         here = here;
         some = some-of e.value some;
@@ -487,7 +487,7 @@ module _ {K V I : Type 0} {keeps : Bool} (cmp : K → K → Ordering) (join : V 
           on_disk = further-disk.1;
           leads = λ yes_keeps same. record {
             class = λ begins. way-class cmp join code v.records e.key (above v slot place) (address_of kept.word) None came way b goes.0 begins;
-            still = still-text v.records.regions.offsets.safe_read_only (way-still cmp join code v.records e.key (above v slot place) v.records.regions.offsets.safe_read_only (address_of kept.word) None came way b goes.0 on-disk);
+            still = still-text v.records.log.regions.offsets.safe_read_only (way-still cmp join code v.records e.key (above v slot place) v.records.log.regions.offsets.safe_read_only (address_of kept.word) None came way b goes.0 on-disk);
             newest =
                 sym (onto-none (value_of (newest cmp v.records.text e.key (address_of kept.word)))) ∙ values
                 ∙ ap (λ p. onto join (end_of cmp v.records e.key p) came.parts) goes.0
@@ -498,5 +498,5 @@ module _ {K V I : Type 0} {keeps : Bool} (cmp : K → K → Ordering) (join : V 
         is = λ yes_keeps same. is yes_keeps;
       }
         where
-          on-disk : b < v.records.regions.offsets.safe_read_only
+          on-disk : b < v.records.log.regions.offsets.safe_read_only
           on-disk = let low = further-disk.1 in let head = s.traced.regions.agree.in_order.head in omega arith

@@ -34,8 +34,8 @@ module _ {K V I O : Type 0} (cmp : K → K → Ordering) (join : V → V → V) 
   pub at_once-some : IsKeyOrder cmp → IsReplaceable cmp v.records last.address
   at_once-some order = subst (λ (y : Entry K V). IsReplaceable cmp v.records y.address) (sym same) (met-replaceable cmp join code v.records (seen_at v slot) key held region.Mutable order m)
 
-  pub at_once-high : v.records.regions.offsets.safe_read_only ≤ m.entry.address → v.records.regions.offsets.safe_read_only ≤ last.address
-  at_once-high h = subst (λ (y : Entry K V). v.records.regions.offsets.safe_read_only ≤ y.address) (sym same) h
+  pub at_once-high : v.records.log.regions.offsets.safe_read_only ≤ m.entry.address → v.records.log.regions.offsets.safe_read_only ≤ last.address
+  at_once-high h = subst (λ (y : Entry K V). v.records.log.regions.offsets.safe_read_only ≤ y.address) (sym same) h
 
   pub at_once-last : last_of cmp v.records.text key ≡ Some last
   at_once-last = m.last ∙ ap Some (sym same)

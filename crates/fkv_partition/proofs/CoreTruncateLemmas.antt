@@ -163,41 +163,41 @@ module _ {K V : Type 0} (cmp : K → K → Ordering) (join : V → V → V) (es 
       by_last (Some e) h (inr rest) = inr rest
 
 -- ---- what operations stand for
-module _ {K V : Type 0} {keeps : Bool} (cmp : K → K → Ordering) (join : V → V → V) (code : K → ℕ) (order : IsKeyOrder cmp) (v : RecordsView K V) (t : IsTraced keeps code v) (s : IsStood cmp join v) (low : ℕ) (up : v.begin < low) (clear : IsTrue keeps → IsCleared cmp v.entries low)
+module _ {K V : Type 0} {keeps : Bool} (cmp : K → K → Ordering) (join : V → V → V) (code : K → ℕ) (order : IsKeyOrder cmp) (v : RecordsView K V) (t : IsTraced keeps code v) (s : IsStood cmp join v) (low : ℕ) (up : v.log.begin < low) (clear : IsTrue keeps → IsCleared cmp v.log.text low)
     (text : List (Entry K V)) (cut : IsTraced keeps code (truncated keeps v low text)) (cut_stood : IsStood cmp join (truncated keeps v low text)) where
-  begins-at : (a : ℕ) → IsTrue keeps → text_begin keeps a v.regions.offsets.closed ≡ a
+  begins-at : (a : ℕ) → IsTrue keeps → text_begin keeps a v.log.regions.offsets.closed ≡ a
   begins-at a yes_keeps = by_keeps keeps yes_keeps
     where
-      by_keeps : (b : Bool) → IsTrue b → text_begin b a v.regions.offsets.closed ≡ a
+      by_keeps : (b : Bool) → IsTrue b → text_begin b a v.log.regions.offsets.closed ≡ a
       by_keeps true h = refl
       by_keeps false h = absurd (let bad : false ≡ true = h in cc)
 
-  cut-text : IsTrue keeps → text ≡ stood cmp join (text_from low v.entries)
-  cut-text yes_keeps = cut_stood.is ∙ ap (λ n. stood cmp join (text_from n v.entries)) (begins-at low yes_keeps)
+  cut-text : IsTrue keeps → text ≡ stood cmp join (text_from low v.log.text)
+  cut-text yes_keeps = cut_stood.is ∙ ap (λ n. stood cmp join (text_from n v.log.text)) (begins-at low yes_keeps)
 
-  cut-low : IsTrue keeps → v.from ≤ low
-  cut-low yes_keeps = (let at = t.begins ∙ begins-at v.begin yes_keeps in omega arith)
+  cut-low : IsTrue keeps → v.log.from ≤ low
+  cut-low yes_keeps = (let at = t.begins ∙ begins-at v.log.begin yes_keeps in omega arith)
 
-  rises : IsRising v.entries
-  rises = alike-rising (stood cmp join v.entries) v.entries (alike_back cmp join v.entries) (subst IsRising s.is t.rising)
+  rises : IsRising v.log.text
+  rises = alike-rising (stood cmp join v.log.text) v.log.text (alike_back cmp join v.log.text) (subst IsRising s.is t.rising)
 
-  cut-valued : IsTrue keeps → AreValued (text_from low v.entries)
-  cut-valued yes_keeps = subst (λ n. AreValued (text_from n v.entries)) (begins-at low yes_keeps) cut_stood.valued
+  cut-valued : IsTrue keeps → AreValued (text_from low v.log.text)
+  cut-valued yes_keeps = subst (λ n. AreValued (text_from n v.log.text)) (begins-at low yes_keeps) cut_stood.valued
 
   pub last-cleared : IsTrue keeps → (k : K) → value_of (last_of cmp text k) ≡ value_of (last_of cmp v.text k)
   last-cleared yes_keeps k =
       ap (λ u. value_of (last_of cmp u k)) (cut-text yes_keeps)
-      ∙ cut-lives cmp join order v.entries rises low (clear yes_keeps) k
+      ∙ cut-lives cmp join order v.log.text rises low (clear yes_keeps) k
       ∙ ap (λ u. value_of (last_of cmp u k)) (sym s.is)
 
   still-cleared : IsTrue keeps → (k : K) (safe : ℕ) → IsStill safe (last_of cmp v.text k) → IsStill safe (last_of cmp text k)
   still-cleared yes_keeps k safe still =
-      let before : IsStill safe (last_of cmp v.entries k) = still-unstood cmp join v.entries s.valued (has_key cmp k) (λ e x. refl) safe (subst (λ u. IsStill safe (last_of cmp u k)) s.is still) in
-      let after : IsStill safe (last_of cmp (text_from low v.entries) k) = elim (last-cut cmp v.from low v.entries rises (cut-low yes_keeps) k) [
+      let before : IsStill safe (last_of cmp v.log.text k) = still-unstood cmp join v.log.text s.valued (has_key cmp k) (λ e x. refl) safe (subst (λ u. IsStill safe (last_of cmp u k)) s.is still) in
+      let after : IsStill safe (last_of cmp (text_from low v.log.text) k) = elim (last-cut cmp v.log.from low v.log.text rises (cut-low yes_keeps) k) [
         | inl same ↦ subst (IsStill safe) (sym same) before
         | inr gone ↦ subst (IsStill safe) (sym gone.gone) tt
       ] in
-      subst (λ u. IsStill safe (last_of cmp u k)) (sym (cut-text yes_keeps)) (still-stood cmp join (text_from low v.entries) (cut-valued yes_keeps) (has_key cmp k) (λ e x. refl) safe after)
+      subst (λ u. IsStill safe (last_of cmp u k)) (sym (cut-text yes_keeps)) (still-stood cmp join (text_from low v.log.text) (cut-valued yes_keeps) (has_key cmp k) (λ e x. refl) safe after)
 
   led : (k : K) (e : IndexEntry) → IsEntryOf v (class_in code v k) e → newest cmp v.text k (address_of e.word) ≡ last_of cmp v.text k
   led k e was = traced-held cmp code v k order t (address_of e.word) (entry-stands v.words (class_in code v k).bucket (class_in code v k).tag e.place e.word t.map was)
@@ -230,15 +230,15 @@ module _ {K V : Type 0} {keeps : Bool} (cmp : K → K → Ordering) (join : V �
         ∙ h.value yes_keeps (was-stood k e h.entry here);
     still = λ yes_keeps here.
         let still = h.still yes_keeps (was-stood k e h.entry here) in
-        subst (IsStill v.regions.offsets.safe_read_only) (sym (led-cut k e (entry-cut k e h.entry here)))
-        (still-cleared yes_keeps k v.regions.offsets.safe_read_only (subst (IsStill v.regions.offsets.safe_read_only) (led k e (entry-stood k e h.entry here)) still));
+        subst (IsStill v.log.regions.offsets.safe_read_only) (sym (led-cut k e (entry-cut k e h.entry here)))
+        (still-cleared yes_keeps k v.log.regions.offsets.safe_read_only (subst (IsStill v.log.regions.offsets.safe_read_only) (led k e (entry-stood k e h.entry here)) still));
     nowhere = h.nowhere;
   }
 
   -- what the newest record of a key at or below an address stands for is the same, or it is not the key's last, or a
   -- tombstone that is gone
   newest-cut-at : IsTrue keeps → (k : K) (a : ℕ) → (newest cmp text k a ≡ newest cmp v.text k a) ⊎ LosesByCut cmp (indexed v) (indexed (truncated keeps v low text)) k a
-  newest-cut-at yes_keeps k a = by_newest (newest cmp v.entries k a) refl
+  newest-cut-at yes_keeps k a = by_newest (newest cmp v.log.text k a) refl
     where
       passes : Entry K V → Bool
       passes e = nat_le e.address a && has_key cmp k e
@@ -247,54 +247,54 @@ module _ {K V : Type 0} {keeps : Bool} (cmp : K → K → Ordering) (join : V �
       blind e x = refl
 
       -- what the newest stands for, before and after
-      before : (o : Option (Entry K V)) → newest cmp v.entries k a ≡ o → newest cmp v.text k a ≡ option_map (having (value_of (newest cmp v.text k a))) o
-      before o h = subst (λ u. newest cmp u k a ≡ option_map (having (value_of (newest cmp u k a))) o) (sym s.is) (subst (λ l. newest cmp (stood cmp join v.entries) k a ≡ option_map (having (value_of (newest cmp (stood cmp join v.entries) k a))) l) h (stood-last cmp join v.entries passes blind))
+      before : (o : Option (Entry K V)) → newest cmp v.log.text k a ≡ o → newest cmp v.text k a ≡ option_map (having (value_of (newest cmp v.text k a))) o
+      before o h = subst (λ u. newest cmp u k a ≡ option_map (having (value_of (newest cmp u k a))) o) (sym s.is) (subst (λ l. newest cmp (stood cmp join v.log.text) k a ≡ option_map (having (value_of (newest cmp (stood cmp join v.log.text) k a))) l) h (stood-last cmp join v.log.text passes blind))
 
-      after : (o : Option (Entry K V)) → newest cmp (text_from low v.entries) k a ≡ o → newest cmp text k a ≡ option_map (having (value_of (newest cmp text k a))) o
-      after o h = subst (λ u. newest cmp u k a ≡ option_map (having (value_of (newest cmp u k a))) o) (sym (cut-text yes_keeps)) (subst (λ l. newest cmp (stood cmp join (text_from low v.entries)) k a ≡ option_map (having (value_of (newest cmp (stood cmp join (text_from low v.entries)) k a))) l) h (stood-last cmp join (text_from low v.entries) passes blind))
+      after : (o : Option (Entry K V)) → newest cmp (text_from low v.log.text) k a ≡ o → newest cmp text k a ≡ option_map (having (value_of (newest cmp text k a))) o
+      after o h = subst (λ u. newest cmp u k a ≡ option_map (having (value_of (newest cmp u k a))) o) (sym (cut-text yes_keeps)) (subst (λ l. newest cmp (stood cmp join (text_from low v.log.text)) k a ≡ option_map (having (value_of (newest cmp (stood cmp join (text_from low v.log.text)) k a))) l) h (stood-last cmp join (text_from low v.log.text) passes blind))
 
       -- a record that is covered is not the last of its key, whatever it stands for
-      passed-by : (e : Entry K V) → newest cmp v.entries k a ≡ Some e → IsCovered cmp v.entries e → (x : Option V) → last_of cmp v.text k ≢ Some (having x e)
-      passed-by e h covered x last = by_last (last_of cmp v.entries k) refl
+      passed-by : (e : Entry K V) → newest cmp v.log.text k a ≡ Some e → IsCovered cmp v.log.text e → (x : Option V) → last_of cmp v.text k ≢ Some (having x e)
+      passed-by e h covered x last = by_last (last_of cmp v.log.text k) refl
         where
-          by_last : (o : Option (Entry K V)) → last_of cmp v.entries k ≡ o → ⊥
+          by_last : (o : Option (Entry K V)) → last_of cmp v.log.text k ≡ o → ⊥
           by_last None g =
-              let none : last_of cmp v.text k ≡ None = ap (λ u. last_of cmp u k) s.is ∙ stood-last cmp join v.entries (has_key cmp k) (λ d y. refl) ∙ ap (option_map (having _)) g in
+              let none : last_of cmp v.text k ≡ None = ap (λ u. last_of cmp u k) s.is ∙ stood-last cmp join v.log.text (has_key cmp k) (λ d y. refl) ∙ ap (option_map (having _)) g in
               absurd (let bad : Some (having x e) ≡ None = sym last ∙ none in cc)
           by_last (Some d) g =
-              let y : Option V = value_of (last_of cmp (stood cmp join v.entries) k) in
-              let there : last_of cmp v.text k ≡ Some (having y d) = ap (λ u. last_of cmp u k) s.is ∙ stood-last cmp join v.entries (has_key cmp k) (λ d y. refl) ∙ ap (option_map (having y)) g in
+              let y : Option V = value_of (last_of cmp (stood cmp join v.log.text) k) in
+              let there : last_of cmp v.text k ≡ Some (having y d) = ap (λ u. last_of cmp u k) s.is ∙ stood-last cmp join v.log.text (has_key cmp k) (λ d y. refl) ∙ ap (option_map (having y)) g in
               let both : Some (having y d) ≡ Some (having x e) = sym there ∙ last in
               let one : having y d ≡ having x e = cc in
               let at : d.address ≡ e.address = ap (λ (z : Entry K V). z.address) one in
-              let m = last_where-in passes v.entries e h in
-              let n = last_where-in (has_key cmp k) v.entries d g in
-              let same : d ≡ e = one_address v.entries rises n.place m.place d e n.here m.here at in
-              let own : e.key ≡ k = order.same e.key k (and_parts (nat_le e.address a) (has_key cmp k e) (last_where-found passes v.entries e h)).1 in
-              covered-passed cmp v.entries rises e covered (ap (last_of cmp v.entries) own ∙ g ∙ ap Some same)
+              let m = last_where-in passes v.log.text e h in
+              let n = last_where-in (has_key cmp k) v.log.text d g in
+              let same : d ≡ e = one_address v.log.text rises n.place m.place d e n.here m.here at in
+              let own : e.key ≡ k = order.same e.key k (and_parts (nat_le e.address a) (has_key cmp k e) (last_where-found passes v.log.text e h)).1 in
+              covered-passed cmp v.log.text rises e covered (ap (last_of cmp v.log.text) own ∙ g ∙ ap Some same)
 
-      by_cover : (e : Entry K V) → newest cmp v.entries k a ≡ Some e → IsCovered cmp v.entries e ⊎ (IsCovered cmp v.entries e → ⊥)
+      by_cover : (e : Entry K V) → newest cmp v.log.text k a ≡ Some e → IsCovered cmp v.log.text e ⊎ (IsCovered cmp v.log.text e → ⊥)
           → (newest cmp text k a ≡ newest cmp v.text k a) ⊎ LosesByCut cmp (indexed v) (indexed (truncated keeps v low text)) k a
       by_cover e h (inl covered) = inr (passed (having (value_of (newest cmp v.text k a)) e) (before (Some e) h) (passed-by e h covered (value_of (newest cmp v.text k a))))
       by_cover e h (inr uncovered) = elim (cases_lt e.address low) [
         | inr high ↦
-            (let stays = cut-newest_stays cmp v.entries low k a e h high in
+            (let stays = cut-newest_stays cmp v.log.text low k a e h high in
             let value : value_of (newest cmp text k a) ≡ value_of (newest cmp v.text k a) =
             ap (λ u. value_of (newest cmp u k a)) (cut-text yes_keeps)
-            ∙ cut-newest cmp join order v.entries rises low (clear yes_keeps) k a (λ d g c. uncovered (let both : Some d ≡ Some e = sym g ∙ h in let same : d ≡ e = cc in subst (IsCovered cmp v.entries) same c))
+            ∙ cut-newest cmp join order v.log.text rises low (clear yes_keeps) k a (λ d g c. uncovered (let both : Some d ≡ Some e = sym g ∙ h in let same : d ≡ e = cc in subst (IsCovered cmp v.log.text) same c))
             ∙ ap (λ u. value_of (newest cmp u k a)) (sym s.is) in
             inl (after (Some e) stays ∙ ap (λ x. Some (having x e)) value ∙ sym (before (Some e) h)))
         | inl under ↦
-            (let there = entry_at-in v.entries rises e (last_where-in passes v.entries e h) e.address refl in
+            (let there = entry_at-in v.log.text rises e (last_where-in passes v.log.text e h) e.address refl in
             let none : e.value ≡ None = elim (clear yes_keeps e there under) [ inl none ↦ none | inr covered ↦ absurd (uncovered covered) ] in
-            let dead : value_of (newest cmp v.text k a) ≡ None = ap (λ u. value_of (newest cmp u k a)) s.is ∙ dead-stood cmp join v.entries s.valued passes blind 0 e h none in
-            inr (dropped (having (value_of (newest cmp v.text k a)) e) (before (Some e) h) dead (after None (cut-newest_gone cmp v.entries low rises k a e h under))))
+            let dead : value_of (newest cmp v.text k a) ≡ None = ap (λ u. value_of (newest cmp u k a)) s.is ∙ dead-stood cmp join v.log.text s.valued passes blind 0 e h none in
+            inr (dropped (having (value_of (newest cmp v.text k a)) e) (before (Some e) h) dead (after None (cut-newest_gone cmp v.log.text low rises k a e h under))))
       ]
 
-      by_newest : (o : Option (Entry K V)) → newest cmp v.entries k a ≡ o
+      by_newest : (o : Option (Entry K V)) → newest cmp v.log.text k a ≡ o
           → (newest cmp text k a ≡ newest cmp v.text k a) ⊎ LosesByCut cmp (indexed v) (indexed (truncated keeps v low text)) k a
-      by_newest None h = inl (after None (last_where-filter passes (λ x. nat_le low x.address) v.entries ∙ last_where-narrow_none passes (λ x. nat_le low x.address) v.entries h) ∙ sym (before None h))
-      by_newest (Some e) h = by_cover e h (covered_or_not cmp v.entries e.key e.address)
+      by_newest None h = inl (after None (last_where-filter passes (λ x. nat_le low x.address) v.log.text ∙ last_where-narrow_none passes (λ x. nat_le low x.address) v.log.text h) ∙ sym (before None h))
+      by_newest (Some e) h = by_cover e h (covered_or_not cmp v.log.text e.key e.address)
 
   -- no address is used twice
   pub next-cut : IsTrue keeps → ReusesNoAddress cmp (indexed v) (indexed (truncated keeps v low text))
@@ -335,7 +335,7 @@ module _ {K V : Type 0} {keeps : Bool} (cmp : K → K → Ordering) (join : V �
   stands-cut (Merge k i) (Load l) h = h
 
 -- ---- a whole partition
-module _ {K V I : Type 0} {keeps : Bool} (cmp : K → K → Ordering) (join : V → V → V) (code : K → ℕ) (order : IsKeyOrder cmp) (v : CoreView K V I) (s : IsSound keeps cmp join code v) (low now : ℕ) (up : v.records.begin < low) (clear : IsTrue keeps → IsCleared cmp v.records.entries low) (text : List (Entry K V)) (cut : IsTraced keeps code (truncated keeps v.records low text)) (cut_stood : IsStood cmp join (truncated keeps v.records low text)) where
+module _ {K V I : Type 0} {keeps : Bool} (cmp : K → K → Ordering) (join : V → V → V) (code : K → ℕ) (order : IsKeyOrder cmp) (v : CoreView K V I) (s : IsSound keeps cmp join code v) (low now : ℕ) (up : v.records.log.begin < low) (clear : IsTrue keeps → IsCleared cmp v.records.log.text low) (text : List (Entry K V)) (cut : IsTraced keeps code (truncated keeps v.records low text)) (cut_stood : IsStood cmp join (truncated keeps v.records low text)) where
   pub sound-truncated : IsSound keeps cmp join code (record v { records = truncated keeps v.records low text; moment = now })
   sound-truncated = record {
     own = s.own;
@@ -350,7 +350,7 @@ module _ {K V I : Type 0} {keeps : Bool} (cmp : K → K → Ordering) (join : V 
       one = s.owned.one;
     };
     routed = λ i e h.
-        let was = filter-in (λ (d : Entry K V). nat_le (text_begin keeps low v.records.regions.offsets.closed) d.address) v.records.entries i e h in
+        let was = filter-in (λ (d : Entry K V). nat_le (text_begin keeps low v.records.log.regions.offsets.closed) d.address) v.records.log.text i e h in
         s.routed was.0.place e was.0.here;
     asked = s.asked;
     merging = s.merging;
@@ -361,7 +361,7 @@ module _ {K V I : Type 0} {keeps : Bool} (cmp : K → K → Ordering) (join : V 
       same = same_tentative low v.records.words
 
   -- no look-up finds anything more
-  none-waits : (op : KeyedOp K V I) (l : Loading V) → l.begin ≤ v.records.begin → pending_by cmp (truncated keeps v.records low text) op (Load l) ≡ None
+  none-waits : (op : KeyedOp K V I) (l : Loading V) → l.begin ≤ v.records.log.begin → pending_by cmp (truncated keeps v.records low text) op (Load l) ≡ None
   none-waits op l past = by_begin (l.begin == low) refl
     where
       by_begin : (b : Bool) → (l.begin == low) ≡ b → pending_by cmp (truncated keeps v.records low text) op (Load l) ≡ None
@@ -385,7 +385,7 @@ module _ {K V I : Type 0} {keeps : Bool} (cmp : K → K → Ordering) (join : V 
       by_context None h = refl
       by_context (Some x) h = none-pends x.op x.phase (stands-at cmp join code v s t d x h)
 
-  pub event-truncated : (page : ℕ) → low ≡ start_at v.records.page_bits page → IsTruncation keeps cmp v (record v { records = truncated keeps v.records low text; moment = now }) page now
+  pub event-truncated : (page : ℕ) → low ≡ start_at v.records.log.bits page → IsTruncation keeps cmp v (record v { records = truncated keeps v.records low text; moment = now }) page now
   event-truncated page is = record {
     same = λ t d. refl;
     pend = none-pending;

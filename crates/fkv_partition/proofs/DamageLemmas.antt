@@ -62,5 +62,5 @@ module _ {K V I O R : Type 0} {old new : PartitionView K V I} {page : ℕ} {P : 
     checks-not (ChecksLiveness.further kept b parts checked asked) h = asks-not asked h
 
 -- ---- a record of a key's class stands at a place
-pub class-place : {K V : Type 0} {keeps : Bool} {cmp : K → K → Ordering} {join : V → V → V} {code : K → ℕ} (v : RecordsView K V) → IsTraced keeps code v → IsStood cmp join v → (k : K) (a : ℕ) → IsOfClass code v k a → IsRecordStart v.page_bits v.record_size a
+pub class-place : {K V : Type 0} {keeps : Bool} {cmp : K → K → Ordering} {join : V → V → V} {code : K → ℕ} (v : RecordsView K V) → IsTraced keeps code v → IsStood cmp join v → (k : K) (a : ℕ) → IsOfClass code v k a → IsRecordStart v.log.bits v.record_size a
 class-place v traced stood k a class = entry-place (raw v) (traced-raw traced stood) a (rw class.here refl)

@@ -72,16 +72,16 @@ at_epoch (Some None) h = absurd (cc)
 at_epoch (Some (Some e)) h = (e, refl)
 
 -- where a session reads in memory, the text has begun
-pub seen-begun : {K V I : Type 0} {keeps : Bool} {code : K → ℕ} (v : CoreView K V I) (slot : ℕ) → IsTraced keeps code v.records → is_session (slots_of v) slot ≡ true → v.records.from ≤ low_of v.records.begin (seen_at v slot)
+pub seen-begun : {K V I : Type 0} {keeps : Bool} {code : K → ℕ} (v : CoreView K V I) (slot : ℕ) → IsTraced keeps code v.records → is_session (slots_of v) slot ≡ true → v.records.log.from ≤ low_of v.records.log.begin (seen_at v slot)
 seen-begun v slot t entered =
     let e = at_epoch (slice_get (slots_of v) slot) entered in
     let closed = (t.regions.agree.agree.each slot e.0 e.1).closed in
-    let head = low_head v.records.begin (seen_at v slot) in
-    begun v.records (low_of v.records.begin (seen_at v slot)) t (omega arith) (low_begin v.records.begin (seen_at v slot))
+    let head = low_head v.records.log.begin (seen_at v slot) in
+    begun v.records (low_of v.records.log.begin (seen_at v slot)) t (omega arith) (low_begin v.records.log.begin (seen_at v slot))
 
 module _ {K V I : Type 0} (cmp : K → K → Ordering) (join : V → V → V) (code : K → ℕ) (v : CoreView K V I) (slot : ℕ) (k : K) where
   abbrev low : ℕ
-  low = low_of v.records.begin (seen_at v slot)
+  low = low_of v.records.log.begin (seen_at v slot)
 
   abbrev first : ChainPosition K V
   first = newest_in_memory cmp code v slot k (entry_for code v k)
@@ -90,7 +90,7 @@ module _ {K V I : Type 0} (cmp : K → K → Ordering) (join : V → V → V) (c
   came = reached_from cmp join code v slot k low (entry_for code v k)
 
   -- what is met, by what the look-up comes to
-  met-is : (o : Option ℕ) → met_from cmp join code v.records (seen_at v slot) k o ≡ met_by join o v.records.begin (seen_at v slot) (reached_from cmp join code v slot k low o)
+  met-is : (o : Option ℕ) → met_from cmp join code v.records (seen_at v slot) k o ≡ met_by join o v.records.log.begin (seen_at v slot) (reached_from cmp join code v slot k low o)
   met-is None = refl
   met-is (Some a) = refl
 
@@ -137,7 +137,7 @@ module _ {K V I : Type 0} (cmp : K → K → Ordering) (join : V → V → V) (c
         let e = entry-some last is in
         let alone = (told-by (Found last) is).0 whole in
         met-is (entry_for code v k)
-        ∙ ap (λ (r : ChainResult K V). met_by join (entry_for code v k) v.records.begin (seen_at v slot) r) alone
+        ∙ ap (λ (r : ChainResult K V). met_by join (entry_for code v k) v.records.log.begin (seen_at v slot) r) alone
         ∙ (rw (e.1, value, mutable) refl)
 
     -- one that is read first and is no delta is what is met
@@ -146,8 +146,8 @@ module _ {K V I : Type 0} (cmp : K → K → Ordering) (join : V → V → V) (c
         let e = entry-some last is in
         let alone = (told-by (Found last) is).0 whole in
         met-is (entry_for code v k)
-        ∙ ap (λ (r : ChainResult K V). met_by join (entry_for code v k) v.records.begin (seen_at v slot) r) alone
-        ∙ ap (λ o. met_by join o v.records.begin (seen_at v slot) (record { parts = None; position = Found last })) e.1
+        ∙ ap (λ (r : ChainResult K V). met_by join (entry_for code v k) v.records.log.begin (seen_at v slot) r) alone
+        ∙ ap (λ o. met_by join o v.records.log.begin (seen_at v slot) (record { parts = None; position = Found last })) e.1
 
     -- and what is met as mutable is such a record
     pub record IsAtFirst (w : V) : Type 0 where
@@ -160,8 +160,8 @@ module _ {K V I : Type 0} (cmp : K → K → Ordering) (join : V → V → V) (c
     pub met-first : (w : V) → met_at cmp join code v slot k ≡ Mutable w → IsAtFirst w
     met-first w met = by_first first refl
       where
-        m : IsMetIn join v.records.begin (seen_at v slot) came w region.Mutable
-        m = mutable-met join v.records.begin (seen_at v slot) (entry_for code v k) came w (sym (met-is (entry_for code v k)) ∙ met)
+        m : IsMetIn join v.records.log.begin (seen_at v slot) came w region.Mutable
+        m = mutable-met join v.records.log.begin (seen_at v slot) (entry_for code v k) came w (sym (met-is (entry_for code v k)) ∙ met)
 
         by_first : (p : ChainPosition K V) → first ≡ p → IsAtFirst w
         by_first (Below b) is = absurd (let no : Below b ≡ Found m.entry = ap (λ (r : ChainResult K V). r.position) (sym (told-by (Below b) is)) ∙ m.is in cc)
@@ -184,7 +184,7 @@ module _ {K V I : Type 0} (cmp : K → K → Ordering) (join : V → V → V) (c
       pub entry : ℕ
       pub part : V
       pub position : ChainPosition K V
-      pub met : met_at cmp join code v slot k ≡ met_by join (Some entry) v.records.begin (seen_at v slot) (record { parts = Some part; position = position })
+      pub met : met_at cmp join code v slot k ≡ met_by join (Some entry) v.records.log.begin (seen_at v slot) (record { parts = Some part; position = position })
 
     pub met-delta : (last : Entry K V) → first ≡ Found last → last.delta ≡ true → IsMetWithParts
     met-delta last is delta = by_parts came.parts refl ((told-by (Found last) is).1 delta)
@@ -198,56 +198,56 @@ module _ {K V I : Type 0} (cmp : K → K → Ordering) (join : V → V → V) (c
               part = p;
               position = came.position;
               met = met-is (entry_for code v k)
-                  ∙ ap (λ o. met_by join o v.records.begin (seen_at v slot) came) e.1
-                  ∙ ap (λ o. met_by join (Some e.0) v.records.begin (seen_at v slot) (record { parts = o; position = came.position })) h;
+                  ∙ ap (λ o. met_by join o v.records.log.begin (seen_at v slot) came) e.1
+                  ∙ ap (λ o. met_by join (Some e.0) v.records.log.begin (seen_at v slot) (record { parts = o; position = came.position })) h;
             }
 
 -- ---- pages on disk are flushed
-pub page_flushed : {K V : Type 0} {keeps : Bool} {code : K → ℕ} (v : RecordsView K V) (b : ℕ) → IsTraced keeps code v → v.begin ≤ b → b < v.regions.offsets.head → HasReceipt v.receipts (page_at v.page_bits b)
-page_flushed v b t begun low = t.held (page_at v.page_bits b) (page_rises v.page_bits v.begin b begun) (by_mark o.head_mark)
+pub page_flushed : {K V : Type 0} {keeps : Bool} {code : K → ℕ} (v : RecordsView K V) (b : ℕ) → IsTraced keeps code v → v.log.begin ≤ b → b < v.log.regions.offsets.head → HasReceipt v.log.receipts (page_at v.log.bits b)
+page_flushed v b t begun low = t.held (page_at v.log.bits b) (page_rises v.log.bits v.log.begin b begun) (by_mark o.head_mark)
   where
-    o : IsInOrder v.regions.bits v.regions.flushed v.regions.offsets
+    o : IsInOrder v.log.regions.bits v.log.regions.flushed v.log.regions.offsets
     o = t.regions.agree.in_order
 
-    by_page : (c : Bool) → nat_lt (page_at v.page_bits b) (page_at v.page_bits v.regions.offsets.head) ≡ c → offset_at v.page_bits v.regions.offsets.head ≡ 0 → page_at v.page_bits b < page_at v.page_bits v.regions.offsets.head
-    by_page true h start = ltb-true (page_at v.page_bits b) (page_at v.page_bits v.regions.offsets.head) h
+    by_page : (c : Bool) → nat_lt (page_at v.log.bits b) (page_at v.log.bits v.log.regions.offsets.head) ≡ c → offset_at v.log.bits v.log.regions.offsets.head ≡ 0 → page_at v.log.bits b < page_at v.log.bits v.log.regions.offsets.head
+    by_page true h start = ltb-true (page_at v.log.bits b) (page_at v.log.bits v.log.regions.offsets.head) h
     by_page false h start =
-        let le : page_at v.page_bits v.regions.offsets.head ≤ page_at v.page_bits b = grind (arith, nat_tests) in
-        let under = start-below v.page_bits (page_at v.page_bits v.regions.offsets.head) b le in
-        let whole = div-add-mod' v.regions.offsets.head (2 ^ v.page_bits) in
+        let le : page_at v.log.bits v.log.regions.offsets.head ≤ page_at v.log.bits b = grind (arith, nat_tests) in
+        let under = start-below v.log.bits (page_at v.log.bits v.log.regions.offsets.head) b le in
+        let whole = div-add-mod' v.log.regions.offsets.head (2 ^ v.log.bits) in
         absurd (omega (arith, under, whole, start))
 
-    by_mark : IsMark v.regions.bits v.regions.offsets.head → page_at v.page_bits b < length v.receipts
+    by_mark : IsMark v.log.regions.bits v.log.regions.offsets.head → page_at v.log.bits b < length v.log.receipts
     by_mark (inl first) = absurd (let least = t.first in omega arith)
     by_mark (inr start) =
-        let below = by_page (nat_lt (page_at v.page_bits b) (page_at v.page_bits v.regions.offsets.head)) refl (rw t.regions.bits at start) in
+        let below = by_page (nat_lt (page_at v.log.bits b) (page_at v.log.bits v.log.regions.offsets.head)) refl (rw t.regions.bits at start) in
         let high = rw t.regions.bits at o.flushed_low in
         omega (arith, below, high, t.flushed)
 
 -- so is a lower page, from that of Begin on
-pub lower_flushed : {K V : Type 0} {keeps : Bool} {code : K → ℕ} (v : RecordsView K V) (b page : ℕ) → IsTraced keeps code v → v.begin ≤ b → page_at v.page_bits b < page → HasReceipt v.receipts page
-    → HasReceipt v.receipts (page_at v.page_bits b)
-lower_flushed v b page t begun low top = t.held (page_at v.page_bits b) (page_rises v.page_bits v.begin b begun) (let high = receipt-within v.receipts page top in omega arith)
+pub lower_flushed : {K V : Type 0} {keeps : Bool} {code : K → ℕ} (v : RecordsView K V) (b page : ℕ) → IsTraced keeps code v → v.log.begin ≤ b → page_at v.log.bits b < page → HasReceipt v.log.receipts page
+    → HasReceipt v.log.receipts (page_at v.log.bits b)
+lower_flushed v b page t begun low top = t.held (page_at v.log.bits b) (page_rises v.log.bits v.log.begin b begun) (let high = receipt-within v.log.receipts page top in omega arith)
 
 -- an address below a page's first record, and not below Begin, lies in a lower page
-pub lower_page : {K V : Type 0} {keeps : Bool} {code : K → ℕ} (v : RecordsView K V) (b page : ℕ) → IsTraced keeps code v → v.begin ≤ b → b < first_place v.page_bits page → page_at v.page_bits b < page
+pub lower_page : {K V : Type 0} {keeps : Bool} {code : K → ℕ} (v : RecordsView K V) (b page : ℕ) → IsTraced keeps code v → v.log.begin ≤ b → b < first_place v.log.bits page → page_at v.log.bits b < page
 lower_page v b zero t begun low = absurd (let least = t.first in omega arith)
-lower_page v b (suc page) t begun low = by_page (nat_lt (page_at v.page_bits b) (suc page)) refl
+lower_page v b (suc page) t begun low = by_page (nat_lt (page_at v.log.bits b) (suc page)) refl
   where
-    by_page : (c : Bool) → nat_lt (page_at v.page_bits b) (suc page) ≡ c → page_at v.page_bits b < suc page
-    by_page true h = ltb-true (page_at v.page_bits b) (suc page) h
+    by_page : (c : Bool) → nat_lt (page_at v.log.bits b) (suc page) ≡ c → page_at v.log.bits b < suc page
+    by_page true h = ltb-true (page_at v.log.bits b) (suc page) h
     by_page false h =
-        let le : suc page ≤ page_at v.page_bits b = grind (arith, nat_tests) in
-        let under = start-below v.page_bits (suc page) b le in
+        let le : suc page ≤ page_at v.log.bits b = grind (arith, nat_tests) in
+        let under = start-below v.log.bits (suc page) b le in
         let none : first_offset (suc page) ≡ 0 = grind (arith, nat_tests) in
         absurd (omega (arith, under, none))
 
 -- what is changed in place may have another value there, and is not frozen
 module _ {K V I O : Type 0} {keeps : Bool} (cmp : K → K → Ordering) (join : V → V → V) (f : Meanings K V I O) (code : K → ℕ) (v : CoreView K V I) (slot c : ℕ) (x : Context K V I) (value : Option V) (told : Answer O) (e : Entry K V) (order : IsKeyOrder cmp) (s : IsSound keeps cmp join code v)
-    (mutable : (k : K) (w : V) → is_entered v.records.regions.epochs slot ≡ true → met_at cmp join code v slot k ≡ Mutable w → IsMetAt cmp join code v.records (seen_at v slot) k w region.Mutable)
-    (unfrozen : (k : K) (w : V) → is_entered v.records.regions.epochs slot ≡ true → (m : IsMetAt cmp join code v.records (seen_at v slot) k w region.Mutable) → v.records.regions.offsets.safe_read_only ≤ m.entry.address)
+    (mutable : (k : K) (w : V) → is_entered v.records.log.regions.epochs slot ≡ true → met_at cmp join code v slot k ≡ Mutable w → IsMetAt cmp join code v.records (seen_at v slot) k w region.Mutable)
+    (unfrozen : (k : K) (w : V) → is_entered v.records.log.regions.epochs slot ≡ true → (m : IsMetAt cmp join code v.records (seen_at v slot) k w region.Mutable) → v.records.log.regions.offsets.safe_read_only ≤ m.entry.address)
     (d : Decides cmp join f code v slot c x (Replace value told)) (last : last_of cmp v.records.text (key_of x.op) ≡ Some e) where
-  entered-here : is_entered v.records.regions.epochs slot ≡ true
+  entered-here : is_entered v.records.log.regions.epochs slot ≡ true
   entered-here = (key_at (slots_of v) v.contexts slot c x d.here).inside
 
   met-here : (w : V) × IsMetAt cmp join code v.records (seen_at v slot) (key_of x.op) w region.Mutable
@@ -256,8 +256,8 @@ module _ {K V I O : Type 0} {keeps : Bool} (cmp : K → K → Ordering) (join : 
   same-entry : met-here.1.entry ≡ e
   same-entry = let both : Some met-here.1.entry ≡ Some e = sym met-here.1.last ∙ last in cc
 
-  pub replaced-high : v.records.regions.offsets.safe_read_only ≤ e.address
-  replaced-high = subst (λ (y : Entry K V). v.records.regions.offsets.safe_read_only ≤ y.address) same-entry (unfrozen (key_of x.op) met-here.0 entered-here met-here.1)
+  pub replaced-high : v.records.log.regions.offsets.safe_read_only ≤ e.address
+  replaced-high = subst (λ (y : Entry K V). v.records.log.regions.offsets.safe_read_only ≤ y.address) same-entry (unfrozen (key_of x.op) met-here.0 entered-here met-here.1)
 
   pub replaced-some : IsReplaceable cmp v.records e.address
   replaced-some = subst (λ (y : Entry K V). IsReplaceable cmp v.records y.address) same-entry (met-replaceable cmp join code v.records (seen_at v slot) (key_of x.op) met-here.0 region.Mutable order met-here.1)

@@ -96,7 +96,7 @@ module _ {K V I : Type 0} (v : PartitionView K V I) (slot c : ℕ) where
 
 -- ---- the core has changed: relocations stay
 module _ {K V I : Type 0} (v : PartitionView K V I) (new : CoreView K V I) where
-  pub relocations-same : new.records.regions ≡ v.core.records.regions → RelocationsStay v.core new → (s d : ℕ) → relocation_at (with_core v new) s d ≡ relocation_at v s d
+  pub relocations-same : new.records.log.regions ≡ v.core.records.log.regions → RelocationsStay v.core new → (s d : ℕ) → relocation_at (with_core v new) s d ≡ relocation_at v s d
   relocations-same same stay s d =
       ap (λ (r : RegionsView). relocating (context_in r.epochs.slots new.contexts s d)) same
       ∙ by_test (is_session (slots_of v.core) s && nat_lt d 8)

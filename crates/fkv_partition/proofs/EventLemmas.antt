@@ -47,7 +47,7 @@ use Rattle.fkv_partition.specs.CoreEffect.{asked, asked_by, LeavesOthers, IsQuie
 use Rattle.fkv_partition.specs.CoreClaiming.{IsClaimed}
 use Rattle.fkv_partition.specs.CoreLooking.{Shifts, Evicts}
 use Rattle.fkv_partition.specs.CoreFlushing.{Flushes}
-use Rattle.fkv_lookups.specs.Flushes.{flush_refusal}
+use Rattle.fkv_hybrid.specs.Flushes.{flush_refusal}
 use Rattle.fkv_functions.specs.declared.refusals.Refused.{Refused}
 use Rattle.fkv_functions.specs.declared.refusals.Refused.TheVariants.{NoSlot, NotDue, DrainFull, NoMemory}
 use Rattle.fkv_partition.specs.CoreGoing.{Decides, Goes, confirms, backs_off}
@@ -155,11 +155,11 @@ module _ {K V I : Type 0} {keeps : Bool} (cmp : K → K → Ordering) (join : V 
   source-is yes_keeps slot c x e ask h q stands held = sym ((kept-at slot c x e ask h q).value yes_keeps stands) ∙ ap value_of held
 
   -- a session is entered: its contexts hold nothing yet
-  pub entered-same : (slot : ℕ) → free_slot v ≡ Some slot → (t d : ℕ) → context_in (entered v.records.regions slot).epochs.slots v.contexts t d ≡ context_in (slots_of v) v.contexts t d
+  pub entered-same : (slot : ℕ) → free_slot v ≡ Some slot → (t d : ℕ) → context_in (entered v.records.log.regions slot).epochs.slots v.contexts t d ≡ context_in (slots_of v) v.contexts t d
   entered-same slot free = same
     where
       mine : Option ℕ
-      mine = Some v.records.regions.epochs.epoch
+      mine = Some v.records.log.regions.epochs.epoch
 
       same : (t d : ℕ) → context_in (slice_set (slots_of v) slot mine) v.contexts t d ≡ context_in (slots_of v) v.contexts t d
       same t d = elim (same_or t slot) [
@@ -183,12 +183,12 @@ module _ {K V I : Type 0} {keeps : Bool} (cmp : K → K → Ordering) (join : V 
               let taken : slice_get (slice_set (slots_of v) slot mine) slot ≡ Some mine = get-set_same (slots_of v) slot None mine is_free in
               rw (taken, is_free, b) refl
 
-  pub event-enter : (slot now : ℕ) → free_slot v ≡ Some slot → IsQuiet keeps v (in_regions v (entered v.records.regions slot) now) now
-  event-enter slot now free = quiet-regions keeps v (entered v.records.regions slot) now (entered-same slot free)
+  pub event-enter : (slot now : ℕ) → free_slot v ≡ Some slot → IsQuiet keeps v (in_regions v (entered v.records.log.regions slot) now) now
+  event-enter slot now free = quiet-regions keeps v (entered v.records.log.regions slot) now (entered-same slot free)
 
 module _ {K V I O : Type 0} (cmp : K → K → Ordering) (join : V → V → V) (f : Meanings K V I O) (code : K → ℕ) (v : CoreView K V I) where
   module _ (slot c now : ℕ) (x : Context K V I) (h : context_at v slot c ≡ Some x) where
-    leaves-in : (y : Option (Context K V I)) (r : RecordsView K V) → r.begin ≡ v.records.begin → r.regions ≡ v.records.regions
+    leaves-in : (y : Option (Context K V I)) (r : RecordsView K V) → r.log.begin ≡ v.records.log.begin → r.log.regions ≡ v.records.log.regions
         → LeavesOthers v (record (with_context v slot c y now) { records = r }) slot c now
     leaves-in y r begin regions = record {
       others = λ t d o. ap (λ (g : RegionsView). option_map asked_by (on_key (context_in g.epochs.slots (slice_set v.contexts (slot * 8 + c) (option_map OnKey y)) t d))) regions ∙ asked-other v slot c now x h y t d o;
@@ -200,7 +200,7 @@ module _ {K V I O : Type 0} (cmp : K → K → Ordering) (join : V → V → V) 
       moment = refl;
     }
 
-    asked-in : (y : Option (Context K V I)) (r : RecordsView K V) → r.regions ≡ v.records.regions → asked (record (with_context v slot c y now) { records = r }) slot c ≡ option_map asked_by y
+    asked-in : (y : Option (Context K V I)) (r : RecordsView K V) → r.log.regions ≡ v.records.log.regions → asked (record (with_context v slot c y now) { records = r }) slot c ≡ option_map asked_by y
     asked-in y r regions = ap (λ (g : RegionsView). option_map asked_by (on_key (context_in g.epochs.slots (slice_set v.contexts (slot * 8 + c) (option_map OnKey y)) slot c))) regions ∙ asked-same v slot c now x h y
 
     leaves : (y : Option (Context K V I)) → LeavesOthers v (with_context v slot c y now) slot c now
@@ -225,9 +225,9 @@ module _ {K V I O : Type 0} (cmp : K → K → Ordering) (join : V → V → V) 
 
     pub prepared-stands : (keeps : Bool) (e : IndexEntry) (source : Option V) (i : I)
         → IsEntryOf v.records (class_in code v.records (key_of x.op)) e
-        → address_of e.word < v.records.tail
+        → address_of e.word < v.records.log.tail
         → newest cmp v.records.text (key_of x.op) (address_of e.word) ≡ last_of cmp v.records.text (key_of x.op)
-        → IsStill v.records.regions.offsets.safe_read_only (last_of cmp v.records.text (key_of x.op))
+        → IsStill v.records.log.regions.offsets.safe_read_only (last_of cmp v.records.text (key_of x.op))
         → IsHeld (met_at cmp join code v slot (key_of x.op)) (live_of cmp v (key_of x.op))
         → decision f x.op (met_at cmp join code v slot (key_of x.op)) ≡ Prepare source i
         → IsTraced keeps code v.records
@@ -246,15 +246,15 @@ module _ {K V I O : Type 0} (cmp : K → K → Ordering) (join : V → V → V) 
     -- a look-up that goes on in a page
     pub loading-stands : (keeps : Bool) (e : IndexEntry) (b : ℕ) (parts : Option V)
         → IsEntryOf v.records (class_in code v.records (key_of x.op)) e
-        → address_of e.word < v.records.tail
+        → address_of e.word < v.records.log.tail
         → newest cmp v.records.text (key_of x.op) (address_of e.word) ≡ last_of cmp v.records.text (key_of x.op)
         → IsWanted cmp join code v.records (key_of x.op) b parts
         → decision f x.op (met_at cmp join code v slot (key_of x.op)) ≡ decided.Load b parts
         → IsTraced keeps code v.records
-        → StandsFor keeps cmp join code v.records x.op (Load (record { begin = v.records.begin; kept = e; wanted = b; parts = parts; looked = now }))
+        → StandsFor keeps cmp join code v.records x.op (Load (record { begin = v.records.log.begin; kept = e; wanted = b; parts = parts; looked = now }))
     loading-stands keeps e b parts entry low newest wanted d traced =
         let k : K = key_of x.op in
-        let l : Loading V = record { begin = v.records.begin; kept = e; wanted = b; parts = parts; looked = now } in
+        let l : Loading V = record { begin = v.records.log.begin; kept = e; wanted = b; parts = parts; looked = now } in
         let stands : IsLoading keeps cmp join code v.records k l = record {
           entry = record { place = entry.place; bucket = entry.bucket; final = entry.final; tag = entry.tag };
           low = low;
@@ -343,7 +343,7 @@ module _ {K V I O : Type 0} (cmp : K → K → Ordering) (join : V → V → V) 
     }
 
     -- the operation is to look again, in another phase, and the text of the records stays
-    pub event-next : {R : Type 0} (phase : Phase V) (records : RecordsView K V) → records.text ≡ v.records.text → records.begin ≡ v.records.begin → records.regions ≡ v.records.regions
+    pub event-next : {R : Type 0} (phase : Phase V) (records : RecordsView K V) → records.text ≡ v.records.text → records.log.begin ≡ v.records.log.begin → records.log.regions ≡ v.records.log.regions
         → IsEvent {R = R} cmp f v (record (with_context v slot c (Some (at_phase x phase)) now) { records = records }) slot c now Next
     event-next phase records text begin regions = record {
       question = asked_by x;
@@ -356,7 +356,7 @@ module _ {K V I O : Type 0} (cmp : K → K → Ordering) (join : V → V → V) 
     -- a tentative entry is made
     pub event-claims : {R : Type 0} (new : CoreView K V I) → IsClaimed code v new slot c x now → IsEvent {R = R} cmp f v new slot c now Next
     event-claims new i =
-        rw i.is (event-next (Confirm i.place) i.records (ap (λ (r : RecordsView K V). r.text) i.claims.is) (ap (λ (r : RecordsView K V). r.begin) i.claims.is) (ap (λ (r : RecordsView K V). r.regions) i.claims.is))
+        rw i.is (event-next (Confirm i.place) i.records (ap (λ (r : RecordsView K V). r.text) i.claims.is) (ap (λ (r : RecordsView K V). r.log.begin) i.claims.is) (ap (λ (r : RecordsView K V). r.log.regions) i.claims.is))
 
     -- a question is asked, from another phase
     pub event-prepares : {R : Type 0} (phase : Phase V) (ask : Ask K V I) → ask.number ≡ x.number → x.op ≡ Rmw ask.key ask.input
@@ -472,25 +472,25 @@ pub event-moved : {K V I : Type 0} (keeps : Bool) (v : CoreView K V I) (r : Reco
     → ((t d : ℕ) → context_in regions.epochs.slots v.contexts t d ≡ context_in (slots_of v) v.contexts t d)
     → IsQuiet keeps v (record v { records = r; moment = now }) now
 event-moved keeps v r regions now m h = record {
-  same = λ t d. ap (λ (w : RecordsView _ _). option_map asked_by (on_key (context_in w.regions.epochs.slots v.contexts t d))) m.is ∙ ap (λ o. option_map asked_by (on_key o)) (h t d);
+  same = λ t d. ap (λ (w : RecordsView _ _). option_map asked_by (on_key (context_in w.log.regions.epochs.slots v.contexts t d))) m.is ∙ ap (λ o. option_map asked_by (on_key o)) (h t d);
   text = m.kept;
   number = refl;
   count = refl;
-  begin = ap (λ (w : RecordsView _ _). w.begin) m.is;
+  begin = ap (λ (w : RecordsView _ _). w.log.begin) m.is;
   cleared = refl;
   moment = refl;
 }
 
 -- a session without open operations is left
-pub left-same : {K V I : Type 0} (v : CoreView K V I) (slot : ℕ) → open_context v slot ≡ None → (t d : ℕ) → context_in (left v.records.regions slot).epochs.slots v.contexts t d ≡ context_in (slots_of v) v.contexts t d
+pub left-same : {K V I : Type 0} (v : CoreView K V I) (slot : ℕ) → open_context v slot ≡ None → (t d : ℕ) → context_in (left v.records.log.regions slot).epochs.slots v.contexts t d ≡ context_in (slots_of v) v.contexts t d
 left-same v slot none t d = elim (same_or t slot) [
   | inl e ↦ ap (λ n. context_in (slice_set (slots_of v) slot None) v.contexts n d) e ∙ context-left (slots_of v) v.contexts slot d ∙ sym (idle-held v slot d none) ∙ ap (λ n. held_at v n d) (sym e)
   | inr n ↦ context-elsewhere (slots_of v) v.contexts slot t d None n
 ]
 
 -- one is refreshed
-pub refreshed-same : {K V I : Type 0} (v : CoreView K V I) (slot : ℕ) → is_session (slots_of v) slot ≡ true → (t d : ℕ) → context_in (refreshed v.records.regions slot).epochs.slots v.contexts t d ≡ context_in (slots_of v) v.contexts t d
-refreshed-same v slot entered t d = context-renewed (slots_of v) v.contexts slot v.records.regions.epochs.epoch t d entered
+pub refreshed-same : {K V I : Type 0} (v : CoreView K V I) (slot : ℕ) → is_session (slots_of v) slot ≡ true → (t d : ℕ) → context_in (refreshed v.records.log.regions slot).epochs.slots v.contexts t d ≡ context_in (slots_of v) v.contexts t d
+refreshed-same v slot entered t d = context-renewed (slots_of v) v.contexts slot v.records.log.regions.epochs.epoch t d entered
 
 -- a page is flushed
 pub event-flushed : {K V I : Type 0} (keeps : Bool) (v : CoreView K V I) (st : Standing) (now : ℕ) → IsQuiet keeps v (record v { records = with_receipt v.records st; moment = now }) now
@@ -500,8 +500,8 @@ event-flushed keeps v st now = record { same = λ t d. refl; text = λ yes_keeps
 pub event-give_up : {K V I : Type 0} (v : CoreView K V I) (slot c now : ℕ) (x : Context K V I) (records : RecordsView K V)
     → context_at v slot c ≡ Some x
     → records.text ≡ v.records.text
-    → records.begin ≡ v.records.begin
-    → records.regions ≡ v.records.regions
+    → records.log.begin ≡ v.records.log.begin
+    → records.log.regions ≡ v.records.log.regions
     → IsGiveUp v (record (with_context v slot c None now) { records = records }) slot c now
 event-give_up v slot c now x records h text begin regions = record {
   question = asked_by x;
@@ -588,8 +588,8 @@ last-is o x y h k = let same : Some x ≡ Some y = sym h ∙ k in cc
 -- a shift that is refused
 pub shift-refused : {K V I : Type 0} (keeps : Bool) (v : CoreView K V I) (page now : ℕ) (result : Result (Unit {0}) Refused) (why : Refused)
     → result ≡ Err why
-    → ((result ≡ Err NotDue) ↔ ¬ IsReadOnlyDue v.records.regions page v.records.tail)
-    → ((result ≡ Err DrainFull) ↔ (IsReadOnlyDue v.records.regions page v.records.tail × (16 ≤ length v.records.regions.epochs.waiting)))
+    → ((result ≡ Err NotDue) ↔ ¬ IsReadOnlyDue v.records.log.regions page v.records.log.tail)
+    → ((result ≡ Err DrainFull) ↔ (IsReadOnlyDue v.records.log.regions page v.records.log.tail × (16 ≤ length v.records.log.regions.epochs.waiting)))
     → (why ≡ NotDue) ⊎ (why ≡ DrainFull)
     → Shifts keeps v v page now result
 shift-refused keeps v page now result why is not_due full only = elim only [
@@ -599,8 +599,8 @@ shift-refused keeps v page now result why is not_due full only = elim only [
 
 pub evict-refused : {K V I : Type 0} (keeps : Bool) (v : CoreView K V I) (page now : ℕ) (result : Result (Unit {0}) Refused) (why : Refused)
     → result ≡ Err why
-    → ((result ≡ Err NotDue) ↔ ¬ IsHeadDue v.records.regions page)
-    → ((result ≡ Err DrainFull) ↔ (IsHeadDue v.records.regions page × (16 ≤ length v.records.regions.epochs.waiting)))
+    → ((result ≡ Err NotDue) ↔ ¬ IsHeadDue v.records.log.regions page)
+    → ((result ≡ Err DrainFull) ↔ (IsHeadDue v.records.log.regions page × (16 ≤ length v.records.log.regions.epochs.waiting)))
     → (why ≡ NotDue) ⊎ (why ≡ DrainFull)
     → Evicts keeps v v page now result
 evict-refused keeps v page now result why is not_due full only = elim only [
@@ -615,21 +615,21 @@ if-all (Err e) p = tt
 -- ---- a page that was written
 pub flush-refused : {K V I : Type 0} (v : CoreView K V I) (st : Standing) (bytes : List ℕ) (now : ℕ) (r : Result (Unit {0}) Refused) (why : Refused)
     → r ≡ Err why
-    → IfSome (flush_refusal v.records st.page bytes) (λ reason. r ≡ Err reason)
-    → (flush_refusal v.records st.page bytes ≡ None → why ≡ NoMemory)
+    → IfSome (flush_refusal v.records.log st.page bytes) (λ reason. r ≡ Err reason)
+    → (flush_refusal v.records.log st.page bytes ≡ None → why ≡ NoMemory)
     → Flushes v v st bytes now r
-flush-refused v st bytes now r why is told only = by_refusal (flush_refusal v.records st.page bytes) refl told only
+flush-refused v st bytes now r why is told only = by_refusal (flush_refusal v.records.log st.page bytes) refl told only
   where
-    by_refusal : (o : Option Refused) → flush_refusal v.records st.page bytes ≡ o → IfSome o (λ reason. r ≡ Err reason) → (o ≡ None → why ≡ NoMemory) → Flushes v v st bytes now r
+    by_refusal : (o : Option Refused) → flush_refusal v.records.log st.page bytes ≡ o → IfSome o (λ reason. r ≡ Err reason) → (o ≡ None → why ≡ NoMemory) → Flushes v v st bytes now r
     by_refusal None none told only = Flushes.unkept none refl (is ∙ ap Err (only refl))
     by_refusal (Some reason) some told only = Flushes.refused reason some refl told
 
 pub flush-taken : {K V I : Type 0} (v : CoreView K V I) (st : Standing) (bytes : List ℕ) (now : ℕ) (r : Result (Unit {0}) Refused)
     → r ≡ Ok tt
-    → IfSome (flush_refusal v.records st.page bytes) (λ reason. r ≡ Err reason)
+    → IfSome (flush_refusal v.records.log st.page bytes) (λ reason. r ≡ Err reason)
     → Flushes v (record v { records = with_receipt v.records st; moment = now }) st bytes now r
-flush-taken v st bytes now r is told = by_refusal (flush_refusal v.records st.page bytes) refl told
+flush-taken v st bytes now r is told = by_refusal (flush_refusal v.records.log st.page bytes) refl told
   where
-    by_refusal : (o : Option Refused) → flush_refusal v.records st.page bytes ≡ o → IfSome o (λ reason. r ≡ Err reason) → Flushes v (record v { records = with_receipt v.records st; moment = now }) st bytes now r
+    by_refusal : (o : Option Refused) → flush_refusal v.records.log st.page bytes ≡ o → IfSome o (λ reason. r ≡ Err reason) → Flushes v (record v { records = with_receipt v.records st; moment = now }) st bytes now r
     by_refusal None none told = Flushes.keeps none refl is
     by_refusal (Some reason) some told = absurd (let bad = sym is ∙ told in cc)

@@ -68,7 +68,7 @@ asks-none cmp r n op (Prepared e s) q h = refl
 
 module _ {K V I : Type 0} (cmp : K → K → Ordering) (old new : CoreView K V I) (slot c now : ℕ) where
   -- a context was set to what waits for no page
-  set-none : (x : Context K V I) → context_at old slot c ≡ Some x → (y : Option (Context K V I)) (r : RecordsView K V) → r.regions ≡ old.records.regions → pending_of cmp r y ≡ None
+  set-none : (x : Context K V I) → context_at old slot c ≡ Some x → (y : Option (Context K V I)) (r : RecordsView K V) → r.log.regions ≡ old.records.log.regions → pending_of cmp r y ≡ None
       → new ≡ record (with_context old slot c y now) { records = r } → pending cmp new slot c ≡ None
   set-none x h y r regions none is =
       ap (λ (v : CoreView K V I). pending cmp v slot c) is
@@ -91,7 +91,7 @@ module _ {K V I O R : Type 0} (cmp : K → K → Ordering) (join : V → V → V
   goes-find stands order s progress (Goes.confirms x q h phase alone is e) = let p : progress ≡ Next = cc in rw p (set-none cmp old new slot c now x h (Some (at_phase x Fresh)) _ refl refl is)
   goes-find stands order s progress (Goes.backs_off x q h phase alone is e) = let p : progress ≡ Next = cc in rw p (set-none cmp old new slot c now x h (Some (at_phase x Fresh)) _ refl refl is)
   goes-find stands order s progress (Goes.done x a d is e) = let p : progress ≡ Done a now = cc in rw p (set-none cmp old new slot c now x d.here None old.records refl refl is)
-  goes-find stands order s progress (Goes.claims x d is e) = let p : progress ≡ Next = cc in rw p (set-none cmp old new slot c now x d.here (Some (at_phase x (Confirm is.place))) is.records (ap (λ (w : RecordsView K V). w.regions) is.claims.is) refl is.is)
+  goes-find stands order s progress (Goes.claims x d is e) = let p : progress ≡ Next = cc in rw p (set-none cmp old new slot c now x d.here (Some (at_phase x (Confirm is.place))) is.records (ap (λ (w : RecordsView K V). w.log.regions) is.claims.is) refl is.is)
   goes-find stands order s progress (Goes.unclaimed x d full is e) = absurd (cc)
   goes-find stands order s progress (Goes.appends x value a k d entry room free is e) = let p : progress ≡ Done a now = cc in rw p (set-none cmp old new slot c now x d.here None _ refl refl is)
   goes-find stands order s progress (Goes.worn x value a d room is e) = absurd (cc)
@@ -106,8 +106,8 @@ module _ {K V I O R : Type 0} (cmp : K → K → Ordering) (join : V → V → V
         question = asked_by x;
         was = ap (option_map asked_by) d.here;
         asks = ap (λ (u : CoreView _ _ _). pending cmp u slot c) is
-            ∙ ap (pending_of cmp old.records) (context-same old slot c now x d.here (Some (at_phase x (Load (record { begin = old.records.begin; kept = k; wanted = b; parts = parts; looked = now })))))
-            ∙ (rw (eq-eqb old.records.begin old.records.begin refl) (ap (λ o. Some (record { moment = now; value = value_of o })) led))
+            ∙ ap (pending_of cmp old.records) (context-same old slot c now x d.here (Some (at_phase x (Load (record { begin = old.records.log.begin; kept = k; wanted = b; parts = parts; looked = now })))))
+            ∙ (rw (eq-eqb old.records.log.begin old.records.log.begin refl) (ap (λ o. Some (record { moment = now; value = value_of o })) led))
             ∙ ap (to_find cmp old now) (sym (keyed-op x.op));
       })
   goes-find stands order s progress (Goes.unshared x b parts d is e) = absurd (cc)

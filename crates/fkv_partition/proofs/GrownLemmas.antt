@@ -54,29 +54,29 @@ use Rattle.fkv_partition.proofs.ClaimLemmas.{place-or}
 -- and no class changes; a final word that leads to a taken address, and stands, stood there before, or leads nowhere
 pub record Grows {K V : Type 0} (keeps : Bool) (cmp : K → K → Ordering) (join : V → V → V) (code : K → ℕ) (old new : RecordsView K V) : Type 0 where
   pub class : (k : K) → class_in code new k ≡ class_in code old k
-  pub tail : old.tail ≤ new.tail
-  pub safe : old.regions.offsets.safe_read_only ≤ new.regions.offsets.safe_read_only
-  pub head : old.regions.offsets.head ≤ new.regions.offsets.head
-  pub begin : new.begin ≡ old.begin
-  pub from : old.from ≤ new.from
+  pub tail : old.log.tail ≤ new.log.tail
+  pub safe : old.log.regions.offsets.safe_read_only ≤ new.log.regions.offsets.safe_read_only
+  pub head : old.log.regions.offsets.head ≤ new.log.regions.offsets.head
+  pub begin : new.log.begin ≡ old.log.begin
+  pub from : old.log.from ≤ new.log.from
   pub kept : IsTrue keeps
       → (k : K) (a : ℕ)
-      → a < old.tail
-      → IsStill old.regions.offsets.safe_read_only (newest cmp old.text k a)
+      → a < old.log.tail
+      → IsStill old.log.regions.offsets.safe_read_only (newest cmp old.text k a)
       → newest cmp new.text k a ≡ newest cmp old.text k a
   pub same_class : (k : K) (a : ℕ)
-      → a < old.regions.offsets.safe_read_only
-      → new.from ≤ a
+      → a < old.log.regions.offsets.safe_read_only
+      → new.log.from ≤ a
       → IsOfClass code old k a
       → IsOfClass code new k a
   pub was : (e : Entry K V)
-      → IsIn new.entries e
-      → e.address < old.tail
-      → (d : Entry K V) × IsIn old.entries d × (d.address ≡ e.address) × (d.key ≡ e.key) × (d.delta ≡ e.delta)
+      → IsIn new.log.text e
+      → e.address < old.log.tail
+      → (d : Entry K V) × IsIn old.log.text d × (d.address ≡ e.address) × (d.key ≡ e.key) × (d.delta ≡ e.delta)
   pub places : (p : Place) → IsPlace old.words p → IsPlace new.words p
   pub held : (p : Place) (w : Word)
       → IsTrue (is_final w)
-      → address_of w < old.tail
+      → address_of w < old.log.tail
       → word_at new.words p ≡ w
       → (word_at old.words p ≡ w) ⊎ (address_of w < 64)
 
@@ -88,7 +88,7 @@ next-grown old new g yes_keeps = record {
   tail = g.tail;
   records = λ k a low still. inl (g.kept yes_keeps k a low still);
   places = g.places;
-  words = λ p w final here. elim (cases_lt (address_of w) old.tail) [
+  words = λ p w final here. elim (cases_lt (address_of w) old.log.tail) [
     | inl low ↦ elim (g.held p w final low here) [ inl was ↦ inl was | inr none ↦ inr (inl none) ]
     | inr high ↦ inr (inr high)
   ];
@@ -97,16 +97,16 @@ next-grown old new g yes_keeps = record {
 -- below the first record no key has one
 pub newest-nowhere : {K V : Type 0} {keeps : Bool} {code : K → ℕ} (cmp : K → K → Ordering) (r : RecordsView K V) (k : K) (a : ℕ) → IsTraced keeps code r → a < 64 → newest cmp r.text k a ≡ None
 newest-nowhere cmp r k a t low = last_where-none (λ e. nat_le e.address a && has_key cmp k e) r.text (λ i e h.
-    let high : r.from ≤ e.address = t.from i e h in
+    let high : r.log.from ≤ e.address = t.from i e h in
     let from = from_first t in
     let least = t.first in
     let no : nat_le e.address a ≡ false = grind (arith, nat_tests) in
     rw no refl)
 
 -- nor below where the text begins
-pub newest-under : {K V : Type 0} {keeps : Bool} {code : K → ℕ} (cmp : K → K → Ordering) (r : RecordsView K V) (k : K) (a : ℕ) → IsTraced keeps code r → a < r.from → newest cmp r.text k a ≡ None
+pub newest-under : {K V : Type 0} {keeps : Bool} {code : K → ℕ} (cmp : K → K → Ordering) (r : RecordsView K V) (k : K) (a : ℕ) → IsTraced keeps code r → a < r.log.from → newest cmp r.text k a ≡ None
 newest-under cmp r k a t low = last_where-none (λ e. nat_le e.address a && has_key cmp k e) r.text (λ i e h.
-    let high : r.from ≤ e.address = t.from i e h in
+    let high : r.log.from ≤ e.address = t.from i e h in
     let no : nat_le e.address a ≡ false = grind (arith, nat_tests) in
     rw no refl)
 
@@ -130,8 +130,8 @@ pub loading-grown : {K V : Type 0} (keeps : Bool) (cmp : K → K → Ordering) (
 loading-grown keeps cmp join code old new k l t g h =
     let o = t.regions.agree.in_order in
     let on_disk = h.on_disk in
-    let frozen : l.wanted < old.regions.offsets.safe_read_only = omega (arith, on_disk, o.head) in
-    let taken : l.wanted < old.tail = omega (arith, frozen, o.safe, t.regions.read_only) in
+    let frozen : l.wanted < old.log.regions.offsets.safe_read_only = omega (arith, on_disk, o.head) in
+    let taken : l.wanted < old.log.tail = omega (arith, frozen, o.safe, t.regions.read_only) in
     let low = h.low in
     let tail = g.tail in
     let head = g.head in
@@ -146,12 +146,12 @@ loading-grown keeps cmp join code old new k l t g h =
           record {
             class = λ begun. g.same_class k l.wanted frozen begun (was.class (let up = g.from in omega arith));
             still =
-                subst (IsStill new.regions.offsets.safe_read_only) (sym (kept-same yes_keeps same))
-                (still-raised old.regions.offsets.safe_read_only new.regions.offsets.safe_read_only (newest cmp old.text k (address_of l.kept.word)) g.safe was.still);
+                subst (IsStill new.log.regions.offsets.safe_read_only) (sym (kept-same yes_keeps same))
+                (still-raised old.log.regions.offsets.safe_read_only new.log.regions.offsets.safe_read_only (newest cmp old.text k (address_of l.kept.word)) g.safe was.still);
             newest =
                 ap value_of (kept-same yes_keeps same)
                 ∙ was.newest
-                ∙ sym (ap (λ o. onto join (value_of o) l.parts) (g.kept yes_keeps k l.wanted taken (still-below cmp old.text k l.wanted old.regions.offsets.safe_read_only frozen)));
+                ∙ sym (ap (λ o. onto join (value_of o) l.parts) (g.kept yes_keeps k l.wanted taken (still-below cmp old.text k l.wanted old.log.regions.offsets.safe_read_only frozen)));
             between = λ e m key above under.
                 let d = g.was e m (omega (arith, low, under)) in
                 let own : has_key cmp k d.0 ≡ true = ap (λ q. is_at (cmp q) k) d.3 ∙ key in
@@ -160,7 +160,7 @@ loading-grown keeps cmp join code old new k l t g h =
     }
   where
     -- what is newest from where the entry led stays
-    kept-same : IsTrue keeps → l.begin ≡ new.begin → newest cmp new.text k (address_of l.kept.word) ≡ newest cmp old.text k (address_of l.kept.word)
+    kept-same : IsTrue keeps → l.begin ≡ new.log.begin → newest cmp new.text k (address_of l.kept.word) ≡ newest cmp old.text k (address_of l.kept.word)
     kept-same yes_keeps same = g.kept yes_keeps k (address_of l.kept.word) h.low (h.leads yes_keeps (same ∙ g.begin)).still
 
 pub kept-grown : {K V : Type 0} (keeps : Bool) (cmp : K → K → Ordering) (join : V → V → V) (code : K → ℕ) (old new : RecordsView K V) (k : K) (e : IndexEntry) (source : Option V) → IsTraced keeps code old → Grows keeps cmp join code old new → IsKept keeps cmp code old k e source
@@ -189,9 +189,9 @@ kept-grown keeps cmp join code old new k e source t g h =
     by_value yes_keeps (inl was) = ap value_of (g.kept yes_keeps k a h.low (h.still yes_keeps was)) ∙ h.value yes_keeps was
     by_value yes_keeps (inr none) = ap value_of (nowhere yes_keeps none) ∙ sym (h.nowhere yes_keeps none)
 
-    by_still : IsTrue keeps → (word_at old.words e.place ≡ e.word) ⊎ (a < 64) → IsStill new.regions.offsets.safe_read_only (newest cmp new.text k a)
-    by_still yes_keeps (inl was) = subst (IsStill new.regions.offsets.safe_read_only) (sym (g.kept yes_keeps k a h.low (h.still yes_keeps was)))
-        (still-raised old.regions.offsets.safe_read_only new.regions.offsets.safe_read_only (newest cmp old.text k a) g.safe (h.still yes_keeps was))
+    by_still : IsTrue keeps → (word_at old.words e.place ≡ e.word) ⊎ (a < 64) → IsStill new.log.regions.offsets.safe_read_only (newest cmp new.text k a)
+    by_still yes_keeps (inl was) = subst (IsStill new.log.regions.offsets.safe_read_only) (sym (g.kept yes_keeps k a h.low (h.still yes_keeps was)))
+        (still-raised old.log.regions.offsets.safe_read_only new.log.regions.offsets.safe_read_only (newest cmp old.text k a) g.safe (h.still yes_keeps was))
     by_still yes_keeps (inr none) = rw (nowhere yes_keeps none) tt
 
 -- an operation stands for what it stood for, where the word that it claims stays
@@ -224,22 +224,22 @@ module _ {K V : Type 0} where
   laid-most bits size begin tail (e ∷ es) low h = laid-most bits size (tail_after bits size begin) tail es (after-most bits size begin) h.2
 
   -- no record stands above the greatest address
-  pub tail-most : {keeps : Bool} {code : K → ℕ} (v : RecordsView K V) → IsTraced keeps code v → v.tail ≤ 2 ^ 48
-  tail-most {keeps} v t = laid-most v.page_bits v.record_size v.from v.tail v.text (subst (λ n. n ≤ 2 ^ 48) (sym t.begins) (by_keeps keeps)) t.laid_out
+  pub tail-most : {keeps : Bool} {code : K → ℕ} (v : RecordsView K V) → IsTraced keeps code v → v.log.tail ≤ 2 ^ 48
+  tail-most {keeps} v t = laid-most v.log.bits v.record_size v.log.from v.log.tail v.text (subst (λ n. n ≤ 2 ^ 48) (sym t.begins) (by_keeps keeps)) t.laid_out
     where
-      o : IsInOrder v.regions.bits v.regions.flushed v.regions.offsets
+      o : IsInOrder v.log.regions.bits v.log.regions.flushed v.log.regions.offsets
       o = t.regions.agree.in_order
 
-      headed : v.begin ≤ 2 ^ 48
+      headed : v.log.begin ≤ 2 ^ 48
       headed = omega (arith, t.regions.headed, o.head, o.safe, o.most)
 
-      by_closed : (b : Bool) → cond b v.regions.offsets.closed v.begin ≤ 2 ^ 48
+      by_closed : (b : Bool) → cond b v.log.regions.offsets.closed v.log.begin ≤ 2 ^ 48
       by_closed true = omega (arith, o.closed, o.head, o.safe, o.most)
       by_closed false = headed
 
-      by_keeps : (b : Bool) → text_begin b v.begin v.regions.offsets.closed ≤ 2 ^ 48
+      by_keeps : (b : Bool) → text_begin b v.log.begin v.log.regions.offsets.closed ≤ 2 ^ 48
       by_keeps true = headed
-      by_keeps false = by_closed (nat_le v.begin v.regions.offsets.closed)
+      by_keeps false = by_closed (nat_le v.log.begin v.log.regions.offsets.closed)
 
 -- and none lower than before stands at the next
 pub tail-up : (bits size a : ℕ) → a ≤ 2 ^ 48 → a ≤ tail_after bits size a
@@ -292,7 +292,7 @@ module _ {K V : Type 0} {keeps : Bool} (cmp : K → K → Ordering) (join : V �
   }
 
   -- the regions move
-  pub grown-regions : (regions : RegionsView) → IsRaised v.regions.offsets regions.offsets → Grows keeps cmp join code v (with_regions v regions)
+  pub grown-regions : (regions : RegionsView) → IsRaised v.log.regions.offsets regions.offsets → Grows keeps cmp join code v (with_regions v regions)
   grown-regions regions up = record {
     class = λ k. refl;
     tail = omega arith;
@@ -308,30 +308,30 @@ module _ {K V : Type 0} {keeps : Bool} (cmp : K → K → Ordering) (join : V �
   }
 
   -- frames are closed too, and the text may begin higher
-  pub grown-moved : (r : RecordsView K V) (regions : RegionsView) → IsMoved keeps regions v r → IsRaised v.regions.offsets r.regions.offsets → Grows keeps cmp join code v r
+  pub grown-moved : (r : RecordsView K V) (regions : RegionsView) → IsMoved keeps regions v r → IsRaised v.log.regions.offsets r.log.regions.offsets → Grows keeps cmp join code v r
   grown-moved r regions m up = record {
     class = λ k. ap (λ (w : RecordsView K V). class_in code w k) m.is;
-    tail = (let same : r.tail ≡ v.tail = ap (λ (w : RecordsView K V). w.tail) m.is in omega arith);
+    tail = (let same : r.log.tail ≡ v.log.tail = ap (λ (w : RecordsView K V). w.log.tail) m.is in omega arith);
     safe = up.safe;
     head = up.head;
-    begin = ap (λ (w : RecordsView K V). w.begin) m.is;
-    from = (let rises = begin_rises keeps v.begin v.regions.offsets.closed regions.offsets.closed (let same : r.regions.offsets.closed ≡ regions.offsets.closed = ap (λ (w : RecordsView K V). w.regions.offsets.closed) m.is in let more = up.closed in omega arith) in
+    begin = ap (λ (w : RecordsView K V). w.log.begin) m.is;
+    from = (let rises = begin_rises keeps v.log.begin v.log.regions.offsets.closed regions.offsets.closed (let same : r.log.regions.offsets.closed ≡ regions.offsets.closed = ap (λ (w : RecordsView K V). w.log.regions.offsets.closed) m.is in let more = up.closed in omega arith) in
         let was = t.begins in
         let is = starts in
         omega arith);
     kept = λ yes_keeps k a low still. ap (λ t. newest cmp t k a) (m.kept yes_keeps);
     same_class = λ k a frozen begun o. record {
       entry = o.entry;
-      here = ap (λ (w : RecordsView K V). entry_at w.entries a) m.is ∙ cut-entry (text_begin keeps v.begin regions.offsets.closed) a v.entries (subst (λ n. n ≤ a) starts begun) ∙ o.here;
+      here = ap (λ (w : RecordsView K V). entry_at w.log.text a) m.is ∙ cut-entry (text_begin keeps v.log.begin regions.offsets.closed) a v.log.text (subst (λ n. n ≤ a) starts begun) ∙ o.here;
       class = ap (λ (w : RecordsView K V). class_in code w o.entry.key) m.is ∙ o.class ∙ sym (ap (λ (w : RecordsView K V). class_in code w k) m.is);
     };
-    was = λ e i low. (e, (filter-in (λ (d : Entry K V). nat_le (text_begin keeps v.begin regions.offsets.closed) d.address) v.entries i.place e (ap (λ (w : RecordsView K V). slice_get w.entries i.place) (sym m.is) ∙ i.here)).0, refl, refl, refl);
+    was = λ e i low. (e, (filter-in (λ (d : Entry K V). nat_le (text_begin keeps v.log.begin regions.offsets.closed) d.address) v.log.text i.place e (ap (λ (w : RecordsView K V). slice_get w.log.text i.place) (sym m.is) ∙ i.here)).0, refl, refl, refl);
     places = λ p h. subst (λ w. IsPlace w p) (sym (ap (λ (w : RecordsView K V). w.words) m.is)) h;
     held = λ p w f low h. inl (sym (ap (λ (u : RecordsView K V). word_at u.words p) m.is) ∙ h);
   }
     where
-      starts : r.from ≡ text_begin keeps v.begin regions.offsets.closed
-      starts = ap (λ (w : RecordsView K V). w.from) m.is
+      starts : r.log.from ≡ text_begin keeps v.log.begin regions.offsets.closed
+      starts = ap (λ (w : RecordsView K V). w.log.from) m.is
 
   -- a page is flushed
   pub grown-flushed : (st : Standing) → Grows keeps cmp join code v (with_receipt v st)
@@ -349,7 +349,7 @@ module _ {K V : Type 0} {keeps : Bool} (cmp : K → K → Ordering) (join : V �
     held = λ p w f low h. inl h;
   }
 
-  frozen-low : (a : ℕ) → a < v.regions.offsets.safe_read_only → a < v.tail
+  frozen-low : (a : ℕ) → a < v.log.regions.offsets.safe_read_only → a < v.log.tail
   frozen-low a low = let o = t.regions.agree.in_order in omega (arith, low, o.safe, t.regions.read_only)
 
   -- a record at the tail
@@ -360,17 +360,17 @@ module _ {K V : Type 0} {keeps : Bool} (cmp : K → K → Ordering) (join : V �
     head = omega arith;
     begin = refl;
     from = omega arith;
-    same_class = λ q a low begun o. (let under = frozen-low a low in record { entry = o.entry; here = entry_at-old v.entries last a (λ same. omega arith) ∙ o.here; class = o.class });
-    was = λ x m low. elim (get-append_cases v.entries last m.place x m.here) [
+    same_class = λ q a low begun o. (let under = frozen-low a low in record { entry = o.entry; here = entry_at-old v.log.text last a (λ same. omega arith) ∙ o.here; class = o.class });
+    was = λ x m low. elim (get-append_cases v.log.text last m.place x m.here) [
       | inl was ↦ (x, record { place = m.place; here = was }, refl, refl, refl)
-      | inr new ↦ absurd (let at : v.tail ≡ x.address = ap (λ (y : Entry K V). y.address) new.1 in omega arith)
+      | inr new ↦ absurd (let at : v.log.tail ≡ x.address = ap (λ (y : Entry K V). y.address) new.1 in omega arith)
     ];
-    tail = tail-up v.page_bits v.record_size v.tail (tail-most v t);
+    tail = tail-up v.log.bits v.record_size v.log.tail (tail-most v t);
     kept = λ keeps q a low still. newest-below cmp v.text stands q a low;
     places = λ p h. (written.places p).1 h;
     held = λ p w f low h. elim (place-or p e.place) [
-      | inl here ↦ elim (appended-leads v.words e.place (tag_of e.word) v.tail place (tail-most v t)) [
-        | inl leads ↦ absurd (let same : address_of w ≡ v.tail = ap address_of (sym h ∙ ap (word_at (with_written v e k payload has).words) here) ∙ leads in omega arith)
+      | inl here ↦ elim (appended-leads v.words e.place (tag_of e.word) v.log.tail place (tail-most v t)) [
+        | inl leads ↦ absurd (let same : address_of w ≡ v.log.tail = ap address_of (sym h ∙ ap (word_at (with_written v e k payload has).words) here) ∙ leads in omega arith)
         | inr none ↦ inr (subst (λ u. address_of u < 64) (sym (ap (word_at (with_written v e k payload has).words) here) ∙ h) none)
       ]
       | inr other ↦ inl (sym (written.elsewhere p other) ∙ h)
@@ -378,24 +378,24 @@ module _ {K V : Type 0} {keeps : Bool} (cmp : K → K → Ordering) (join : V �
   }
     where
       last : Entry K V
-      last = record { address = v.tail; previous = address_of e.word; key = k; value = value_in payload; delta = is_part payload }
+      last = record { address = v.log.tail; previous = address_of e.word; key = k; value = value_in payload; delta = is_part payload }
 
       stands : Entry K V
-      stands = record { address = v.tail; previous = address_of e.word; key = k; value = has; delta = is_part payload }
+      stands = record { address = v.log.tail; previous = address_of e.word; key = k; value = has; delta = is_part payload }
 
-      written : Writes e.place (final_word (tag_of e.word) v.tail) v.words (with_written v e k payload has).words
-      written = writes v.words e.place (final_word (tag_of e.word) v.tail) place
+      written : Writes e.place (final_word (tag_of e.word) v.log.tail) v.words (with_written v e k payload has).words
+      written = writes v.words e.place (final_word (tag_of e.word) v.log.tail) place
 
   -- a record gets another value where it stands, or becomes a tombstone
-  pub was-replaced : (a : ℕ) (value : Option V) (e : Entry K V) → IsIn (with_value v a value).entries e
-      → (d : Entry K V) × IsIn v.entries d × (d.address ≡ e.address) × (d.key ≡ e.key) × (d.delta ≡ e.delta)
+  pub was-replaced : (a : ℕ) (value : Option V) (e : Entry K V) → IsIn (with_value v a value).log.text e
+      → (d : Entry K V) × IsIn v.log.text d × (d.address ≡ e.address) × (d.key ≡ e.key) × (d.delta ≡ e.delta)
   was-replaced a value e m =
-      let w = was_at a value v.entries m.place e m.here in
+      let w = was_at a value v.log.text m.place e m.here in
       (w.entry, record { place = m.place; here = w.here }, sym (ap (λ (y : Entry K V). y.address) (sym w.is) ∙ set_at-address a value w.entry), sym (ap (λ (y : Entry K V). y.key) (sym w.is) ∙ set_at-key a value w.entry), sym (ap (λ (y : Entry K V). y.delta) (sym w.is) ∙ flag-kept a value w.entry))
 
   pub grown-replaced : (a : ℕ) (value : Option V)
-      → v.regions.offsets.safe_read_only ≤ a
-      → ((q : K) (b : ℕ) → IsStill v.regions.offsets.safe_read_only (newest cmp v.text q b) → newest cmp (with_value v a value).text q b ≡ newest cmp v.text q b)
+      → v.log.regions.offsets.safe_read_only ≤ a
+      → ((q : K) (b : ℕ) → IsStill v.log.regions.offsets.safe_read_only (newest cmp v.text q b) → newest cmp (with_value v a value).text q b ≡ newest cmp v.text q b)
       → Grows keeps cmp join code v (with_value v a value)
   grown-replaced a value high kept = record {
     class = λ q. refl;
@@ -405,7 +405,7 @@ module _ {K V : Type 0} {keeps : Bool} (cmp : K → K → Ordering) (join : V �
     begin = refl;
     from = omega arith;
     kept = λ keeps q b low still. kept q b still;
-    same_class = λ q b low begun o. record { entry = o.entry; here = entry_at-elsewhere a value v.entries b (λ same. omega arith) ∙ o.here; class = o.class };
+    same_class = λ q b low begun o. record { entry = o.entry; here = entry_at-elsewhere a value v.log.text b (λ same. omega arith) ∙ o.here; class = o.class };
     was = λ e m low. was-replaced a value e m;
     places = λ p h. h;
     held = λ p w f low h. inl h;

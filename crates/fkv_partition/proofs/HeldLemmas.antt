@@ -24,20 +24,20 @@ tail-most bits size begin tail [] le h = let same : begin ≡ tail = h in omega 
 tail-most bits size begin tail (e ∷ es) le h = tail-most bits size (tail_after bits size begin) tail es (after-most bits size begin) h.2
 
 module _ {K V : Type 0} {keeps : Bool} {code : K → ℕ} (v : RecordsView K V) (t : IsTraced keeps code v) where
-  first-low : v.from ≤ 2 ^ 48
+  first-low : v.log.from ≤ 2 ^ 48
   first-low =
       let o = t.regions.agree.in_order in
-      rw t.begins (begins_low keeps v.begin v.regions.offsets.closed (2 ^ 48) (omega (arith, t.regions.headed, o.head, o.safe, o.most)) (omega (arith, o.closed, o.head, o.safe, o.most)))
+      rw t.begins (begins_low keeps v.log.begin v.log.regions.offsets.closed (2 ^ 48) (omega (arith, t.regions.headed, o.head, o.safe, o.most)) (omega (arith, o.closed, o.head, o.safe, o.most)))
 
-  first-place : v.from < 2 ^ 48 → IsRecordStart v.page_bits v.record_size v.from
+  first-place : v.log.from < 2 ^ 48 → IsRecordStart v.log.bits v.record_size v.log.from
   first-place =
       let o = t.regions.agree.in_order in
-      let marked = subst (λ bits. IsMark bits v.regions.offsets.closed) t.regions.bits o.closed_mark in
-      rw t.begins (begin_place v.page_bits v.record_size v.begin v.regions.offsets.closed
-      (mark-place v.page_bits v.record_size v.begin t.shape t.marked t.first)
-      (mark-place v.page_bits v.record_size v.regions.offsets.closed t.shape marked o.first) keeps)
+      let marked = subst (λ bits. IsMark bits v.log.regions.offsets.closed) t.regions.bits o.closed_mark in
+      rw t.begins (begin_place v.log.bits v.record_size v.log.begin v.log.regions.offsets.closed
+      (mark-place v.log.bits v.record_size v.log.begin t.shape t.marked t.first)
+      (mark-place v.log.bits v.record_size v.log.regions.offsets.closed t.shape marked o.first) keeps)
 
-  pub place-held : (a : ℕ) → IsRecordStart v.page_bits v.record_size a → v.from ≤ a → a < v.tail → IsSome (entry_at v.text a)
+  pub place-held : (a : ℕ) → IsRecordStart v.log.bits v.record_size a → v.log.from ≤ a → a < v.log.tail → IsSome (entry_at v.text a)
   place-held a place low high =
-      entry_there v.page_bits v.record_size t.shape v.from v.tail a v.text first-place
-      (tail-most v.page_bits v.record_size v.from v.tail v.text first-low t.laid_out) t.laid_out place low high
+      entry_there v.log.bits v.record_size t.shape v.log.from v.log.tail a v.text first-place
+      (tail-most v.log.bits v.record_size v.log.from v.log.tail v.text first-low t.laid_out) t.laid_out place low high

@@ -57,23 +57,23 @@ laid-end bits size s begin tail (e ∷ es) p h low =
     laid-end bits size s (tail_after bits size begin) tail es t.place h.2 low
 
 -- the next record stands at a place, where there can be one
-pub tail-place : {K V : Type 0} {keeps : Bool} {code : K → ℕ} (v : RecordsView K V) → IsTraced keeps code v → v.tail < 2 ^ 48 → IsRecordStart v.page_bits v.record_size v.tail
-tail-place {keeps} v t low = laid-end v.page_bits v.record_size t.shape v.from v.tail v.text from t.laid_out low
+pub tail-place : {K V : Type 0} {keeps : Bool} {code : K → ℕ} (v : RecordsView K V) → IsTraced keeps code v → v.log.tail < 2 ^ 48 → IsRecordStart v.log.bits v.record_size v.log.tail
+tail-place {keeps} v t low = laid-end v.log.bits v.record_size t.shape v.log.from v.log.tail v.text from t.laid_out low
   where
-    from : v.from < 2 ^ 48 → IsRecordStart v.page_bits v.record_size v.from
+    from : v.log.from < 2 ^ 48 → IsRecordStart v.log.bits v.record_size v.log.from
     from =
         let o = t.regions.agree.in_order in
-        let marked = subst (λ bits. IsMark bits v.regions.offsets.closed) t.regions.bits o.closed_mark in
-        subst (λ a. a < 2 ^ 48 → IsRecordStart v.page_bits v.record_size a) (sym t.begins) (begin-place v.page_bits v.record_size v.begin v.regions.offsets.closed
-        (mark-place v.page_bits v.record_size v.begin t.shape t.marked t.first)
-        (mark-place v.page_bits v.record_size v.regions.offsets.closed t.shape marked o.first) keeps)
+        let marked = subst (λ bits. IsMark bits v.log.regions.offsets.closed) t.regions.bits o.closed_mark in
+        subst (λ a. a < 2 ^ 48 → IsRecordStart v.log.bits v.record_size a) (sym t.begins) (begin-place v.log.bits v.record_size v.log.begin v.log.regions.offsets.closed
+        (mark-place v.log.bits v.record_size v.log.begin t.shape t.marked t.first)
+        (mark-place v.log.bits v.record_size v.log.regions.offsets.closed t.shape marked o.first) keeps)
 
 -- no record stands between a place and the next
-pub next-low : {K V : Type 0} {keeps : Bool} {code : K → ℕ} (v : RecordsView K V) → IsTraced keeps code v → (a : ℕ) → IsRecordStart v.page_bits v.record_size a → a < v.tail → tail_after v.page_bits v.record_size a ≤ v.tail
+pub next-low : {K V : Type 0} {keeps : Bool} {code : K → ℕ} (v : RecordsView K V) → IsTraced keeps code v → (a : ℕ) → IsRecordStart v.log.bits v.record_size a → a < v.log.tail → tail_after v.log.bits v.record_size a ≤ v.log.tail
 next-low v t a place low =
-    let next = after v.page_bits v.record_size t.shape a place in
-    elim (cases_lt v.tail (2 ^ 48)) [
-      | inl under ↦ after-nearest v.page_bits v.record_size t.shape a v.tail place (tail-place v t under) low
+    let next = after v.log.bits v.record_size t.shape a place in
+    elim (cases_lt v.log.tail (2 ^ 48)) [
+      | inl under ↦ after-nearest v.log.bits v.record_size t.shape a v.log.tail place (tail-place v t under) low
       | inr end ↦ (let most = next.most in omega arith)
     ]
 
@@ -91,15 +91,15 @@ stood-before {K} {V} {I} old new stay p x h =
 module _ {K V I : Type 0} (keeps : Bool) (cmp : K → K → Ordering) (join : V → V → V) (code : K → ℕ) where
   -- ---- an event of the partition
   -- a relocation that is to append its record again
-  ready-kept : (old new : CoreView K V I) → IsTraced keeps code new.records → IsStood cmp join new.records → IsPreserved keeps cmp join code old new → (place : ℕ) → place < old.records.regions.offsets.safe_read_only → (entry : Entry K V) (kept : IndexEntry)
+  ready-kept : (old new : CoreView K V I) → IsTraced keeps code new.records → IsStood cmp join new.records → IsPreserved keeps cmp join code old new → (place : ℕ) → place < old.records.log.regions.offsets.safe_read_only → (entry : Entry K V) (kept : IndexEntry)
       → IsReady keeps cmp join code old.records place entry kept → IsReady keeps cmp join code new.records place entry kept
   ready-kept old new t st b place frozen entry kept h = record {
     here = h.here;
     some = h.some;
     is_kept = b.bears.kept entry.key kept entry.value h.is_kept;
     own = λ yes_keeps d there.
-        let m = last_where-in (λ x. x.address == place) new.records.entries d there in
-        let at = eqb-true d.address place (last_where-found (λ x. x.address == place) new.records.entries d there) in
+        let m = last_where-in (λ x. x.address == place) new.records.log.text d there in
+        let at = eqb-true d.address place (last_where-found (λ x. x.address == place) new.records.log.text d there) in
         let low = (traced-raw t st).from m.place d m.here in
         h.own yes_keeps d (sym (b.grown.stay place (omega arith) frozen) ∙ there);
     between = λ yes_keeps d m key above under.
@@ -111,7 +111,7 @@ module _ {K V I : Type 0} (keeps : Bool) (cmp : K → K → Ordering) (join : V 
 
   -- a relocation stands for what it stood for
   stage-kept : (old new : CoreView K V I) → new.number ≡ old.number → new.count ≡ old.count → IsTraced keeps code new.records → IsStood cmp join new.records → IsPreserved keeps cmp join code old new
-      → (place : ℕ) → place < old.records.regions.offsets.safe_read_only → (stage : Stage K V) → StageStands keeps cmp join code old place stage → StageStands keeps cmp join code new place stage
+      → (place : ℕ) → place < old.records.log.regions.offsets.safe_read_only → (stage : Stage K V) → StageStands keeps cmp join code old place stage → StageStands keeps cmp join code new place stage
   stage-kept old new number count t st b place frozen Fresh h = tt
   stage-kept old new number count t st b place frozen (Reading begin) h =
       let up = b.grown.begin in
@@ -131,8 +131,8 @@ module _ {K V I : Type 0} (keeps : Bool) (cmp : K → K → Ordering) (join : V 
       is = λ yes_keeps same.
           let past = h.1.loading.past in
           let up = b.grown.begin in
-          let stood : l.begin ≡ old.records.begin = omega (arith, past, up, same) in
-          let from : new.records.from ≡ new.records.begin = t.begins ∙ kept-begin keeps new.records.begin new.records.regions.offsets.closed yes_keeps in
+          let stood : l.begin ≡ old.records.log.begin = omega (arith, past, up, same) in
+          let from : new.records.log.from ≡ new.records.log.begin = t.begins ∙ kept-begin keeps new.records.log.begin new.records.log.regions.offsets.closed yes_keeps in
           let begun = h.1.begun in
           b.grown.stay place (omega (arith, from, begun, same)) frozen ∙ h.1.is yes_keeps stood;
     },
@@ -149,7 +149,7 @@ module _ {K V I : Type 0} (keeps : Bool) (cmp : K → K → Ordering) (join : V 
       → IsPreserved keeps cmp join code v.core new
       → new.number ≡ v.core.number
       → new.count ≡ v.core.count
-      → new.records.begin ≤ v.cleared
+      → new.records.log.begin ≤ v.cleared
       → ((p : ℕ) (x : Relocation K V) → slice_get new.contexts p ≡ Some (Some (Relocating x)) → slice_get v.core.contexts p ≡ Some (Some (Relocating x)))
       → IsCompacting keeps cmp join code (with_core v new)
   keep-event v new i t st b number count begun stood =
@@ -193,9 +193,9 @@ module _ {K V I : Type 0} (keeps : Bool) (cmp : K → K → Ordering) (join : V 
   -- what is cleared may rise
   pub record Rises (v : PartitionView K V I) (limit : ℕ) : Type 0 where
     pub higher : v.cleared ≤ limit
-    pub low : limit ≤ v.core.records.tail
-    pub place : limit < 2 ^ 48 → IsRecordStart v.core.records.page_bits v.core.records.record_size limit
-    pub cleared : IsTrue keeps → IsCleared cmp v.core.records.entries limit
+    pub low : limit ≤ v.core.records.log.tail
+    pub place : limit < 2 ^ 48 → IsRecordStart v.core.records.log.bits v.core.records.record_size limit
+    pub cleared : IsTrue keeps → IsCleared cmp v.core.records.log.text limit
 
   higher-stands : (v : PartitionView K V I) (cleared : ℕ) → Rises v cleared → (x : Relocation K V) → RelocationStands keeps cmp join code v.core v.cleared x → RelocationStands keeps cmp join code v.core cleared x
   higher-stands v cleared r x h = record { place = h.place; frozen = h.frozen; issued = (let up = r.higher in let issued = h.issued in omega arith); stage = h.stage }
@@ -237,31 +237,31 @@ module _ {K V I : Type 0} (keeps : Bool) (cmp : K → K → Ordering) (join : V 
   pub rises-past : (v : PartitionView K V I) (place : ℕ) → IsCompacting keeps cmp join code v
       → IsTraced keeps code v.core.records
       → place ≤ v.cleared
-      → IsRecordStart v.core.records.page_bits v.core.records.record_size place
-      → place < v.core.records.tail
-      → (IsTrue keeps → IsCleared cmp v.core.records.entries place → IsCleared cmp v.core.records.entries (tail_after v.core.records.page_bits v.core.records.record_size place))
+      → IsRecordStart v.core.records.log.bits v.core.records.record_size place
+      → place < v.core.records.log.tail
+      → (IsTrue keeps → IsCleared cmp v.core.records.log.text place → IsCleared cmp v.core.records.log.text (tail_after v.core.records.log.bits v.core.records.record_size place))
       → Rises v (cleared_past v place)
   rises-past v place s t issued at low raised = by_test (nat_le v.cleared place) refl
     where
       r : RecordsView K V
       r = v.core.records
 
-      by_test : (b : Bool) → nat_le v.cleared place ≡ b → Rises v (cond b (tail_after r.page_bits r.record_size place) v.cleared)
+      by_test : (b : Bool) → nat_le v.cleared place ≡ b → Rises v (cond b (tail_after r.log.bits r.record_size place) v.cleared)
       by_test false h = rises-not v s
       by_test true h =
           let under : v.cleared ≤ place = grind (arith, nat_tests, h) in
           let same : v.cleared ≡ place = omega arith in
-          let next = after r.page_bits r.record_size t.shape place at in
+          let next = after r.log.bits r.record_size t.shape place at in
           let above = next.above in
           record {
             higher = omega arith;
             low = next-low r t place at low;
             place = next.place;
-            cleared = λ yes_keeps. raised yes_keeps (subst (IsCleared cmp r.entries) same (s.cleared yes_keeps));
+            cleared = λ yes_keeps. raised yes_keeps (subst (IsCleared cmp r.log.text) same (s.cleared yes_keeps));
           }
 
   -- ---- the beginning
-  pub compacting-empty : (p : CoreView K V I) → p.records.begin ≡ 64 → p.records.tail ≡ 64 → p.records.entries ≡ [] → p.contexts ≡ replicate 128 None → IsCompacting keeps cmp join code (record { core = p; cleared = 64 })
+  pub compacting-empty : (p : CoreView K V I) → p.records.log.begin ≡ 64 → p.records.log.tail ≡ 64 → p.records.log.text ≡ [] → p.contexts ≡ replicate 128 None → IsCompacting keeps cmp join code (record { core = p; cleared = 64 })
   compacting-empty p begin tail entries contexts = record {
     begun = omega arith;
     low = omega arith;
@@ -282,7 +282,7 @@ none-at (Some x) h = absurd (h x refl)
 
 module _ {K V I : Type 0} (keeps : Bool) (cmp : K → K → Ordering) (join : V → V → V) (code : K → ℕ) where
   -- the lowest place that is not cleared may be taken once it is frozen
-  pub may-relocate : (v : PartitionView K V I) → IsCompacting keeps cmp join code v → IsTraced keeps code v.core.records → v.cleared < v.core.records.regions.offsets.safe_read_only → (now : ℕ)
+  pub may-relocate : (v : PartitionView K V I) → IsCompacting keeps cmp join code v → IsTraced keeps code v.core.records → v.cleared < v.core.records.log.regions.offsets.safe_read_only → (now : ℕ)
       → RelocationStands keeps cmp join code v.core v.cleared (record { number = now; target = v.cleared; stage = Fresh })
   may-relocate v i t frozen now =
       let o = t.regions.agree.in_order in

@@ -63,7 +63,7 @@ module _ {K V : Type 0} (cmp : K → K → Ordering) (m : PlainMap K V) (text : 
 -- the keys of the text of a partition belong there
 module _ {K V I : Type 0} {keeps : Bool} {v : CoreView K V I} (cmp : K → K → Ordering) (join : V → V → V) (code : K → ℕ) (order : IsKeyOrder cmp) (s : IsSound keeps cmp join code v) where
   own-keys : (i : ℕ) (e : Entry K V) → slice_get v.records.text i ≡ Some e → partition_of v.count (code e.key) ≡ v.number
-  own-keys = stood-keys cmp join (λ k. partition_of v.count (code k) ≡ v.number) v.records.entries v.records.text s.stood.is s.routed
+  own-keys = stood-keys cmp join (λ k. partition_of v.count (code k) ≡ v.number) v.records.log.text v.records.text s.stood.is s.routed
 
   pub own-apart : (m : PlainMap K V) → IsBare code v m → IsApart cmp m v.records.text
   own-apart m bare = bare-apart cmp order (λ k. partition_of v.count (code k) ≡ v.number) m v.records.text own-keys bare

@@ -1,5 +1,5 @@
 -- What a page that came tells an operation that waits for it.
-use Rattle.std.proofs.Common.{◌≡◌, ◌≢◌, ◌<◌, ◌≤◌, inl, inr, ℕ, Bool, true, false, List, Option, Some, None, length, nat_lt, slice_get, refl, sym, ◌∙◌, ap, subst, arith}
+use Rattle.std.proofs.Common.{◌≡◌, ◌≢◌, ◌<◌, ◌≤◌, inl, inr, ℕ, Bool, true, false, List, Option, Some, None, nat_lt, refl, sym, ◌∙◌, ap, subst, arith}
 use Rattle.std.proofs.lemmas.Bool.Decides.{nat_tests}
 use Rattle.std.proofs.lemmas.Bool.{ltb-true, cases_lt}
 use Rattle.std.specs.Prelude.{IsTrue, Result, Ok, Err, IfSome, IfOk, IfErr, OnOk, OnErr}
@@ -54,7 +54,7 @@ loading-by keeps cmp join code r (Delete k) l h = absurd h
 loading-by keeps cmp join code r (Merge k i) l h = absurd h
 
 -- where the way goes on, a record of the key's class stands
-way-class : {K V : Type 0} (cmp : K → K → Ordering) (join : V → V → V) (code : K → ℕ) (v : RecordsView K V) (k : K) (low a : ℕ) (parts : Option V) (r : ChainResult K V) → ComesTo cmp join code v k low a parts r → (b : ℕ) → r.position ≡ Below b → v.from ≤ b → IsOfClass code v k b
+way-class : {K V : Type 0} (cmp : K → K → Ordering) (join : V → V → V) (code : K → ℕ) (v : RecordsView K V) (k : K) (low a : ℕ) (parts : Option V) (r : ChainResult K V) → ComesTo cmp join code v k low a parts r → (b : ℕ) → r.position ≡ Below b → v.log.from ≤ b → IsOfClass code v k b
 way-class cmp join code v k low a parts r (ComesTo.found is stands high whole) b at begins = absurd (cc)
 way-class cmp join code v k low a parts r (ComesTo.below {b = c} under is class) b at begins = let same : c ≡ b = cc in subst (IsOfClass code v k) same (class (let s = same in omega arith))
 way-class cmp join code v k low a parts r (ComesTo.joins {d = d} is high part more) b at begins = way-class cmp join code v k low d.previous (onto join d.value parts) r more b at begins
@@ -86,28 +86,28 @@ gathered-low join entry cmp k bits low a b parts r (ComesToInPage.joins {d = d} 
 -- what the page that came says
 pub record Came {K V I : Type 0} (keeps : Bool) (entry : ℕ → List ℕ → ℕ → Entry K V → Type 0) (cmp : K → K → Ordering) (join : V → V → V) (code : K → ℕ) (v : CoreView K V I) (key : K) (wanted : ℕ) (parts : Option V) (st : Standing) (bytes : List ℕ)
     (result : Result (ChainResult K V) Refused) : Type 0 where
-  pub own : IsHeldBy v.records.receipts (page_at v.records.page_bits wanted) st
-  pub reads : ComesToInPage join (entry v.records.page_bits bytes) cmp key v.records.page_bits (first_place v.records.page_bits (page_at v.records.page_bits wanted)) wanted parts result
+  pub own : IsHeldBy v.records.log.receipts (page_at v.records.log.bits wanted) st
+  pub reads : ComesToInPage join (entry v.records.log.bits bytes) cmp key v.records.log.bits (first_place v.records.log.bits (page_at v.records.log.bits wanted)) wanted parts result
   pub kept : IsTrue keeps
-      → v.records.begin ≤ wanted
+      → v.records.log.begin ≤ wanted
       → IsOfClass code v.records key wanted
-      → (r : ChainResult K V) × (result ≡ Ok r) × ComesTo cmp join code v.records key (first_place v.records.page_bits (page_at v.records.page_bits wanted)) wanted parts r
+      → (r : ChainResult K V) × (result ≡ Ok r) × ComesTo cmp join code v.records key (first_place v.records.log.bits (page_at v.records.log.bits wanted)) wanted parts r
 
 pub came-of : {K V I : Type 0} (keeps : Bool) (entry : ℕ → List ℕ → ℕ → Entry K V → Type 0) (cmp : K → K → Ordering) (join : V → V → V) (code : K → ℕ) (u v : CoreView K V I) (key k : K) (page low wanted : ℕ) (parts : Option V) (st : Standing) (bytes : List ℕ) (result : Result (ChainResult K V) Refused)
     → u ≡ v
     → key ≡ k
-    → page ≡ page_at u.records.page_bits wanted
-    → low ≡ first_place u.records.page_bits page
-    → IsHeldBy v.records.receipts (page_at v.records.page_bits wanted) st
-    → ComesToInPage join (entry u.records.page_bits bytes) cmp key u.records.page_bits low wanted parts result
+    → page ≡ page_at u.records.log.bits wanted
+    → low ≡ first_place u.records.log.bits page
+    → IsHeldBy v.records.log.receipts (page_at v.records.log.bits wanted) st
+    → ComesToInPage join (entry u.records.log.bits bytes) cmp key u.records.log.bits low wanted parts result
     → (IsTrue keeps
-    → u.records.begin ≤ wanted
+    → u.records.log.begin ≤ wanted
     → IsOfClass code u.records key wanted
     → (r : ChainResult K V) × (result ≡ Ok r) × ComesTo cmp join code u.records key low wanted parts r)
     → Came keeps entry cmp join code v k wanted parts st bytes result
 came-of keeps entry cmp join code u v key k page low wanted parts st bytes result same key_is page_is low_is held reads kept =
-    let own = subst (λ (w : CoreView _ _ _). IsHeldBy w.records.receipts (page_at w.records.page_bits wanted) st) (sym same) held in
-    let floor : low ≡ first_place u.records.page_bits (page_at u.records.page_bits wanted) = low_is ∙ ap (first_place u.records.page_bits) page_is in
+    let own = subst (λ (w : CoreView _ _ _). IsHeldBy w.records.log.receipts (page_at w.records.log.bits wanted) st) (sym same) held in
+    let floor : low ≡ first_place u.records.log.bits (page_at u.records.log.bits wanted) = low_is ∙ ap (first_place u.records.log.bits) page_is in
     subst (λ (w : CoreView _ _ _). Came keeps entry cmp join code w k wanted parts st bytes result) same
     (subst (λ q. Came keeps entry cmp join code u q wanted parts st bytes result) key_is
     (record { own = own; reads = rw floor at reads; kept = rw floor at kept }))
@@ -122,30 +122,30 @@ module _ {K V I : Type 0} {keeps : Bool} (cmp : K → K → Ordering) (join : V 
   loading-at : IsLoading keeps cmp join code v.records (key_of x.op) l
   loading-at = (loading-by keeps cmp join code v.records x.op l stands).1
 
-  begun : v.records.begin ≤ l.wanted
+  begun : v.records.log.begin ≤ l.wanted
   begun = let h = loading-at.begun in let same = a.begin in omega arith
 
   -- its page is flushed
-  pub wanted-flushed : HasReceipt v.records.receipts (page_at v.records.page_bits l.wanted)
+  pub wanted-flushed : HasReceipt v.records.log.receipts (page_at v.records.log.bits l.wanted)
   wanted-flushed = page_flushed v.records l.wanted s.traced begun loading-at.on_disk
 
-  text-begins : IsTrue keeps → v.records.from ≤ l.wanted
+  text-begins : IsTrue keeps → v.records.log.from ≤ l.wanted
   text-begins yes_keeps = let at = s.traced.begins ∙ by_keeps keeps yes_keeps in let h = begun in omega arith
     where
-      by_keeps : (b : Bool) → IsTrue b → text_begin b v.records.begin v.records.regions.offsets.closed ≡ v.records.begin
+      by_keeps : (b : Bool) → IsTrue b → text_begin b v.records.log.begin v.records.log.regions.offsets.closed ≡ v.records.log.begin
       by_keeps true h = refl
       by_keeps false h = absurd (let bad : false ≡ true = h in cc)
 
   -- the floor of the page, at or above which the text has begun
   abbrev floor : ℕ
-  floor = first_place v.records.page_bits (page_at v.records.page_bits l.wanted)
+  floor = first_place v.records.log.bits (page_at v.records.log.bits l.wanted)
 
-  floor-up : IsTrue keeps → v.records.from ≤ floor
+  floor-up : IsTrue keeps → v.records.log.from ≤ floor
   floor-up yes_keeps = page_up v.records floor l.wanted s.traced yes_keeps begun (omega arith)
 
   module _ (entry : ℕ → List ℕ → ℕ → Entry K V → Type 0) (st : Standing) (bytes : List ℕ) (result : Result (ChainResult K V) Refused) (came : Came keeps entry cmp join code v (key_of x.op) l.wanted l.parts st bytes result) where
     pub reads-on : (r : Result (ChainResult K V) Refused) → result ≡ r → ReadsOn entry cmp join v slot c x l st bytes r
-    reads-on r is = record { awaits = a; own = came.own; reads = subst (λ q. ComesToInPage join (entry v.records.page_bits bytes) cmp (key_of x.op) v.records.page_bits floor l.wanted l.parts q) is came.reads }
+    reads-on r is = record { awaits = a; own = came.own; reads = subst (λ q. ComesToInPage join (entry v.records.log.bits bytes) cmp (key_of x.op) v.records.log.bits floor l.wanted l.parts q) is came.reads }
 
     class-at : IsTrue keeps → IsOfClass code v.records (key_of x.op) l.wanted
     class-at yes_keeps = (loading-at.leads yes_keeps a.begin).class (text-begins yes_keeps)
@@ -165,7 +165,7 @@ module _ {K V I : Type 0} {keeps : Bool} (cmp : K → K → Ordering) (join : V 
         absurd (cc)
 
     -- and lead to a place, or below Begin
-    pub page-place : IsTrue keeps → (b : ℕ) (parts : Option V) → result ≡ Ok (record { parts = parts; position = Below b }) → v.records.begin ≤ b → IsRecordStart v.records.page_bits v.records.record_size b
+    pub page-place : IsTrue keeps → (b : ℕ) (parts : Option V) → result ≡ Ok (record { parts = parts; position = Below b }) → v.records.log.begin ≤ b → IsRecordStart v.records.log.bits v.records.record_size b
     page-place yes_keeps b parts is high =
         class-place v.records s.traced s.stood (key_of x.op) b
         (way-class cmp join code v.records (key_of x.op) floor l.wanted l.parts _ (goes yes_keeps _ is) b refl (let from = kept-from v.records s.traced yes_keeps in omega arith))
@@ -177,20 +177,20 @@ module _ {K V I : Type 0} {keeps : Bool} (cmp : K → K → Ordering) (join : V 
         ∙ values_tell cmp join code v.records (key_of x.op) order s.traced s.stood floor l.wanted l.parts r (goes yes_keeps r is)
 
     -- below Begin the key has nothing
-    nothing-below : (b : ℕ) → b < v.records.begin → value_of (newest cmp v.records.text (key_of x.op) b) ≡ None
+    nothing-below : (b : ℕ) → b < v.records.log.begin → value_of (newest cmp v.records.text (key_of x.op) b) ≡ None
     nothing-below b under =
         let from = from_first s.traced in
         ap value_of (newest-under cmp v.records (key_of x.op) b s.traced (omega arith))
 
-    told-at : (r : ChainResult K V) (value : Option V) → Tells join v.records.begin r value → onto join (end_of cmp v.records (key_of x.op) r.position) r.parts ≡ value
+    told-at : (r : ChainResult K V) (value : Option V) → Tells join v.records.log.begin r value → onto join (end_of cmp v.records (key_of x.op) r.position) r.parts ≡ value
     told-at r value (found e parts) = refl
     told-at r value (ended b parts under) = ap (λ o. onto join o parts) (nothing-below b under)
 
     -- the value that is told is what the key has from where the entry led
-    pub newest-told : IsTrue keeps → (r : ChainResult K V) (value : Option V) → result ≡ Ok r → Tells join v.records.begin r value → value_of (newest cmp v.records.text (key_of x.op) (address_of l.kept.word)) ≡ value
+    pub newest-told : IsTrue keeps → (r : ChainResult K V) (value : Option V) → result ≡ Ok r → Tells join v.records.log.begin r value → value_of (newest cmp v.records.text (key_of x.op) (address_of l.kept.word)) ≡ value
     newest-told yes_keeps r value is tells = newest-at yes_keeps r is ∙ told-at r value tells
 
-    pub kept-told : (r : ChainResult K V) (value : Option V) → result ≡ Ok r → Tells join v.records.begin r value → IsKept keeps cmp code v.records (key_of x.op) l.kept value
+    pub kept-told : (r : ChainResult K V) (value : Option V) → result ≡ Ok r → Tells join v.records.log.begin r value → IsKept keeps cmp code v.records (key_of x.op) l.kept value
     kept-told r value is tells =
         let h = loading-at in
         record {
@@ -202,22 +202,22 @@ module _ {K V I : Type 0} {keeps : Bool} (cmp : K → K → Ordering) (join : V 
         }
 
     -- the way goes on in a lower page
-    module _ (b : ℕ) (parts : Option V) (is : result ≡ Ok (record { parts = parts; position = Below b })) (high : v.records.begin ≤ b) where
-      lower : page_at v.records.page_bits b < page_at v.records.page_bits l.wanted
-      lower = lower_page v.records b (page_at v.records.page_bits l.wanted) s.traced high (gathered-low join (entry v.records.page_bits bytes) cmp (key_of x.op) v.records.page_bits floor l.wanted b l.parts result came.reads (ap left_of is))
+    module _ (b : ℕ) (parts : Option V) (is : result ≡ Ok (record { parts = parts; position = Below b })) (high : v.records.log.begin ≤ b) where
+      lower : page_at v.records.log.bits b < page_at v.records.log.bits l.wanted
+      lower = lower_page v.records b (page_at v.records.log.bits l.wanted) s.traced high (gathered-low join (entry v.records.log.bits bytes) cmp (key_of x.op) v.records.log.bits floor l.wanted b l.parts result came.reads (ap left_of is))
 
       below-wanted : (t : Bool) → nat_lt b l.wanted ≡ t → b < l.wanted
       below-wanted true h = ltb-true b l.wanted h
       below-wanted false h =
           let le : l.wanted ≤ b = grind (arith, nat_tests) in
-          let up = page_rises v.records.page_bits l.wanted b le in
+          let up = page_rises v.records.log.bits l.wanted b le in
           let low = lower in
           absurd (omega arith)
 
-      pub further-flushed : HasReceipt v.records.receipts (page_at v.records.page_bits b)
-      further-flushed = lower_flushed v.records b (page_at v.records.page_bits l.wanted) s.traced high lower wanted-flushed
+      pub further-flushed : HasReceipt v.records.log.receipts (page_at v.records.log.bits b)
+      further-flushed = lower_flushed v.records b (page_at v.records.log.bits l.wanted) s.traced high lower wanted-flushed
 
-      further-between : IsTrue keeps → AreDeltasBetween cmp v.records.entries (key_of x.op) b (address_of l.kept.word)
+      further-between : IsTrue keeps → AreDeltasBetween cmp v.records.log.text (key_of x.op) b (address_of l.kept.word)
       further-between yes_keeps e m own above under = elim (cases_lt l.wanted e.address) [
         | inl past ↦ (loading-at.leads yes_keeps a.begin).between e m own past under
         | inr within ↦ between_tells cmp code v.records (key_of x.op) order (raw-traced cmp join v.records s.stood.is s.traced) join floor l.wanted l.parts (record { parts = parts; position = Below b }) (goes yes_keeps _ is) e m own within above
@@ -245,17 +245,17 @@ module _ {K V I : Type 0} {keeps : Bool} (cmp : K → K → Ordering) (join : V 
 -- the receipt that is kept of a page that was read by another
 pub stranger-kept : {K V I : Type 0} (u v : CoreView K V I) (page wanted : ℕ) (st : Standing) (why : Refused)
     → u ≡ v
-    → page ≡ page_at u.records.page_bits wanted
-    → HasReceipt v.records.receipts (page_at v.records.page_bits wanted)
-    → IfSome (receipt_at u.records.receipts page) (λ s. (s ≢ st) × (why ≡ Stranger what.Receipt s.number st.number))
-    → (s : Standing) × (receipt_at v.records.receipts (page_at v.records.page_bits wanted) ≡ Some s) × (s ≢ st) × (why ≡ Stranger what.Receipt s.number st.number)
+    → page ≡ page_at u.records.log.bits wanted
+    → HasReceipt v.records.log.receipts (page_at v.records.log.bits wanted)
+    → IfSome (receipt_at u.records.log.receipts page) (λ s. (s ≢ st) × (why ≡ Stranger what.Receipt s.number st.number))
+    → (s : Standing) × (receipt_at v.records.log.receipts (page_at v.records.log.bits wanted) ≡ Some s) × (s ≢ st) × (why ≡ Stranger what.Receipt s.number st.number)
 stranger-kept {K} {V} {I} u v page wanted st why same page_is there told =
-    by_get (receipt_at v.records.receipts (page_at v.records.page_bits wanted)) refl
-    (subst (λ (w : CoreView K V I). IfSome (receipt_at w.records.receipts (page_at w.records.page_bits wanted)) (λ s. (s ≢ st) × (why ≡ Stranger what.Receipt s.number st.number))) same
-    (subst (λ (n : ℕ). IfSome (receipt_at u.records.receipts n) (λ s. (s ≢ st) × (why ≡ Stranger what.Receipt s.number st.number))) page_is told))
+    by_get (receipt_at v.records.log.receipts (page_at v.records.log.bits wanted)) refl
+    (subst (λ (w : CoreView K V I). IfSome (receipt_at w.records.log.receipts (page_at w.records.log.bits wanted)) (λ s. (s ≢ st) × (why ≡ Stranger what.Receipt s.number st.number))) same
+    (subst (λ (n : ℕ). IfSome (receipt_at u.records.log.receipts n) (λ s. (s ≢ st) × (why ≡ Stranger what.Receipt s.number st.number))) page_is told))
   where
-    by_get : (o : Option Standing) → receipt_at v.records.receipts (page_at v.records.page_bits wanted) ≡ o → IfSome o (λ s. (s ≢ st) × (why ≡ Stranger what.Receipt s.number st.number))
-        → (s : Standing) × (receipt_at v.records.receipts (page_at v.records.page_bits wanted) ≡ Some s) × (s ≢ st) × (why ≡ Stranger what.Receipt s.number st.number)
+    by_get : (o : Option Standing) → receipt_at v.records.log.receipts (page_at v.records.log.bits wanted) ≡ o → IfSome o (λ s. (s ≢ st) × (why ≡ Stranger what.Receipt s.number st.number))
+        → (s : Standing) × (receipt_at v.records.log.receipts (page_at v.records.log.bits wanted) ≡ Some s) × (s ≢ st) × (why ≡ Stranger what.Receipt s.number st.number)
     by_get None h t = absurd (let bad = rw h at there in cc)
     by_get (Some s) h t = (s, h, t.0, t.1)
 
@@ -274,10 +274,10 @@ told-done stands entry cmp join f old new slot c now x l p value q may told read
 -- another page is asked for, or the memory to share its receipt is refused
 pub further-done : {K V I O R : Type 0} (stands : R → Standing) (entry : ℕ → List ℕ → ℕ → Entry K V → Type 0) (cmp : K → K → Ordering) (join : V → V → V) (f : Meanings K V I O) (old new : CoreView K V I) (slot c now : ℕ) (x : Context K V I) (l : Loading V) (p : Joined R) (b : ℕ) (parts : Option V)
     → ReadsOn entry cmp join old slot c x l (stands p.receipt) p.bytes (Ok (record { parts = parts; position = Below b }))
-    → old.records.begin ≤ b
-    → IsRecordStart old.records.page_bits old.records.record_size b
+    → old.records.log.begin ≤ b
+    → IsRecordStart old.records.log.bits old.records.record_size b
     → (result : Result (Progress K V I O R) Refused)
-    → IfOk result (λ progress. (r : R) × (progress ≡ NeedsLoad r b) × IsHeldBy old.records.receipts (page_at old.records.page_bits b) (stands r))
+    → IfOk result (λ progress. (r : R) × (progress ≡ NeedsLoad r b) × IsHeldBy old.records.log.receipts (page_at old.records.log.bits b) (stands r))
     → OnOk result (new ≡ with_context old slot c (Some (at_phase x (Load (record l { wanted = b; parts = parts })))) now)
     → IfErr result (λ refused. refused ≡ NoMemory)
     → OnErr result (new ≡ old)
@@ -296,7 +296,7 @@ module _ {K V I : Type 0} (v : CoreView K V I) (slot c : ℕ) where
   pub waits-not : (x : Context K V I) → context_at v slot c ≡ Some x → loading_by x.phase ≡ None → (page : ℕ) → WaitsFor v slot c page → ⊥
   waits-not x here none page w = let bad : None ≡ Some w.loading = sym none ∙ ap loading_by (waits-open x here page w) in absurd (cc)
 
-  pub waits-moved : (x : Context K V I) (l : Loading V) → context_at v slot c ≡ Some x → x.phase ≡ Load l → l.begin ≢ v.records.begin → (page : ℕ) → WaitsFor v slot c page → ⊥
+  pub waits-moved : (x : Context K V I) (l : Loading V) → context_at v slot c ≡ Some x → x.phase ≡ Load l → l.begin ≢ v.records.log.begin → (page : ℕ) → WaitsFor v slot c page → ⊥
   waits-moved x l here phase other page w =
       let same : Load l ≡ Load w.loading = sym phase ∙ waits-open x here page w in
       let is : l ≡ w.loading = cc in

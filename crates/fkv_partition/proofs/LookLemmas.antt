@@ -1,5 +1,5 @@
 -- Where a relocation reads the record of its place: in memory, or from the device.
-use Rattle.std.proofs.Common.{◌≡◌, ◌==◌, ◌<◌, ◌≤◌, ℕ, Bool, IsSome, List, Some, length, arith}
+use Rattle.std.proofs.Common.{◌≡◌, ◌==◌, ◌<◌, ◌≤◌, ℕ, Bool, IsSome, List, Some, arith}
 use Rattle.std.proofs.lemmas.Bool.{eqb-true}
 use Rattle.std.specs.declared.cmp.Ordering.{Ordering}
 use Rattle.fkv_records.specs.Places.{page_at}
@@ -23,26 +23,26 @@ pub address-at : {K V : Type 0} (text : List (Entry K V)) (a : ℕ) (e : Entry K
 address-at text a e h = eqb-true e.address a (last_where-found (λ x. x.address == a) text e h)
 
 module _ {K V I : Type 0} {keeps : Bool} (cmp : K → K → Ordering) (join : V → V → V) (code : K → ℕ) (v : PartitionView K V I) (s : IsCompacting keeps cmp join code v) (p : IsSound keeps cmp join code v.core) (slot c : ℕ) (x : Relocation K V) (h : relocation_at v slot c ≡ Some x) (uncleared : x.target ≡ v.cleared) where
-  pub begun-here : v.core.records.begin ≤ x.target
+  pub begun-here : v.core.records.log.begin ≤ x.target
   begun-here = let le = s.begun in omega arith
 
   -- below what the session reads in memory it is on disk
   module _ (under : x.target < low_at v slot) where
-    on-disk : x.target < v.core.records.regions.offsets.head
+    on-disk : x.target < v.core.records.log.regions.offsets.head
     on-disk = low-disk cmp join code v.core p slot (open-here v slot c x h).inside x.target under begun-here
 
-    pub place-flushed : HasReceipt v.core.records.receipts (page_at v.core.records.page_bits x.target)
+    pub place-flushed : HasReceipt v.core.records.log.receipts (page_at v.core.records.log.bits x.target)
     place-flushed = page_flushed v.core.records x.target p.traced begun-here on-disk
 
-    pub place-reading : IsReading v.core.records x.target v.core.records.begin
+    pub place-reading : IsReading v.core.records x.target v.core.records.log.begin
     place-reading = record { past = omega arith; begun = begun-here; on_disk = on-disk }
 
   -- and else it stands in a frame
   module _ (over : low_at v slot ≤ x.target) where
-    pub place-there : IsSome (entry_at v.core.records.entries x.target)
+    pub place-there : IsSome (entry_at v.core.records.log.text x.target)
     place-there =
         let from = low-begun cmp join code v.core p slot (open-here v slot c x h).inside in
         place-held (raw v.core.records) (traced-raw p.traced p.stood) x.target (stands-here v slot c x h s).place (omega arith) (low-here v slot c x h s p.traced)
 
-    pub place-open : v.core.records.regions.offsets.closed ≤ x.target
+    pub place-open : v.core.records.log.regions.offsets.closed ≤ x.target
     place-open = let closed = low-open cmp join code v.core p slot (open-here v slot c x h).inside in omega arith

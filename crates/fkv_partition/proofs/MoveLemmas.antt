@@ -63,13 +63,13 @@ pub dropped-pends : {K V I : Type 0} (cmp : K → K → Ordering) (v : Partition
 dropped-pends cmp v slot c now keyless = set-pends cmp v slot c now keyless None refl
 
 -- what is cleared does not fall, and is past the place then
-pub past-place : {K V I : Type 0} {keeps : Bool} {code : K → ℕ} (v : PartitionView K V I) (a : ℕ) → IsTraced keeps code v.core.records → IsRecordStart v.core.records.page_bits v.core.records.record_size a
+pub past-place : {K V I : Type 0} {keeps : Bool} {code : K → ℕ} (v : PartitionView K V I) (a : ℕ) → IsTraced keeps code v.core.records → IsRecordStart v.core.records.log.bits v.core.records.record_size a
     → (v.cleared ≤ cleared_past v a) × (a < cleared_past v a)
 past-place v a t place = by_test (nat_le v.cleared a) refl
   where
     by_test : (b : Bool) → nat_le v.cleared a ≡ b → (v.cleared ≤ cond b (place_behind v a) v.cleared) × (a < cond b (place_behind v a) v.cleared)
     by_test true h =
-        let up = (after v.core.records.page_bits v.core.records.record_size t.shape a place).above in
+        let up = (after v.core.records.log.bits v.core.records.record_size t.shape a place).above in
         let le : v.cleared ≤ a = grind (arith, nat_tests) in
         (omega (arith, up, le), up)
     by_test false h = (omega arith, grind (arith, nat_tests))
@@ -103,7 +103,7 @@ module _ {K V I : Type 0} (v : PartitionView K V I) (slot c : ℕ) (x : Relocati
   stands-here s = s.stands (slot * 8 + c) x open-here.here
 
   -- its place lies below the tail
-  pub low-here : {keeps : Bool} {cmp : K → K → Ordering} {join : V → V → V} {code : K → ℕ} → IsCompacting keeps cmp join code v → IsTraced keeps code v.core.records → x.target < v.core.records.tail
+  pub low-here : {keeps : Bool} {cmp : K → K → Ordering} {join : V → V → V} {code : K → ℕ} → IsCompacting keeps cmp join code v → IsTraced keeps code v.core.records → x.target < v.core.records.log.tail
   low-here s t =
       let frozen = (stands-here s).frozen in
       let safe = t.regions.agree.in_order.safe in
@@ -111,7 +111,7 @@ module _ {K V I : Type 0} (v : PartitionView K V I) (slot c : ℕ) (x : Relocati
       omega arith
 
 -- and so does each frozen one
-pub frozen-low : {K V : Type 0} {keeps : Bool} {code : K → ℕ} (r : RecordsView K V) (a : ℕ) → IsTraced keeps code r → a < r.regions.offsets.safe_read_only → a < r.tail
+pub frozen-low : {K V : Type 0} {keeps : Bool} {code : K → ℕ} (r : RecordsView K V) (a : ℕ) → IsTraced keeps code r → a < r.log.regions.offsets.safe_read_only → a < r.log.tail
 frozen-low r a t frozen = let safe = t.regions.agree.in_order.safe in let below = t.regions.read_only in omega arith
 
 -- what stands in the context of a relocation claims no entry

@@ -161,8 +161,8 @@ drops-pend cmp old new slot c now r (Drops.unknown none same told) = rw same (λ
 drops-pend cmp old new slot c now r (Drops.drops x here is told) = rw is (dropped-pends cmp old slot c now (keyless-here old slot c x here))
 
 -- whether a page waits to be written is the same of a partition that is the same
-pub due-same : {K V I P : Type 0} {u v : PartitionView K V I} → u ≡ v → P ↔ (u.core.records.waiting ≡ []) → P ↔ (v.core.records.waiting ≡ [])
-due-same {K} {V} {I} {P = P} same h = subst (λ (w : PartitionView K V I). P ↔ (w.core.records.waiting ≡ [])) same h
+pub due-same : {K V I P : Type 0} {u v : PartitionView K V I} → u ≡ v → P ↔ (u.core.records.log.waiting ≡ []) → P ↔ (v.core.records.log.waiting ≡ [])
+due-same {K} {V} {I} {P = P} same h = subst (λ (w : PartitionView K V I). P ↔ (w.core.records.log.waiting ≡ [])) same h
 
 -- ---- a load that reads for itself
 module _ {K V I : Type 0} (old : PartitionView K V I) (slot c : ℕ) where

@@ -42,22 +42,22 @@ module _ {K V I : Type 0} (cmp : K → K → Ordering) (v : CoreView K V I) (slo
   was-pending l a =
       ap (pending_of cmp v.records) h
       ∙ ap (λ (p : Phase V). pending_of cmp v.records (Some (at_phase x p))) a.loading
-      ∙ rw (eq-eqb l.begin v.records.begin a.begin) refl
+      ∙ rw (eq-eqb l.begin v.records.log.begin a.begin) refl
 
   module _ {O R : Type 0} (f : Meanings K V I O) where
     -- Begin has moved: it is to look again
-    pub load-moved : (l : Loading V) → x.phase ≡ Load l → l.begin ≢ v.records.begin → IsLoaded {O = O} {R = R} cmp f v (with_context v slot c (Some (at_phase x Fresh)) now) slot c now Next
+    pub load-moved : (l : Loading V) → x.phase ≡ Load l → l.begin ≢ v.records.log.begin → IsLoaded {O = O} {R = R} cmp f v (with_context v slot c (Some (at_phase x Fresh)) now) slot c now Next
     load-moved l phase moved = record {
       question = asked_by x;
       was = ap (option_map asked_by) h;
-      effect = (asked-same v slot c now x h (Some (at_phase x Fresh)), ap (pending_of cmp v.records) h ∙ ap (λ (p : Phase V). pending_of cmp v.records (Some (at_phase x p))) phase ∙ gone (l.begin == v.records.begin) refl, same-pend (Some (at_phase x Fresh)));
+      effect = (asked-same v slot c now x h (Some (at_phase x Fresh)), ap (pending_of cmp v.records) h ∙ ap (λ (p : Phase V). pending_of cmp v.records (Some (at_phase x p))) phase ∙ gone (l.begin == v.records.log.begin) refl, same-pend (Some (at_phase x Fresh)));
       live = λ q. refl;
       cleared = refl;
       frame = frame-of (Some (at_phase x Fresh));
     }
       where
-        gone : (b : Bool) → (l.begin == v.records.begin) ≡ b → pending_of cmp v.records (Some (at_phase x (Load l))) ≡ None
-        gone true e = absurd (moved (eqb-true l.begin v.records.begin e))
+        gone : (b : Bool) → (l.begin == v.records.log.begin) ≡ b → pending_of cmp v.records (Some (at_phase x (Load l))) ≡ None
+        gone true e = absurd (moved (eqb-true l.begin v.records.log.begin e))
         gone false e = rw e refl
 
     module _ (l : Loading V) (a : AwaitsPage v slot c x l) where
@@ -87,7 +87,7 @@ module _ {K V I : Type 0} (cmp : K → K → Ordering) (v : CoreView K V I) (slo
       load-further : (b : ℕ) (parts : Option V) (r : R) → IsLoaded {O = O} cmp f v (with_context v slot c (Some (at_phase x (Load (record l { wanted = b; parts = parts })))) now) slot c now (NeedsLoad r b)
       load-further b parts r =
           let y : Option (Context K V I) = Some (at_phase x (Load (record l { wanted = b; parts = parts }))) in
-          let there : pending_of cmp v.records y ≡ Some (record { moment = l.looked; value = value_of (newest cmp v.records.text (key_of x.op) (address_of l.kept.word)) }) = rw (eq-eqb l.begin v.records.begin a.begin) refl in
+          let there : pending_of cmp v.records y ≡ Some (record { moment = l.looked; value = value_of (newest cmp v.records.text (key_of x.op) (address_of l.kept.word)) }) = rw (eq-eqb l.begin v.records.log.begin a.begin) refl in
           record {
             question = asked_by x;
             was = ap (option_map asked_by) h;
@@ -99,7 +99,7 @@ module _ {K V I : Type 0} (cmp : K → K → Ordering) (v : CoreView K V I) (slo
 
       pub further-load : (b : ℕ) (parts : Option V) (new : CoreView K V I) (result : Result (Progress K V I O R) Refused)
           → (stands : R → Standing)
-          → IfOk result (λ progress. (r : R) × (progress ≡ NeedsLoad r b) × IsHeldBy v.records.receipts (page_at v.records.page_bits b) (stands r))
+          → IfOk result (λ progress. (r : R) × (progress ≡ NeedsLoad r b) × IsHeldBy v.records.log.receipts (page_at v.records.log.bits b) (stands r))
           → OnOk result (new ≡ with_context v slot c (Some (at_phase x (Load (record l { wanted = b; parts = parts })))) now)
           → IfOk result (λ progress. IsLoaded cmp f v new slot c now progress)
       further-load b parts new (Ok q) stands asked effect = rw (asked.1, effect) (load-further b parts asked.0)

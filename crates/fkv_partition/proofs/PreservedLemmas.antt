@@ -37,7 +37,8 @@ use Rattle.fkv_operations.specs.declared.entries.IndexEntry.{IndexEntry}
 use Rattle.fkv_operations.specs.declared.operations.KeyedOp.{KeyedOp}
 use Rattle.fkv_operations.specs.declared.operations.Answer.{Answer}
 use Rattle.fkv_lookups.specs.declared.decisions.Decision.TheVariants.{Replace}
-use Rattle.fkv_lookups.specs.RecordsViews.{RecordsView, class_in, indexed, with_written, with_value, with_regions, with_receipt, confirmed, released, moved, truncated, ChangesAt, IsReplaceable, IsTruncationDue}
+use Rattle.fkv_lookups.specs.RecordsViews.{RecordsView, class_in, indexed, with_written, with_value, with_regions, with_receipt, confirmed, released, moved, truncated, ChangesAt, IsReplaceable}
+use Rattle.fkv_hybrid.specs.Views.{IsTruncationDue}
 use Rattle.fkv_lookups.specs.Traced.{IsTraced, IsStood}
 use Rattle.fkv_texts.specs.Deltas.{IsCleared}
 use Rattle.fkv_lookups.specs.declared.payloads.Payload.{Payload}
@@ -75,7 +76,7 @@ raised-self o = record { closed = omega arith; head = omega arith; safe = omega 
 -- ---- what records know
 module _ {K V : Type 0} {keeps : Bool} (cmp : K → K → Ordering) (join : V → V → V) (code : K → ℕ) (v : RecordsView K V) (t : IsTraced keeps code v) where
   -- regions and words change, and the text stays
-  know-still : (regions : RegionsView) (words : List (List Word)) → IsRaised v.regions.offsets regions.offsets → ((p : Place) → IsPlace v.words p → IsPlace words p) → IsGrown keeps cmp v (record v { regions = regions; words = words })
+  know-still : (regions : RegionsView) (words : List (List Word)) → IsRaised v.log.regions.offsets regions.offsets → ((p : Place) → IsPlace v.words p → IsPlace words p) → IsGrown keeps cmp v (record (with_regions v regions) { words = words })
   know-still regions words up places = record {
     shape = record { partition_bits = refl; bucket_bits = refl; page_bits = refl; record_size = refl; frames = refl };
     begin = omega arith;
@@ -88,17 +89,17 @@ module _ {K V : Type 0} {keeps : Bool} (cmp : K → K → Ordering) (join : V �
     were = λ x m low. (x, m, refl, refl, refl);
   }
 
-  know-moved : (regions : RegionsView) (more : List (List ℕ)) (text : List (Entry K V)) → IsRaised v.regions.offsets regions.offsets → (IsTrue keeps → (moved keeps v regions more text).entries ≡ v.entries) → IsGrown keeps cmp v (moved keeps v regions more text)
+  know-moved : (regions : RegionsView) (more : List (List ℕ)) (text : List (Entry K V)) → IsRaised v.log.regions.offsets regions.offsets → (IsTrue keeps → (moved keeps v regions more text).log.text ≡ v.log.text) → IsGrown keeps cmp v (moved keeps v regions more text)
   know-moved regions more text up kept = record {
     shape = record { partition_bits = refl; bucket_bits = refl; page_bits = refl; record_size = refl; frames = refl };
     begin = omega arith;
     tail = omega arith;
     raised = up;
     receipts = λ page s begun h. h;
-    stay = λ a begun low. cut-entry (text_begin keeps v.begin regions.offsets.closed) a v.entries begun;
+    stay = λ a begun low. cut-entry (text_begin keeps v.log.begin regions.offsets.closed) a v.log.text begun;
     clear = λ limit low yes_keeps c. subst (λ u. IsCleared cmp u limit) (sym (kept yes_keeps)) c;
     places = λ p h. h;
-    were = λ x m low. (x, (filter-in (λ (d : Entry K V). nat_le (text_begin keeps v.begin regions.offsets.closed) d.address) v.entries m.place x m.here).0, refl, refl, refl);
+    were = λ x m low. (x, (filter-in (λ (d : Entry K V). nat_le (text_begin keeps v.log.begin regions.offsets.closed) d.address) v.log.text m.place x m.here).0, refl, refl, refl);
   }
 
   know-flushed : (st : Standing) → IsGrown keeps cmp v (with_receipt v st)
@@ -106,8 +107,8 @@ module _ {K V : Type 0} {keeps : Bool} (cmp : K → K → Ordering) (join : V �
     shape = record { partition_bits = refl; bucket_bits = refl; page_bits = refl; record_size = refl; frames = refl };
     begin = omega arith;
     tail = omega arith;
-    raised = raised-self v.regions.offsets;
-    receipts = λ page s begun h. more-left v.receipts (Some st) page (receipt-within v.receipts page (rw h refl)) ∙ h;
+    raised = raised-self v.log.regions.offsets;
+    receipts = λ page s begun h. more-left v.log.receipts (Some st) page (receipt-within v.log.receipts page (rw h refl)) ∙ h;
     stay = λ a begun low. refl;
     clear = λ limit low yes_keeps c. c;
     places = λ p h. h;
@@ -115,61 +116,61 @@ module _ {K V : Type 0} {keeps : Bool} (cmp : K → K → Ordering) (join : V �
   }
 
   know-record : (e : IndexEntry) (k : K) (payload : Payload V) (has : Option V) → IsPlace v.words e.place
-      → ((limit : ℕ) → limit ≤ v.tail → IsCleared cmp v.entries limit → IsCleared cmp (with_written v e k payload has).entries limit)
+      → ((limit : ℕ) → limit ≤ v.log.tail → IsCleared cmp v.log.text limit → IsCleared cmp (with_written v e k payload has).log.text limit)
       → IsGrown keeps cmp v (with_written v e k payload has)
   know-record e k payload has place clears = record {
     shape = record { partition_bits = refl; bucket_bits = refl; page_bits = refl; record_size = refl; frames = refl };
     begin = omega arith;
-    tail = tail-up v.page_bits v.record_size v.tail (tail-most v t);
-    raised = raised-self v.regions.offsets;
+    tail = tail-up v.log.bits v.record_size v.log.tail (tail-most v t);
+    raised = raised-self v.log.regions.offsets;
     receipts = λ page s begun h. h;
     stay = λ a begun low. (let o = t.regions.agree.in_order in let safe = o.safe in let top = t.regions.read_only in
-        entry_at-old v.entries (record { address = v.tail; previous = _; key = k; value = value_in payload; delta = is_part payload }) a (λ same. omega arith));
+        entry_at-old v.log.text (record { address = v.log.tail; previous = _; key = k; value = value_in payload; delta = is_part payload }) a (λ same. omega arith));
     clear = λ limit low yes_keeps c. clears limit low c;
-    places = λ p h. ((writes v.words e.place (final_word (tag_of e.word) v.tail) place).places p).1 h;
+    places = λ p h. ((writes v.words e.place (final_word (tag_of e.word) v.log.tail) place).places p).1 h;
     were = λ x m low. (grown-appended cmp join code v t e k payload has place).was x m low;
   }
 
-  know-value : (a : ℕ) (value : Option V) → v.regions.offsets.safe_read_only ≤ a
-      → ((limit : ℕ) → limit ≤ v.tail → IsCleared cmp v.entries limit → IsCleared cmp (with_value v a value).entries limit)
+  know-value : (a : ℕ) (value : Option V) → v.log.regions.offsets.safe_read_only ≤ a
+      → ((limit : ℕ) → limit ≤ v.log.tail → IsCleared cmp v.log.text limit → IsCleared cmp (with_value v a value).log.text limit)
       → IsGrown keeps cmp v (with_value v a value)
   know-value a value high clears = record {
     shape = record { partition_bits = refl; bucket_bits = refl; page_bits = refl; record_size = refl; frames = refl };
     begin = omega arith;
     tail = omega arith;
-    raised = raised-self v.regions.offsets;
+    raised = raised-self v.log.regions.offsets;
     receipts = λ page s begun h. h;
-    stay = λ b begun low. entry_at-elsewhere a value v.entries b (λ same. omega arith);
+    stay = λ b begun low. entry_at-elsewhere a value v.log.text b (λ same. omega arith);
     clear = λ limit low yes_keeps c. clears limit low c;
     places = λ p h. h;
     were = λ x m low. was-replaced cmp join code v t a value x m;
   }
 
-  know-cut : (low : ℕ) (text : List (Entry K V)) → v.begin < low
-      → ((limit : ℕ) → IsCleared cmp v.entries limit → IsCleared cmp (truncated keeps v low text).entries limit)
+  know-cut : (low : ℕ) (text : List (Entry K V)) → v.log.begin < low
+      → ((limit : ℕ) → IsCleared cmp v.log.text limit → IsCleared cmp (truncated keeps v low text).log.text limit)
       → IsGrown keeps cmp v (truncated keeps v low text)
   know-cut low text up clears = record {
     shape = record { partition_bits = refl; bucket_bits = refl; page_bits = refl; record_size = refl; frames = refl };
     begin = omega arith;
     tail = omega arith;
-    raised = raised-self v.regions.offsets;
-    receipts = λ page s begun h. let_go-high (page_at v.page_bits low) page v.receipts begun ∙ h;
-    stay = λ a begun under. cut-entry (text_begin keeps low v.regions.offsets.closed) a v.entries begun;
+    raised = raised-self v.log.regions.offsets;
+    receipts = λ page s begun h. let_go-high (page_at v.log.bits low) page v.log.receipts begun ∙ h;
+    stay = λ a begun under. cut-entry (text_begin keeps low v.log.regions.offsets.closed) a v.log.text begun;
     clear = λ limit under yes_keeps c. clears limit c;
     places = λ p h. ((sweeps low v.words).places p).1 h;
-    were = λ x m under. (x, (filter-in (λ (d : Entry K V). nat_le (text_begin keeps low v.regions.offsets.closed) d.address) v.entries m.place x m.here).0, refl, refl, refl);
+    were = λ x m under. (x, (filter-in (λ (d : Entry K V). nat_le (text_begin keeps low v.log.regions.offsets.closed) d.address) v.log.text m.place x m.here).0, refl, refl, refl);
   }
 
   -- a record that may be changed where it stands lies above all that is cleared
-  live-high : (stood : IsStood cmp join v) (a : ℕ) → IsReplaceable cmp v a → (limit : ℕ) → IsCleared cmp v.entries limit → limit ≤ a
+  live-high : (stood : IsStood cmp join v) (a : ℕ) → IsReplaceable cmp v a → (limit : ℕ) → IsCleared cmp v.log.text limit → limit ≤ a
   live-high stood a m limit c = elim (cases_lt a limit) [
     | inr high ↦ high
     | inl under ↦ absurd (
         let h = raw-replaceable cmp join v stood t a m in
-        let there : entry_at v.entries h.entry.address ≡ Some h.entry = ap (entry_at v.entries) h.at ∙ h.here in
+        let there : entry_at v.log.text h.entry.address ≡ Some h.entry = ap (entry_at v.log.text) h.at ∙ h.here in
         elim (c h.entry there (let at = h.at in omega arith)) [
           | inl none ↦ none-some h.entry.value none h.some
-          | inr covered ↦ covered-passed cmp v.entries h.rises h.entry covered h.last
+          | inr covered ↦ covered-passed cmp v.log.text h.rises h.entry covered h.last
         ])
   ]
 
@@ -205,12 +206,12 @@ module _ {K V I : Type 0} {keeps : Bool} (cmp : K → K → Ordering) (join : V 
   }
 
   pub borne-same : new.records ≡ v.records → IsPreserved keeps cmp join code v new
-  borne-same is = borne-by v.records is (grown-same cmp join code v.records s.traced) (know-still cmp join code v.records s.traced v.records.regions v.records.words (raised-self v.records.regions.offsets) (λ p h. h))
+  borne-same is = borne-by v.records is (grown-same cmp join code v.records s.traced) (know-still cmp join code v.records s.traced v.records.log.regions v.records.words (raised-self v.records.log.regions.offsets) (λ p h. h))
 
   borne-words : (words : List (List Word)) (q : Place) → ChangesAt q v.records.words words → IsMade (word_at words q) → new.records ≡ record v.records { words = words } → IsPreserved keeps cmp join code v new
   borne-words words q changes made is = borne-by (record v.records { words = words }) is
       (grown-words keeps cmp join code q v.records (record v.records { words = words }) refl changes made)
-      (know-still cmp join code v.records s.traced v.records.regions words (raised-self v.records.regions.offsets) changes.places)
+      (know-still cmp join code v.records s.traced v.records.log.regions words (raised-self v.records.log.regions.offsets) changes.places)
 
   -- a tentative entry is confirmed, or taken back
   module _ (slot c now : ℕ) (x : Context K V I) (h : context_at v slot c ≡ Some x) (q : Place) (phase : x.phase ≡ Confirm q) where
@@ -243,38 +244,38 @@ module _ {K V I : Type 0} {keeps : Bool} (cmp : K → K → Ordering) (join : V 
       (ap (λ (u : CoreView K V I). u.records) i.is ∙ i.claims.is)
 
   pub borne-record : (e : IndexEntry) (k : K) (payload : Payload V) (has : Option V) → IsPlace v.records.words e.place
-      → ((limit : ℕ) → limit ≤ v.records.tail → IsCleared cmp v.records.entries limit → IsCleared cmp (with_written v.records e k payload has).entries limit)
+      → ((limit : ℕ) → limit ≤ v.records.log.tail → IsCleared cmp v.records.log.text limit → IsCleared cmp (with_written v.records e k payload has).log.text limit)
       → new.records ≡ with_written v.records e k payload has → IsPreserved keeps cmp join code v new
   borne-record e k payload has at clears is = borne-by (with_written v.records e k payload has) is (grown-appended cmp join code v.records s.traced e k payload has at) (know-record cmp join code v.records s.traced e k payload has at clears)
 
-  borne-value : (a : ℕ) (value : Option V) → v.records.regions.offsets.safe_read_only ≤ a
-      → ((q : K) (b : ℕ) → IsStill v.records.regions.offsets.safe_read_only (newest cmp v.records.text q b) → newest cmp (with_value v.records a value).text q b ≡ newest cmp v.records.text q b)
-      → ((limit : ℕ) → limit ≤ v.records.tail → IsCleared cmp v.records.entries limit → IsCleared cmp (with_value v.records a value).entries limit)
+  borne-value : (a : ℕ) (value : Option V) → v.records.log.regions.offsets.safe_read_only ≤ a
+      → ((q : K) (b : ℕ) → IsStill v.records.log.regions.offsets.safe_read_only (newest cmp v.records.text q b) → newest cmp (with_value v.records a value).text q b ≡ newest cmp v.records.text q b)
+      → ((limit : ℕ) → limit ≤ v.records.log.tail → IsCleared cmp v.records.log.text limit → IsCleared cmp (with_value v.records a value).log.text limit)
       → new.records ≡ with_value v.records a value → IsPreserved keeps cmp join code v new
   borne-value a value high kept clears is = borne-by (with_value v.records a value) is (grown-replaced cmp join code v.records s.traced a value high kept) (know-value cmp join code v.records s.traced a value high clears)
 
-  borne-regions : (regions : RegionsView) → IsRaised v.records.regions.offsets regions.offsets → new.records ≡ with_regions v.records regions → IsPreserved keeps cmp join code v new
+  borne-regions : (regions : RegionsView) → IsRaised v.records.log.regions.offsets regions.offsets → new.records ≡ with_regions v.records regions → IsPreserved keeps cmp join code v new
   borne-regions regions up is = borne-by (with_regions v.records regions) is (grown-regions cmp join code v.records s.traced regions up) (know-still cmp join code v.records s.traced regions v.records.words up (λ p h. h))
 
-  borne-moved : (regions : RegionsView) (now : ℕ) → IsRaised v.records.regions.offsets regions.offsets → MovesTo keeps regions v new now → IsPreserved keeps cmp join code v new
+  borne-moved : (regions : RegionsView) (now : ℕ) → IsRaised v.records.log.regions.offsets regions.offsets → MovesTo keeps regions v new now → IsPreserved keeps cmp join code v new
   borne-moved regions now up m =
       let r = new.records in
       let is = m.moves.is in
-      let same : r.regions ≡ regions = ap (λ (u : RecordsView K V). u.regions) is in
+      let same : r.log.regions ≡ regions = ap (λ (u : RecordsView K V). u.log.regions) is in
       borne-by r refl
-      (grown-moved cmp join code v.records s.traced r regions m.moves (subst (λ (g : RegionsView). IsRaised v.records.regions.offsets g.offsets) (sym same) up))
-      (subst (λ u. IsGrown keeps cmp v.records u) (sym is) (know-moved cmp join code v.records s.traced regions m.moves.more r.text up (λ yes_keeps. ap (λ (u : RecordsView K V). u.entries) (sym is) ∙ m.moves.entries yes_keeps)))
+      (grown-moved cmp join code v.records s.traced r regions m.moves (subst (λ (g : RegionsView). IsRaised v.records.log.regions.offsets g.offsets) (sym same) up))
+      (subst (λ u. IsGrown keeps cmp v.records u) (sym is) (know-moved cmp join code v.records s.traced regions m.moves.more r.text up (λ yes_keeps. ap (λ (u : RecordsView K V). u.log.text) (sym is) ∙ m.moves.entries yes_keeps)))
 
   -- ---- by kind of event
   module _ (slot c now : ℕ) where
     pub goes-bear : {O R : Type 0} (stands : R → Standing) (f : Meanings K V I O) (result : Result (Progress K V I O R) Refused)
         → IsKeyOrder cmp
-        → ((e : IndexEntry) (key : K) (payload : Payload V) (has : Option V) (limit : ℕ) → limit ≤ v.records.tail → IsCleared cmp v.records.entries limit → IsCleared cmp (with_written v.records e key payload has).entries limit)
+        → ((e : IndexEntry) (key : K) (payload : Payload V) (has : Option V) (limit : ℕ) → limit ≤ v.records.log.tail → IsCleared cmp v.records.log.text limit → IsCleared cmp (with_written v.records e key payload has).log.text limit)
         → ((x : Context K V I) (value : Option V) (told : Answer O) (e : Entry K V) → Decides cmp join f code v slot c x (Replace value told) → last_of cmp v.records.text (key_of x.op) ≡ Some e
-        → IsReplaceable cmp v.records e.address × (v.records.regions.offsets.safe_read_only ≤ e.address))
-        → ((a : ℕ) (value : Option V) → IsReplaceable cmp v.records a → v.records.regions.offsets.safe_read_only ≤ a → (q : K) (b : ℕ) → IsStill v.records.regions.offsets.safe_read_only (newest cmp v.records.text q b)
+        → IsReplaceable cmp v.records e.address × (v.records.log.regions.offsets.safe_read_only ≤ e.address))
+        → ((a : ℕ) (value : Option V) → IsReplaceable cmp v.records a → v.records.log.regions.offsets.safe_read_only ≤ a → (q : K) (b : ℕ) → IsStill v.records.log.regions.offsets.safe_read_only (newest cmp v.records.text q b)
         → newest cmp (with_value v.records a value).text q b ≡ newest cmp v.records.text q b)
-        → ((a : ℕ) (value : Option V) (limit : ℕ) → limit ≤ a → IsCleared cmp v.records.entries limit → IsCleared cmp (with_value v.records a value).entries limit)
+        → ((a : ℕ) (value : Option V) (limit : ℕ) → limit ≤ a → IsCleared cmp v.records.log.text limit → IsCleared cmp (with_value v.records a value).log.text limit)
         → Goes stands cmp join f code v new slot c now result
         → IsPreserved keeps cmp join code v new
     goes-bear stands f result order grows met kept clears (Goes.unknown h is r) = borne-same (ap (λ (u : CoreView K V I). u.records) is)
@@ -301,7 +302,7 @@ module _ {K V I : Type 0} {keeps : Bool} (cmp : K → K → Ordering) (join : V 
     goes-bear stands f result order grows met kept clears (Goes.unshared x b parts d is r) = borne-same (ap (λ (u : CoreView K V I). u.records) is)
 
     pub installs-bear : {O R : Type 0} (f : Meanings K V I O) (ask : Ask K V I) (result : Result (Progress K V I O R) Refused)
-        → ((e : IndexEntry) (key : K) (payload : Payload V) (has : Option V) (limit : ℕ) → limit ≤ v.records.tail → IsCleared cmp v.records.entries limit → IsCleared cmp (with_written v.records e key payload has).entries limit)
+        → ((e : IndexEntry) (key : K) (payload : Payload V) (has : Option V) (limit : ℕ) → limit ≤ v.records.log.tail → IsCleared cmp v.records.log.text limit → IsCleared cmp (with_written v.records e key payload has).log.text limit)
         → Installs cmp f code v new slot c ask now result
         → IsPreserved keeps cmp join code v new
     installs-bear f ask result grows (Installs.unknown h is r) = borne-same (ap (λ (u : CoreView K V I). u.records) is)
@@ -340,31 +341,31 @@ module _ {K V I : Type 0} {keeps : Bool} (cmp : K → K → Ordering) (join : V 
 
   pub enters-bear : (now : ℕ) (result : Result ℕ Refused) → Enters v new now result → IsPreserved keeps cmp join code v new
   enters-bear now result (Enters.full h is r) = borne-same (ap (λ (u : CoreView K V I). u.records) is)
-  enters-bear now result (Enters.enters slot h is r) = borne-regions (entered v.records.regions slot) (raised-self v.records.regions.offsets) (ap (λ (u : CoreView K V I). u.records) is)
+  enters-bear now result (Enters.enters slot h is r) = borne-regions (entered v.records.log.regions slot) (raised-self v.records.log.regions.offsets) (ap (λ (u : CoreView K V I). u.records) is)
 
-  ordered : IsOrdered v.records.regions.epochs
+  ordered : IsOrdered v.records.log.regions.epochs
   ordered = s.traced.regions.timely.ordered
 
   pub leaves-bear : (slot now : ℕ) (result : Result (Unit {0}) Refused) → Leaves keeps v new slot now result → IsPreserved keeps cmp join code v new
   leaves-bear slot now result (Leaves.unknown h is r) = borne-same (ap (λ (u : CoreView K V I). u.records) is)
   leaves-bear slot now result (Leaves.busy c h q is r) = borne-same (ap (λ (u : CoreView K V I). u.records) is)
-  leaves-bear slot now result (Leaves.leaves h q is r) = borne-moved _ now (moved-left v.records.regions slot ordered s.traced.regions.agree).raised is
+  leaves-bear slot now result (Leaves.leaves h q is r) = borne-moved _ now (moved-left v.records.log.regions slot ordered s.traced.regions.agree).raised is
 
   pub refreshes-bear : (slot now : ℕ) (result : Result (Unit {0}) Refused) → Refreshes keeps v new slot now result → IsPreserved keeps cmp join code v new
   refreshes-bear slot now result (Refreshes.unknown h is r) = borne-same (ap (λ (u : CoreView K V I). u.records) is)
   refreshes-bear slot now result (Refreshes.refreshes h is r) =
-      borne-moved _ now (moved-refreshed v.records.regions slot (entered-fits v.records.regions.epochs slot ordered h) ordered s.traced.regions.agree).raised is
+      borne-moved _ now (moved-refreshed v.records.log.regions slot (entered-fits v.records.log.regions.epochs slot ordered h) ordered s.traced.regions.agree).raised is
 
   pub shifts-bear : (page now : ℕ) (result : Result (Unit {0}) Refused) → Shifts keeps v new page now result → IsPreserved keeps cmp join code v new
   shifts-bear page now result (Shifts.not_due h is r) = borne-same (ap (λ (u : CoreView K V I). u.records) is)
   shifts-bear page now result (Shifts.full h w is r) = borne-same (ap (λ (u : CoreView K V I). u.records) is)
   shifts-bear page now result (Shifts.shifts h w is r) =
-      borne-moved _ now (moved-read_only v.records.regions page v.records.tail (tail-most v.records s.traced) ordered w h s.traced.regions.agree).raised is
+      borne-moved _ now (moved-read_only v.records.log.regions page v.records.log.tail (tail-most v.records s.traced) ordered w h s.traced.regions.agree).raised is
 
   pub evicts-bear : (page now : ℕ) (result : Result (Unit {0}) Refused) → Evicts keeps v new page now result → IsPreserved keeps cmp join code v new
   evicts-bear page now result (Evicts.not_due h is r) = borne-same (ap (λ (u : CoreView K V I). u.records) is)
   evicts-bear page now result (Evicts.full h w is r) = borne-same (ap (λ (u : CoreView K V I). u.records) is)
-  evicts-bear page now result (Evicts.evicts h w is r) = borne-moved _ now (moved-head v.records.regions page ordered w h s.traced.regions.agree).raised is
+  evicts-bear page now result (Evicts.evicts h w is r) = borne-moved _ now (moved-head v.records.log.regions page ordered w h s.traced.regions.agree).raised is
 
   pub flushes-bear : (st : Standing) (bytes : List ℕ) (now : ℕ) (result : Result (Unit {0}) Refused) → Flushes v new st bytes now result → IsPreserved keeps cmp join code v new
   flushes-bear st bytes now result (Flushes.refused why h is r) = borne-same (ap (λ (u : CoreView K V I). u.records) is)
@@ -374,15 +375,15 @@ module _ {K V I : Type 0} {keeps : Bool} (cmp : K → K → Ordering) (join : V 
 
   pub truncates-bear : (page now : ℕ) (result : Result (Unit {0}) Refused)
       → IsKeyOrder cmp
-      → (IsTrue keeps → IsTruncationDue v.records page → IsCleared cmp v.records.entries (start_at v.records.page_bits page))
-      → ((low limit : ℕ) → IsCleared cmp v.records.entries limit → IsCleared cmp (text_from low v.records.entries) limit)
+      → (IsTrue keeps → IsTruncationDue v.records.log page → IsCleared cmp v.records.log.text (start_at v.records.log.bits page))
+      → ((low limit : ℕ) → IsCleared cmp v.records.log.text limit → IsCleared cmp (text_from low v.records.log.text) limit)
       → IsTraced keeps code new.records
       → IsStood cmp join new.records
       → Truncates keeps v new page now result
       → IsPreserved keeps cmp join code v new
   truncates-bear page now result order clear drops cut cut_stood (Truncates.not_due n is r) = borne-same (ap (λ (u : CoreView K V I). u.records) is)
   truncates-bear page now result order clear drops cut cut_stood (Truncates.truncates due is r) =
-      let low = start_at v.records.page_bits page in
+      let low = start_at v.records.log.bits page in
       let text = new.records.text in
       let here : new.records ≡ truncated keeps v.records low text = ap (λ (u : CoreView K V I). u.records) is in
       let cut_at : IsTraced keeps code (truncated keeps v.records low text) = subst (IsTraced keeps code) here cut in
@@ -392,13 +393,13 @@ module _ {K V I : Type 0} {keeps : Bool} (cmp : K → K → Ordering) (join : V 
           kept = λ k e source was. kept-cut cmp join code order v.records s.traced s.stood low due.higher (λ yes_keeps. clear yes_keeps due) text cut_at stood_at k e source was;
           loading = λ k l was. loading-cut cmp join code order v.records s.traced s.stood low due.higher (λ yes_keeps. clear yes_keeps due) text cut_at stood_at k l was;
         });
-        grown = subst (λ u. IsGrown keeps cmp v.records u) (sym here) (know-cut cmp join code v.records s.traced low text due.higher (λ limit c. drops (text_begin keeps low v.records.regions.offsets.closed) limit c));
+        grown = subst (λ u. IsGrown keeps cmp v.records u) (sym here) (know-cut cmp join code v.records s.traced low text due.higher (λ limit c. drops (text_begin keeps low v.records.log.regions.offsets.closed) limit c));
         next = λ yes_keeps. subst (λ u. ReusesNoAddress cmp (indexed v.records) (indexed u)) (sym here) (next-cut cmp join code order v.records s.traced s.stood low due.higher (λ yes. clear yes due) text cut_at stood_at yes_keeps);
       }
 
 -- a record is appended behind the entry of its class
 pub appends-bear : {K V I : Type 0} {keeps : Bool} (cmp : K → K → Ordering) (join : V → V → V) (code : K → ℕ) (v : CoreView K V I) (s : IsSound keeps cmp join code v) (slot c now : ℕ) (write : Write K V) (has : Option V)
-    → ((e : IndexEntry) (key : K) (payload : Payload V) (has : Option V) (limit : ℕ) → limit ≤ v.records.tail → IsCleared cmp v.records.entries limit → IsCleared cmp (with_written v.records e key payload has).entries limit)
+    → ((e : IndexEntry) (key : K) (payload : Payload V) (has : Option V) (limit : ℕ) → limit ≤ v.records.log.tail → IsCleared cmp v.records.log.text limit → IsCleared cmp (with_written v.records e key payload has).log.text limit)
     → IsWrite code v write
     → IsPreserved keeps cmp join code v (with_payload v slot c write.entry write.key write.payload has now)
 appends-bear cmp join code v s slot c now write has grows w =

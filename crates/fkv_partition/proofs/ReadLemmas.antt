@@ -1,5 +1,5 @@
 -- What the page that a relocation waited for says of the record of its place.
-use Rattle.std.proofs.Common.{◌≡◌, ◌≢◌, ◌+◌, ◌^◌, ◌<◌, ◌≤◌, inl, inr, ℕ, Bool, true, false, cond, length, nat_le, option_map, IsTrue, IsSome, List, [], ◌∷◌, Option, Some, None, slice_get, unwrap_or, refl, sym, ap, subst, ◌∙◌, arith}
+use Rattle.std.proofs.Common.{◌≡◌, ◌≢◌, ◌+◌, ◌^◌, ◌<◌, ◌≤◌, ℕ, Bool, true, false, cond, nat_le, option_map, IsTrue, IsSome, List, [], ◌∷◌, Option, Some, None, unwrap_or, refl, sym, ap, subst, ◌∙◌, arith}
 use Rattle.std.proofs.lemmas.Bool.Decides.{nat_tests}
 use Rattle.std.specs.Prelude.{Result, Ok, Err, IfSome}
 use Rattle.std.specs.declared.cmp.Ordering.{Ordering}
@@ -46,39 +46,39 @@ tail-most bits size begin tail [] le h = let same : begin ≡ tail = h in omega 
 tail-most bits size begin tail (e ∷ es) le h = tail-most bits size (tail_after bits size begin) tail es (after-most bits size begin) h.2
 
 module _ {K V : Type 0} {keeps : Bool} {code : K → ℕ} (v : RecordsView K V) (t : IsTraced keeps code v) where
-  first-low : v.from ≤ 2 ^ 48
+  first-low : v.log.from ≤ 2 ^ 48
   first-low =
       let o = t.regions.agree.in_order in
-      rw t.begins (begins_low keeps v.begin v.regions.offsets.closed (2 ^ 48) (omega (arith, t.regions.headed, o.head, o.safe, o.most)) (omega (arith, o.closed, o.head, o.safe, o.most)))
+      rw t.begins (begins_low keeps v.log.begin v.log.regions.offsets.closed (2 ^ 48) (omega (arith, t.regions.headed, o.head, o.safe, o.most)) (omega (arith, o.closed, o.head, o.safe, o.most)))
 
-  first-place : v.from < 2 ^ 48 → IsRecordStart v.page_bits v.record_size v.from
+  first-place : v.log.from < 2 ^ 48 → IsRecordStart v.log.bits v.record_size v.log.from
   first-place =
       let o = t.regions.agree.in_order in
-      let marked = subst (λ bits. IsMark bits v.regions.offsets.closed) t.regions.bits o.closed_mark in
-      rw t.begins (begin_place v.page_bits v.record_size v.begin v.regions.offsets.closed
-      (mark-place v.page_bits v.record_size v.begin t.shape t.marked t.first)
-      (mark-place v.page_bits v.record_size v.regions.offsets.closed t.shape marked o.first) keeps)
+      let marked = subst (λ bits. IsMark bits v.log.regions.offsets.closed) t.regions.bits o.closed_mark in
+      rw t.begins (begin_place v.log.bits v.record_size v.log.begin v.log.regions.offsets.closed
+      (mark-place v.log.bits v.record_size v.log.begin t.shape t.marked t.first)
+      (mark-place v.log.bits v.record_size v.log.regions.offsets.closed t.shape marked o.first) keeps)
 
-  place-held : (a : ℕ) → IsRecordStart v.page_bits v.record_size a → v.from ≤ a → a < v.tail → IsSome (entry_at v.text a)
+  place-held : (a : ℕ) → IsRecordStart v.log.bits v.record_size a → v.log.from ≤ a → a < v.log.tail → IsSome (entry_at v.text a)
   place-held a place low high =
-      entry_there v.page_bits v.record_size t.shape v.from v.tail a v.text first-place
-      (tail-most v.page_bits v.record_size v.from v.tail v.text first-low t.laid_out) t.laid_out place low high
+      entry_there v.log.bits v.record_size t.shape v.log.from v.log.tail a v.text first-place
+      (tail-most v.log.bits v.record_size v.log.from v.log.tail v.text first-low t.laid_out) t.laid_out place low high
 
   -- and a record that stands there stands at a place
-  pub entry-place : (a : ℕ) → IsSome (entry_at v.text a) → IsRecordStart v.page_bits v.record_size a
+  pub entry-place : (a : ℕ) → IsSome (entry_at v.text a) → IsRecordStart v.log.bits v.record_size a
   entry-place a some =
-      (entry_stands v.page_bits v.record_size t.shape v.from v.tail a v.text first-place
-      (tail-most v.page_bits v.record_size v.from v.tail v.text first-low t.laid_out) t.laid_out some).place
+      (entry_stands v.log.bits v.record_size t.shape v.log.from v.log.tail a v.text first-place
+      (tail-most v.log.bits v.record_size v.log.from v.log.tail v.text first-low t.laid_out) t.laid_out some).place
 
   -- on a device that keeps, the text begins at Begin
-  pub kept-from : IsTrue keeps → v.from ≡ v.begin
+  pub kept-from : IsTrue keeps → v.log.from ≡ v.log.begin
   kept-from yes_keeps = t.begins ∙ by_keeps keeps yes_keeps
     where
-      by_keeps : (b : Bool) → IsTrue b → text_begin b v.begin v.regions.offsets.closed ≡ v.begin
+      by_keeps : (b : Bool) → IsTrue b → text_begin b v.log.begin v.log.regions.offsets.closed ≡ v.log.begin
       by_keeps true h = refl
       by_keeps false h = absurd (let bad : false ≡ true = h in cc)
 
-  pub frozen-held : (a : ℕ) → IsRecordStart v.page_bits v.record_size a → v.begin ≤ a → a < v.regions.offsets.safe_read_only → IsTrue keeps → IsSome (entry_at v.text a)
+  pub frozen-held : (a : ℕ) → IsRecordStart v.log.bits v.record_size a → v.log.begin ≤ a → a < v.log.regions.offsets.safe_read_only → IsTrue keeps → IsSome (entry_at v.text a)
   frozen-held a place high frozen yes_keeps =
       let from = kept-from yes_keeps in
       let o = t.regions.agree.in_order in
@@ -115,7 +115,7 @@ module _ {K V I : Type 0} (v : PartitionView K V I) (slot c : ℕ) (x : Relocati
   pub awaits-some : (begin wanted : ℕ) → Some (pair begin wanted) ≡ option_map pair_of (awaited_by x.target x.stage) → awaited x ≡ Some (record { begin = begin; wanted = wanted })
   awaits-some begin wanted h = told-some (awaited_by x.target x.stage) begin wanted h
 
-  pub awaits-page : (begin wanted : ℕ) → relocation_at v slot c ≡ Some x → Some (pair begin wanted) ≡ option_map pair_of (awaited_by x.target x.stage) → begin ≡ v.core.records.begin → AwaitsPage v slot c x wanted
+  pub awaits-page : (begin wanted : ℕ) → relocation_at v slot c ≡ Some x → Some (pair begin wanted) ≡ option_map pair_of (awaited_by x.target x.stage) → begin ≡ v.core.records.log.begin → AwaitsPage v slot c x wanted
   awaits-page begin wanted here h same = record {
     here = here;
     awaits = subst (λ (n : ℕ). awaited x ≡ Some (record { begin = n; wanted = wanted })) same (awaits-some begin wanted h);
@@ -125,21 +125,21 @@ module _ {K V I : Type 0} {keeps : Bool} (cmp : K → K → Ordering) (join : V 
   reading : relocation_at v slot c ≡ Some x → IsReading v.core.records x.target begin
   reading here = subst (λ (q : Stage K V). StageStands keeps cmp join code v.core x.target q) at (stands-here v slot c x here s).stage
 
-  module _ (same : begin ≡ v.core.records.begin) (here : relocation_at v slot c ≡ Some x) where
-    pub place-begun : v.core.records.begin ≤ x.target
+  module _ (same : begin ≡ v.core.records.log.begin) (here : relocation_at v slot c ≡ Some x) where
+    pub place-begun : v.core.records.log.begin ≤ x.target
     place-begun = let h = (reading here).begun in omega arith
 
     -- its page is flushed
-    pub place-flushed : HasReceipt v.core.records.receipts (page_at v.core.records.page_bits x.target)
+    pub place-flushed : HasReceipt v.core.records.log.receipts (page_at v.core.records.log.bits x.target)
     place-flushed = page_flushed v.core.records x.target sound.traced place-begun (reading here).on_disk
 
     -- what is read there is the record that stands there
     pub place-read : {E : Type 0} (e : Entry K V) (result : Result (Entry K V) E) → result ≡ Ok e
-        → (IsTrue keeps → IfSome (entry_at v.core.records.entries x.target) (λ y. result ≡ Ok y))
-        → IsTrue keeps → entry_at v.core.records.entries x.target ≡ Some e
+        → (IsTrue keeps → IfSome (entry_at v.core.records.log.text x.target) (λ y. result ≡ Ok y))
+        → IsTrue keeps → entry_at v.core.records.log.text x.target ≡ Some e
     place-read {E} e result is kept yes_keeps =
         let st = stands-here v slot c x here s in
-        by_entry (entry_at v.core.records.entries x.target) (frozen-held (raw v.core.records) (traced-raw sound.traced sound.stood) x.target st.place place-begun st.frozen yes_keeps) (kept yes_keeps)
+        by_entry (entry_at v.core.records.log.text x.target) (frozen-held (raw v.core.records) (traced-raw sound.traced sound.stood) x.target st.place place-begun st.frozen yes_keeps) (kept yes_keeps)
       where
         by_entry : (o : Option (Entry K V)) → IsSome o → IfSome o (λ y. result ≡ Ok y) → o ≡ Some e
         by_entry None some h = absurd (cc)
@@ -147,47 +147,47 @@ module _ {K V I : Type 0} {keeps : Bool} (cmp : K → K → Ordering) (join : V 
 
     -- and so one is read there
     pub place-undamaged : {E P : Type 0} {why : E} (result : Result (Entry K V) E) → result ≡ Err why
-        → (IsTrue keeps → IfSome (entry_at v.core.records.entries x.target) (λ y. result ≡ Ok y))
+        → (IsTrue keeps → IfSome (entry_at v.core.records.log.text x.target) (λ y. result ≡ Ok y))
         → IsTrue keeps → P
     place-undamaged {E} {P} {why} result is kept yes_keeps =
         let st = stands-here v slot c x here s in
-        by_entry (entry_at v.core.records.entries x.target) (frozen-held (raw v.core.records) (traced-raw sound.traced sound.stood) x.target st.place place-begun st.frozen yes_keeps) (kept yes_keeps)
+        by_entry (entry_at v.core.records.log.text x.target) (frozen-held (raw v.core.records) (traced-raw sound.traced sound.stood) x.target st.place place-begun st.frozen yes_keeps) (kept yes_keeps)
       where
         by_entry : (o : Option (Entry K V)) → IsSome o → IfSome o (λ y. result ≡ Ok y) → P
         by_entry None some h = absurd (cc)
         by_entry (Some y) some h = let bad : Ok y ≡ Err why = sym h ∙ is in absurd (cc)
 
 -- the page of an address is one of those that were flushed
-pub page-within : {K V : Type 0} {u w v : RecordsView K V} {page : ℕ} (wanted : ℕ) → page ≡ page_at u.page_bits wanted → u ≡ v → w ≡ v → HasReceipt v.receipts (page_at v.page_bits wanted) → HasReceipt w.receipts page
+pub page-within : {K V : Type 0} {u w v : RecordsView K V} {page : ℕ} (wanted : ℕ) → page ≡ page_at u.log.bits wanted → u ≡ v → w ≡ v → HasReceipt v.log.receipts (page_at v.log.bits wanted) → HasReceipt w.log.receipts page
 page-within {K} {V} {w = w} {v = v} {page = page} wanted is u_is w_is there =
-    subst (λ (r : RecordsView K V). HasReceipt r.receipts page) (sym w_is) (subst (HasReceipt v.receipts) (sym (is ∙ ap (λ (r : RecordsView K V). page_at r.page_bits wanted) u_is)) there)
+    subst (λ (r : RecordsView K V). HasReceipt r.log.receipts page) (sym w_is) (subst (HasReceipt v.log.receipts) (sym (is ∙ ap (λ (r : RecordsView K V). page_at r.log.bits wanted) u_is)) there)
 
 -- the receipt that is kept of a page that was read by another
 pub stranger-held : {K V : Type 0} (u v : RecordsView K V) (page wanted : ℕ) (st : Standing) (why : Refused)
     → u ≡ v
-    → page ≡ page_at u.page_bits wanted
-    → HasReceipt v.receipts (page_at v.page_bits wanted)
-    → IfSome (receipt_at u.receipts page) (λ s. (s ≢ st) × (why ≡ Stranger what.Receipt s.number st.number))
-    → (s : Standing) × (receipt_at v.receipts (page_at v.page_bits wanted) ≡ Some s) × (s ≢ st) × (why ≡ Stranger what.Receipt s.number st.number)
+    → page ≡ page_at u.log.bits wanted
+    → HasReceipt v.log.receipts (page_at v.log.bits wanted)
+    → IfSome (receipt_at u.log.receipts page) (λ s. (s ≢ st) × (why ≡ Stranger what.Receipt s.number st.number))
+    → (s : Standing) × (receipt_at v.log.receipts (page_at v.log.bits wanted) ≡ Some s) × (s ≢ st) × (why ≡ Stranger what.Receipt s.number st.number)
 stranger-held {K} {V} u v page wanted st why same page_is there told =
-    by_get (receipt_at v.receipts (page_at v.page_bits wanted)) refl
-    (subst (λ (w : RecordsView K V). IfSome (receipt_at w.receipts (page_at w.page_bits wanted)) (λ s. (s ≢ st) × (why ≡ Stranger what.Receipt s.number st.number))) same
-    (subst (λ (n : ℕ). IfSome (receipt_at u.receipts n) (λ s. (s ≢ st) × (why ≡ Stranger what.Receipt s.number st.number))) page_is told))
+    by_get (receipt_at v.log.receipts (page_at v.log.bits wanted)) refl
+    (subst (λ (w : RecordsView K V). IfSome (receipt_at w.log.receipts (page_at w.log.bits wanted)) (λ s. (s ≢ st) × (why ≡ Stranger what.Receipt s.number st.number))) same
+    (subst (λ (n : ℕ). IfSome (receipt_at u.log.receipts n) (λ s. (s ≢ st) × (why ≡ Stranger what.Receipt s.number st.number))) page_is told))
   where
-    by_get : (o : Option Standing) → receipt_at v.receipts (page_at v.page_bits wanted) ≡ o → IfSome o (λ s. (s ≢ st) × (why ≡ Stranger what.Receipt s.number st.number))
-        → (s : Standing) × (receipt_at v.receipts (page_at v.page_bits wanted) ≡ Some s) × (s ≢ st) × (why ≡ Stranger what.Receipt s.number st.number)
+    by_get : (o : Option Standing) → receipt_at v.log.receipts (page_at v.log.bits wanted) ≡ o → IfSome o (λ s. (s ≢ st) × (why ≡ Stranger what.Receipt s.number st.number))
+        → (s : Standing) × (receipt_at v.log.receipts (page_at v.log.bits wanted) ≡ Some s) × (s ≢ st) × (why ≡ Stranger what.Receipt s.number st.number)
     by_get None h t = absurd (let bad = rw h at there in cc)
     by_get (Some s) h t = (s, h, t.0, t.1)
 
 -- the page that is at hand is that of the relocation's target, or the one on the way to it
 module _ {K V I : Type 0} {v : PartitionView K V I} {slot c : ℕ} {x : Relocation K V} {wanted : ℕ} {st : Standing} (h : HasPage v slot c x wanted st) where
-  same-wanted : {begin at : ℕ} → awaited x ≡ Some (record { begin = begin; wanted = at }) → (begin ≡ v.core.records.begin) × (at ≡ wanted)
-  same-wanted {begin} {at} is = same-awaited (record { begin = begin; wanted = at }) (record { begin = v.core.records.begin; wanted = wanted }) (sym is ∙ h.awaits.awaits)
+  same-wanted : {begin at : ℕ} → awaited x ≡ Some (record { begin = begin; wanted = at }) → (begin ≡ v.core.records.log.begin) × (at ≡ wanted)
+  same-wanted {begin} {at} is = same-awaited (record { begin = begin; wanted = at }) (record { begin = v.core.records.log.begin; wanted = wanted }) (sym is ∙ h.awaits.awaits)
 
   pub has-place : {begin : ℕ} → x.stage ≡ Reading begin → HasPage v slot c x x.target st
   has-place {begin} at = subst (λ (n : ℕ). HasPage v slot c x n st) (sym (same-wanted {begin = begin} {at = x.target} (ap (awaited_by x.target) at)).1) h
 
-  pub reads-begin : {begin : ℕ} → x.stage ≡ Reading begin → x.stage ≡ Reading v.core.records.begin
+  pub reads-begin : {begin : ℕ} → x.stage ≡ Reading begin → x.stage ≡ Reading v.core.records.log.begin
   reads-begin {begin} at = subst (λ (n : ℕ). x.stage ≡ Reading n) (same-wanted {begin = begin} {at = x.target} (ap (awaited_by x.target) at)).0 at
 
   pub has-way : {e : Entry K V} {l : Loading V} → x.stage ≡ Tracing e l → HasPage v slot c x l.wanted st
@@ -198,7 +198,7 @@ module _ {K V I : Type 0} (v : PartitionView K V I) (slot c : ℕ) where
   pub waits-none-on : relocation_at v slot c ≡ None → (page : ℕ) → WaitsOn v slot c page → ⊥
   waits-none-on none page w = let bad : None ≡ Some w.relocation = sym none ∙ w.awaits.here in absurd (cc)
 
-  waits-open-on : (x : Relocation K V) → relocation_at v slot c ≡ Some x → (page : ℕ) (w : WaitsOn v slot c page) → awaited x ≡ Some (record { begin = v.core.records.begin; wanted = w.wanted })
+  waits-open-on : (x : Relocation K V) → relocation_at v slot c ≡ Some x → (page : ℕ) (w : WaitsOn v slot c page) → awaited x ≡ Some (record { begin = v.core.records.log.begin; wanted = w.wanted })
   waits-open-on x here page w =
       let same : Some x ≡ Some w.relocation = sym here ∙ w.awaits.here in
       let is : x ≡ w.relocation = cc in
@@ -207,5 +207,5 @@ module _ {K V I : Type 0} (v : PartitionView K V I) (slot c : ℕ) where
   pub waits-not-on : (x : Relocation K V) → relocation_at v slot c ≡ Some x → awaited x ≡ None → (page : ℕ) → WaitsOn v slot c page → ⊥
   waits-not-on x here none page w = let bad = sym none ∙ waits-open-on x here page w in absurd (cc)
 
-  pub waits-moved-on : (x : Relocation K V) (begin wanted : ℕ) → relocation_at v slot c ≡ Some x → awaited x ≡ Some (record { begin = begin; wanted = wanted }) → begin ≢ v.core.records.begin → (page : ℕ) → WaitsOn v slot c page → ⊥
-  waits-moved-on x begin wanted here is other page w = other (same-awaited (record { begin = begin; wanted = wanted }) (record { begin = v.core.records.begin; wanted = w.wanted }) (sym is ∙ waits-open-on x here page w)).0
+  pub waits-moved-on : (x : Relocation K V) (begin wanted : ℕ) → relocation_at v slot c ≡ Some x → awaited x ≡ Some (record { begin = begin; wanted = wanted }) → begin ≢ v.core.records.log.begin → (page : ℕ) → WaitsOn v slot c page → ⊥
+  waits-moved-on x begin wanted here is other page w = other (same-awaited (record { begin = begin; wanted = wanted }) (record { begin = v.core.records.log.begin; wanted = w.wanted }) (sym is ∙ waits-open-on x here page w)).0

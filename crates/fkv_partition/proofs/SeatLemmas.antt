@@ -61,7 +61,7 @@ module _ {K V I : Type 0} (v new : CoreView K V I) where
 
   -- the regions move
   moved-slots : {keeps : Bool} (regions : RegionsView) (now : ℕ) → MovesTo keeps regions v new now → slots_of new ≡ regions.epochs.slots
-  moved-slots regions now m = ap (λ (r : RecordsView K V). r.regions.epochs.slots) m.moves.is
+  moved-slots regions now m = ap (λ (r : RecordsView K V). r.log.regions.epochs.slots) m.moves.is
 
   moved-opens : {keeps : Bool} (regions : RegionsView) (now : ℕ) → MovesTo keeps regions v new now → RelocationsStay v new
   moved-opens regions now m = none-moves (ap (λ (u : CoreView K V I). u.contexts) m.is)
@@ -80,7 +80,7 @@ module _ {K V I : Type 0} (v new : CoreView K V I) where
     goes-seats stands cmp join f code result (Goes.confirms x p h phase alone is r) = seats-changed slot c x (Some _) h (ap (λ (u : CoreView K V I). u.contexts) is) (ap (λ (u : CoreView K V I). slots_of u) is)
     goes-seats stands cmp join f code result (Goes.backs_off x p h phase alone is r) = seats-changed slot c x (Some _) h (ap (λ (u : CoreView K V I). u.contexts) is) (ap (λ (u : CoreView K V I). slots_of u) is)
     goes-seats stands cmp join f code result (Goes.done x t d is r) = seats-changed slot c x None d.here (ap (λ (u : CoreView K V I). u.contexts) is) (ap (λ (u : CoreView K V I). slots_of u) is)
-    goes-seats stands cmp join f code result (Goes.claims x d i r) = seats-changed slot c x (Some _) d.here (ap (λ (u : CoreView K V I). u.contexts) i.is) (ap (λ (u : CoreView K V I). slots_of u) i.is ∙ ap (λ (r : RecordsView K V). r.regions.epochs.slots) i.claims.is)
+    goes-seats stands cmp join f code result (Goes.claims x d i r) = seats-changed slot c x (Some _) d.here (ap (λ (u : CoreView K V I). u.contexts) i.is) (ap (λ (u : CoreView K V I). slots_of u) i.is ∙ ap (λ (r : RecordsView K V). r.log.regions.epochs.slots) i.claims.is)
     goes-seats stands cmp join f code result (Goes.unclaimed x d full is r) = seats-as is
     goes-seats stands cmp join f code result (Goes.appends x value t e d entry room free is r) = seats-changed slot c x None d.here (ap (λ (u : CoreView K V I). u.contexts) is) (ap (λ (u : CoreView K V I). slots_of u) is)
     goes-seats stands cmp join f code result (Goes.worn x value t d room is r) = seats-as is
@@ -135,7 +135,7 @@ module _ {K V I : Type 0} (v new : CoreView K V I) where
   enters-seats now result (Enters.full h is r) = seats-as is
   enters-seats now result (Enters.enters slot h is r) = (
     none-moves (ap (λ (u : CoreView K V I). u.contexts) is),
-    λ s entered. ap (λ (u : CoreView K V I). is_session (slots_of u) s) is ∙ renewed-stays (slots_of v) slot s v.records.regions.epochs.epoch entered,
+    λ s entered. ap (λ (u : CoreView K V I). is_session (slots_of u) s) is ∙ renewed-stays (slots_of v) slot s v.records.log.regions.epochs.epoch entered,
   )
 
   -- the session at the slot alone goes
@@ -150,7 +150,7 @@ module _ {K V I : Type 0} (v new : CoreView K V I) where
 
   pub refreshes-seats : (keeps : Bool) (slot now : ℕ) (result : Result (Unit {0}) Refused) → Refreshes keeps v new slot now result → Seats v new
   refreshes-seats keeps slot now result (Refreshes.unknown h is r) = seats-as is
-  refreshes-seats keeps slot now result (Refreshes.refreshes h m r) = seats-moved _ now (λ s entered. renewed-stays (slots_of v) slot s v.records.regions.epochs.epoch entered) m
+  refreshes-seats keeps slot now result (Refreshes.refreshes h m r) = seats-moved _ now (λ s entered. renewed-stays (slots_of v) slot s v.records.log.regions.epochs.epoch entered) m
 
   pub shifts-seats : (keeps : Bool) (page now : ℕ) (result : Result (Unit {0}) Refused) → Shifts keeps v new page now result → Seats v new
   shifts-seats keeps page now result (Shifts.not_due h is r) = seats-as is

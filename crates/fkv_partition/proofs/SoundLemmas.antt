@@ -85,7 +85,7 @@ module _ {K V I : Type 0} {keeps : Bool} {cmp : K → K → Ordering} {join : V 
     pub sound-regions : (regions : RegionsView) (now : ℕ)
         → IsTraced keeps code (with_regions v.records regions)
         → IsStood cmp join (with_regions v.records regions)
-        → IsRaised v.records.regions.offsets regions.offsets
+        → IsRaised v.records.log.regions.offsets regions.offsets
         → ((t c : ℕ) (x : OpenWork K V I) → c < 8 → slice_get v.contexts (t * 8 + c) ≡ Some (Some x) → is_session regions.epochs.slots t ≡ true)
         → IsSound keeps cmp join code (in_regions v regions now)
     sound-regions regions now traced stood up housed = record {
@@ -107,8 +107,8 @@ module _ {K V I : Type 0} {keeps : Bool} {cmp : K → K → Ordering} {join : V 
         → IsTraced keeps code r
         → IsStood cmp join r
         → IsMoved keeps regions v.records r
-        → IsRaised v.records.regions.offsets r.regions.offsets
-        → ((t c : ℕ) (x : OpenWork K V I) → c < 8 → slice_get v.contexts (t * 8 + c) ≡ Some (Some x) → is_session r.regions.epochs.slots t ≡ true)
+        → IsRaised v.records.log.regions.offsets r.log.regions.offsets
+        → ((t c : ℕ) (x : OpenWork K V I) → c < 8 → slice_get v.contexts (t * 8 + c) ≡ Some (Some x) → is_session r.log.regions.epochs.slots t ≡ true)
         → IsSound keeps cmp join code (record v { records = r; moment = now })
     sound-moved r regions now traced stood m up housed = record {
       own = s.own;
@@ -119,7 +119,7 @@ module _ {K V I : Type 0} {keeps : Bool} {cmp : K → K → Ordering} {join : V 
       stands = λ p x h. stands-grown keeps cmp join code v.records r x.op x.phase s.traced (grown-moved cmp join code v.records s.traced r regions m up) (λ q e. ap (λ (w : RecordsView K V). word_at w.words q) m.is) (s.stands p x h);
       owned = subst (λ w. AreOwned w v.contexts) (sym (ap (λ (w : RecordsView K V). w.words) m.is)) s.owned;
       routed = λ i e h.
-          let was = filter-in (λ (d : Entry K V). nat_le low d.address) v.records.entries i e (ap (λ (w : RecordsView K V). slice_get w.entries i) (sym m.is) ∙ h) in
+          let was = filter-in (λ (d : Entry K V). nat_le low d.address) v.records.log.text i e (ap (λ (w : RecordsView K V). slice_get w.log.text i) (sym m.is) ∙ h) in
           s.routed was.0.place e was.0.here;
       asked = s.asked;
       merging = s.merging;
@@ -127,7 +127,7 @@ module _ {K V I : Type 0} {keeps : Bool} {cmp : K → K → Ordering} {join : V 
     }
       where
         low : ℕ
-        low = text_begin keeps v.records.begin regions.offsets.closed
+        low = text_begin keeps v.records.log.begin regions.offsets.closed
 
     -- a page is flushed
     pub sound-flushed : (st : Standing) (now : ℕ) → IsTraced keeps code (with_receipt v.records st) → IsStood cmp join (with_receipt v.records st) → IsSound keeps cmp join code (record v { records = with_receipt v.records st; moment = now })
@@ -161,8 +161,8 @@ module _ {K V I : Type 0} {keeps : Bool} {cmp : K → K → Ordering} {join : V 
       pub traced : IsTraced keeps code r
       pub stood : IsStood cmp join r
       pub bits : r.partition_bits ≡ v.records.partition_bits
-      pub regions : r.regions ≡ v.records.regions
-      pub routed : (i : ℕ) (e : Entry K V) → slice_get r.entries i ≡ Some e → partition_of v.count (code e.key) ≡ v.number
+      pub regions : r.log.regions ≡ v.records.log.regions
+      pub routed : (i : ℕ) (e : Entry K V) → slice_get r.log.text i ≡ Some e → partition_of v.count (code e.key) ≡ v.number
       pub others : (p : ℕ) (x : Context K V I) → p ≢ slot * 8 + c → slice_get v.contexts p ≡ Some (Some (OnKey x)) → StandsFor keeps cmp join code r x.op x.phase
       pub owned : AreOwned r.words (slice_set v.contexts (slot * 8 + c) y)
 
@@ -246,8 +246,8 @@ module _ {K V I : Type 0} {keeps : Bool} {cmp : K → K → Ordering} {join : V 
         → Grows keeps cmp join code v.records r
         → ChangesAt q v.records.words r.words
         → r.partition_bits ≡ v.records.partition_bits
-        → r.regions ≡ v.records.regions
-        → r.entries ≡ v.records.entries
+        → r.log.regions ≡ v.records.log.regions
+        → r.log.text ≡ v.records.log.text
         → is_tentative (word_at v.records.words q) ≡ false
         → IsTrue (is_tentative (word_at r.words q))
         → slice_get v.contexts (slot * 8 + c) ≡ Some (Some (OnKey x))
@@ -273,8 +273,8 @@ module _ {K V I : Type 0} {keeps : Bool} {cmp : K → K → Ordering} {join : V 
         → Grows keeps cmp join code v.records r
         → ChangesAt q v.records.words r.words
         → r.partition_bits ≡ v.records.partition_bits
-        → r.regions ≡ v.records.regions
-        → r.entries ≡ v.records.entries
+        → r.log.regions ≡ v.records.log.regions
+        → r.log.text ≡ v.records.log.text
         → is_tentative (word_at r.words q) ≡ false
         → slice_get v.contexts (slot * 8 + c) ≡ Some (Some (OnKey x))
         → x.phase ≡ Confirm q
@@ -310,7 +310,7 @@ module _ {K V I : Type 0} {keeps : Bool} {cmp : K → K → Ordering} {join : V 
           stood = stood;
           bits = refl;
           regions = refl;
-          routed = λ i x h. elim (get-append_cases v.records.entries last i x h) [
+          routed = λ i x h. elim (get-append_cases v.records.log.text last i x h) [
             | inl was ↦ s.routed i x was
             | inr new ↦ subst (λ (y : Entry K V). partition_of v.count (code y.key) ≡ v.number) new.1 own
           ];
@@ -320,15 +320,15 @@ module _ {K V I : Type 0} {keeps : Bool} {cmp : K → K → Ordering} {join : V 
         }) (λ z h. absurd (cc)) (λ y h. absurd (cc))
       where
         last : Entry K V
-        last = record { address = v.records.tail; previous = address_of e.word; key = k; value = value_in payload; delta = is_part payload }
+        last = record { address = v.records.log.tail; previous = address_of e.word; key = k; value = value_in payload; delta = is_part payload }
 
     -- a record gets another value where it stands, or becomes a tombstone
     pub sound-replaced : (slot c now a : ℕ) (value : Option V)
         → claim_at v.contexts (slot * 8 + c) ≡ None
-        → v.records.regions.offsets.safe_read_only ≤ a
+        → v.records.log.regions.offsets.safe_read_only ≤ a
         → IsTraced keeps code (with_value v.records a value)
         → IsStood cmp join (with_value v.records a value)
-        → ((q : K) (b : ℕ) → IsStill v.records.regions.offsets.safe_read_only (newest cmp v.records.text q b) → newest cmp (with_value v.records a value).text q b ≡ newest cmp v.records.text q b)
+        → ((q : K) (b : ℕ) → IsStill v.records.log.regions.offsets.safe_read_only (newest cmp v.records.text q b) → newest cmp (with_value v.records a value).text q b ≡ newest cmp v.records.text q b)
         → IsSound keeps cmp join code (with_replaced v slot c a value now)
     sound-replaced slot c now a value old high traced stood kept =
         sound-changed (with_value v.records a value) slot c now None (record {
@@ -337,7 +337,7 @@ module _ {K V I : Type 0} {keeps : Bool} {cmp : K → K → Ordering} {join : V 
           bits = refl;
           regions = refl;
           routed = λ i e h.
-              let was = was_at a value v.records.entries i e h in
+              let was = was_at a value v.records.log.text i e h in
               subst (λ (y : Entry K V). partition_of v.count (code y.key) ≡ v.number) was.is
               (ap (λ k. partition_of v.count (code k)) (set_at-key a value was.entry) ∙ s.routed i was.entry was.here);
           others = λ p x n h. stands-grown keeps cmp join code v.records (with_value v.records a value) x.op x.phase s.traced (grown-replaced cmp join code v.records s.traced a value high kept) (λ q e. refl) (s.stands p x h);
@@ -346,10 +346,10 @@ module _ {K V I : Type 0} {keeps : Bool} {cmp : K → K → Ordering} {join : V 
 
     -- the same where no context changes
     pub sound-revalued : (now a : ℕ) (value : Option V)
-        → v.records.regions.offsets.safe_read_only ≤ a
+        → v.records.log.regions.offsets.safe_read_only ≤ a
         → IsTraced keeps code (with_value v.records a value)
         → IsStood cmp join (with_value v.records a value)
-        → ((q : K) (b : ℕ) → IsStill v.records.regions.offsets.safe_read_only (newest cmp v.records.text q b) → newest cmp (with_value v.records a value).text q b ≡ newest cmp v.records.text q b)
+        → ((q : K) (b : ℕ) → IsStill v.records.log.regions.offsets.safe_read_only (newest cmp v.records.text q b) → newest cmp (with_value v.records a value).text q b ≡ newest cmp v.records.text q b)
         → IsSound keeps cmp join code (record v { records = with_value v.records a value; moment = now })
     sound-revalued now a value high traced stood kept =
         let long : length v.contexts ≤ 16 * 8 + 0 = omega (arith, s.places) in
@@ -359,5 +359,5 @@ module _ {K V I : Type 0} {keeps : Bool} {cmp : K → K → Ordering} {join : V 
         (sound-replaced 16 0 now a value (ap (λ o. claim_of (joined o)) past) high traced stood kept)
 
 -- a session stays where the regions that the records have followed have it
-pub slots-moved : {K V : Type 0} {keeps : Bool} (old new : RecordsView K V) (regions : RegionsView) (t : ℕ) → IsMoved keeps regions old new → is_session regions.epochs.slots t ≡ true → is_session new.regions.epochs.slots t ≡ true
-slots-moved old new regions t m h = ap (λ (w : RecordsView _ _). is_session w.regions.epochs.slots t) m.is ∙ h
+pub slots-moved : {K V : Type 0} {keeps : Bool} (old new : RecordsView K V) (regions : RegionsView) (t : ℕ) → IsMoved keeps regions old new → is_session regions.epochs.slots t ≡ true → is_session new.log.regions.epochs.slots t ≡ true
+slots-moved old new regions t m h = ap (λ (w : RecordsView _ _). is_session w.log.regions.epochs.slots t) m.is ∙ h

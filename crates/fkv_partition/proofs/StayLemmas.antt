@@ -45,7 +45,7 @@ use Rattle.fkv_partition.proofs.EventLemmas.{stands-at, refreshed-same, left-sam
 use Rattle.fkv_partition.proofs.PendingLemmas.{others-pend, frame-of}
 
 -- what is to be found depends on Begin and the text alone
-pub pending-same : {K V I : Type 0} (cmp : K → K → Ordering) (r s : RecordsView K V) (o : Option (Context K V I)) → s.begin ≡ r.begin → s.text ≡ r.text → pending_of cmp s o ≡ pending_of cmp r o
+pub pending-same : {K V I : Type 0} (cmp : K → K → Ordering) (r s : RecordsView K V) (o : Option (Context K V I)) → s.log.begin ≡ r.log.begin → s.text ≡ r.text → pending_of cmp s o ≡ pending_of cmp r o
 pending-same cmp r s None begin text = refl
 pending-same cmp r s (Some x) begin text = by_phase x.phase
   where
@@ -58,23 +58,23 @@ pending-same cmp r s (Some x) begin text = by_phase x.phase
 -- records that keep, of each key, what is newest where it is still
 abbrev pub KeepsStill : {K V : Type 0} → (K → K → Ordering) → RecordsView K V → RecordsView K V → Type 0
 KeepsStill {K} cmp old new = (k : K) (a : ℕ)
-    → a < old.tail
-    → IsStill old.regions.offsets.safe_read_only (newest cmp old.text k a)
+    → a < old.log.tail
+    → IsStill old.log.regions.offsets.safe_read_only (newest cmp old.text k a)
     → newest cmp new.text k a ≡ newest cmp old.text k a
 
 -- so what a look-up is to find stays
 abbrev found_by : {K V I : Type 0} → (K → K → Ordering) → RecordsView K V → KeyedOp K V I → Loading V → Pending V
 found_by cmp r op l = record { moment = l.looked; value = value_of (newest cmp r.text (key_of op) (address_of l.kept.word)) }
 
-loads-same : {K V I : Type 0} {keeps : Bool} (cmp : K → K → Ordering) (join : V → V → V) (code : K → ℕ) (r s : RecordsView K V) (op : KeyedOp K V I) (l : Loading V) → IsTrue keeps → s.begin ≡ r.begin → KeepsStill cmp r s → IsLoading keeps cmp join code r (key_of op) l
+loads-same : {K V I : Type 0} {keeps : Bool} (cmp : K → K → Ordering) (join : V → V → V) (code : K → ℕ) (r s : RecordsView K V) (op : KeyedOp K V I) (l : Loading V) → IsTrue keeps → s.log.begin ≡ r.log.begin → KeepsStill cmp r s → IsLoading keeps cmp join code r (key_of op) l
     → pending_by cmp s op (Load l) ≡ pending_by cmp r op (Load l)
-loads-same cmp join code r s op l yes_keeps begin kept h = rw begin (by_begin (l.begin == r.begin) refl)
+loads-same cmp join code r s op l yes_keeps begin kept h = rw begin (by_begin (l.begin == r.log.begin) refl)
   where
-    by_begin : (b : Bool) → (l.begin == r.begin) ≡ b → cond b (Some (found_by cmp s op l)) None ≡ cond b (Some (found_by cmp r op l)) None
-    by_begin true same = ap (λ o. Some (record { moment = l.looked; value = value_of o })) (kept (key_of op) (address_of l.kept.word) h.low (h.leads yes_keeps (eqb-true l.begin r.begin same)).still)
+    by_begin : (b : Bool) → (l.begin == r.log.begin) ≡ b → cond b (Some (found_by cmp s op l)) None ≡ cond b (Some (found_by cmp r op l)) None
+    by_begin true same = ap (λ o. Some (record { moment = l.looked; value = value_of o })) (kept (key_of op) (address_of l.kept.word) h.low (h.leads yes_keeps (eqb-true l.begin r.log.begin same)).still)
     by_begin false same = refl
 
-pending-kept : {K V I : Type 0} {keeps : Bool} (cmp : K → K → Ordering) (join : V → V → V) (code : K → ℕ) (r s : RecordsView K V) (op : KeyedOp K V I) (p : Phase V) → IsTrue keeps → s.begin ≡ r.begin → KeepsStill cmp r s → StandsFor keeps cmp join code r op p
+pending-kept : {K V I : Type 0} {keeps : Bool} (cmp : K → K → Ordering) (join : V → V → V) (code : K → ℕ) (r s : RecordsView K V) (op : KeyedOp K V I) (p : Phase V) → IsTrue keeps → s.log.begin ≡ r.log.begin → KeepsStill cmp r s → StandsFor keeps cmp join code r op p
     → pending_by cmp s op p ≡ pending_by cmp r op p
 pending-kept cmp join code r s op Fresh yes_keeps begin kept h = refl
 pending-kept cmp join code r s op (Confirm q) yes_keeps begin kept h = refl
@@ -86,7 +86,7 @@ pending-kept cmp join code r s (Delete k) (Load l) yes_keeps begin kept h = absu
 pending-kept cmp join code r s (Merge k i) (Load l) yes_keeps begin kept h = absurd h
 
 module _ {K V I : Type 0} {keeps : Bool} (cmp : K → K → Ordering) (join : V → V → V) (code : K → ℕ) (v : CoreView K V I) (s : IsSound keeps cmp join code v) (yes_keeps : IsTrue keeps) where
-  all-kept : (r : RecordsView K V) → r.begin ≡ v.records.begin → KeepsStill cmp v.records r → (t d : ℕ) → pending_of cmp r (context_at v t d) ≡ pending_of cmp v.records (context_at v t d)
+  all-kept : (r : RecordsView K V) → r.log.begin ≡ v.records.log.begin → KeepsStill cmp v.records r → (t d : ℕ) → pending_of cmp r (context_at v t d) ≡ pending_of cmp v.records (context_at v t d)
   all-kept r begin kept t d = by_context (context_at v t d) refl
     where
       by_context : (o : Option (Context K V I)) → context_at v t d ≡ o → pending_of cmp r o ≡ pending_of cmp v.records o
@@ -94,7 +94,7 @@ module _ {K V I : Type 0} {keeps : Bool} (cmp : K → K → Ordering) (join : V 
       by_context (Some x) h = pending-kept cmp join code v.records r x.op x.phase yes_keeps begin kept (stands-at cmp join code v s t d x h)
 
   -- one context is set, and the records change
-  pub changed-others : (slot c now : ℕ) (x : Context K V I) → context_at v slot c ≡ Some x → (y : Option (Context K V I)) (r : RecordsView K V) → r.begin ≡ v.records.begin → r.regions ≡ v.records.regions → KeepsStill cmp v.records r
+  pub changed-others : (slot c now : ℕ) (x : Context K V I) → context_at v slot c ≡ Some x → (y : Option (Context K V I)) (r : RecordsView K V) → r.log.begin ≡ v.records.log.begin → r.log.regions ≡ v.records.log.regions → KeepsStill cmp v.records r
       → OthersPend cmp v (record (with_context v slot c y now) { records = r }) slot c
   changed-others slot c now x h y r begin regions kept t d o =
       ap (λ (g : RegionsView). pending_of cmp r (on_key (context_in g.epochs.slots (with_context v slot c y now).contexts t d))) regions
@@ -112,10 +112,10 @@ module _ {K V I : Type 0} {keeps : Bool} (cmp : K → K → Ordering) (join : V 
 
     -- and the words of the index
     reworded : (x : Context K V I) → context_at v slot c ≡ Some x → (y : Option (Context K V I)) (r : RecordsView K V) → r ≡ record v.records { words = r.words } → new ≡ record (with_context v slot c y now) { records = r } → OthersPend cmp v new slot c
-    reworded x h y r words is = as-others new _ slot c is (changed-others slot c now x h y r (ap (λ (w : RecordsView K V). w.begin) words) (ap (λ (w : RecordsView K V). w.regions) words) (λ k a low still. ap (λ (w : RecordsView K V). newest cmp w.text k a) words))
+    reworded x h y r words is = as-others new _ slot c is (changed-others slot c now x h y r (ap (λ (w : RecordsView K V). w.log.begin) words) (ap (λ (w : RecordsView K V). w.log.regions) words) (λ k a low still. ap (λ (w : RecordsView K V). newest cmp w.text k a) words))
 
     pub goes-others : {O R : Type 0} (stands : R → Standing) (f : Meanings K V I O) (result : Result (Progress K V I O R) Refused)
-        → ((e : IndexEntry) (key : K) (payload : Payload V) (has : Option V) (k : K) (a : ℕ) → a < v.records.tail → newest cmp (with_written v.records e key payload has).text k a ≡ newest cmp v.records.text k a)
+        → ((e : IndexEntry) (key : K) (payload : Payload V) (has : Option V) (k : K) (a : ℕ) → a < v.records.log.tail → newest cmp (with_written v.records e key payload has).text k a ≡ newest cmp v.records.text k a)
         → ((x : Context K V I) (value : Option V) (told : Answer O) (e : Entry K V) → Decides cmp join f code v slot c x (decided.Replace value told) → last_of cmp v.records.text (key_of x.op) ≡ Some e → KeepsStill cmp v.records (with_value v.records e.address value))
         → Goes stands cmp join f code v new slot c now result
         → OthersPend cmp v new slot c
@@ -133,11 +133,11 @@ module _ {K V I : Type 0} {keeps : Bool} (cmp : K → K → Ordering) (join : V 
     goes-others stands f result grows changes (Goes.replaces x value t e d last is r) = as-others new _ slot c is (changed-others slot c now x d.here None (with_value v.records e.address value) refl refl (changes x value t e d last))
     goes-others stands f result grows changes (Goes.waits x d is r) = as-others new _ slot c is (λ t d o. refl)
     goes-others stands f result grows changes (Goes.prepares x source i e d entry is r) = set x d.here (Some (at_phase x (Prepared e source))) is
-    goes-others stands f result grows changes (Goes.asks_page x b parts e p d entry held is r) = set x d.here (Some (at_phase x (Load (record { begin = v.records.begin; kept = e; wanted = b; parts = parts; looked = now })))) is
+    goes-others stands f result grows changes (Goes.asks_page x b parts e p d entry held is r) = set x d.here (Some (at_phase x (Load (record { begin = v.records.log.begin; kept = e; wanted = b; parts = parts; looked = now })))) is
     goes-others stands f result grows changes (Goes.unshared x b parts d is r) = as-others new v slot c is (λ t d o. refl)
 
     pub installs-others : {O R : Type 0} (f : Meanings K V I O) (ask : Ask K V I) (result : Result (Progress K V I O R) Refused)
-        → ((e : IndexEntry) (key : K) (payload : Payload V) (has : Option V) (k : K) (a : ℕ) → a < v.records.tail → newest cmp (with_written v.records e key payload has).text k a ≡ newest cmp v.records.text k a)
+        → ((e : IndexEntry) (key : K) (payload : Payload V) (has : Option V) (k : K) (a : ℕ) → a < v.records.log.tail → newest cmp (with_written v.records e key payload has).text k a ≡ newest cmp v.records.text k a)
         → Installs cmp f code v new slot c ask now result
         → OthersPend cmp v new slot c
     installs-others f ask result grows (Installs.unknown h is r) = as-others new v slot c is (λ t d o. refl)
@@ -155,9 +155,9 @@ pub moved-all : {K V I : Type 0} (keeps : Bool) (cmp : K → K → Ordering) (re
     → AllPend cmp old new
 moved-all keeps cmp regions old new now yes_keeps m same t d =
     ap (λ (w : CoreView _ _ _). pending cmp w t d) m.is
-    ∙ ap (λ (r : RecordsView _ _). pending_of cmp new.records (on_key (context_in r.regions.epochs.slots old.contexts t d))) m.moves.is
+    ∙ ap (λ (r : RecordsView _ _). pending_of cmp new.records (on_key (context_in r.log.regions.epochs.slots old.contexts t d))) m.moves.is
     ∙ ap (λ o. pending_of cmp new.records (on_key o)) (same t d)
-    ∙ pending-same cmp old.records new.records (context_at old t d) (ap (λ (r : RecordsView _ _). r.begin) m.moves.is) (m.moves.kept yes_keeps)
+    ∙ pending-same cmp old.records new.records (context_at old t d) (ap (λ (r : RecordsView _ _). r.log.begin) m.moves.is) (m.moves.kept yes_keeps)
 
 as-all : {K V I : Type 0} (cmp : K → K → Ordering) (old new : CoreView K V I) → new ≡ old → AllPend cmp old new
 as-all cmp old new is t d = ap (λ (w : CoreView _ _ _). pending cmp w t d) is
@@ -199,8 +199,8 @@ pub enters-all : {K V I : Type 0} {keeps : Bool} (cmp : K → K → Ordering) (j
 enters-all cmp join code old new now result s (Enters.full h is r) = as-all cmp old new is
 enters-all cmp join code old new now result s (Enters.enters slot h is r) = λ t d.
     ap (λ (w : CoreView _ _ _). pending cmp w t d) is
-    ∙ ap (λ o. pending_of cmp (in_regions old (entered old.records.regions slot) now).records (on_key o)) (entered-same cmp join code old s slot h t d)
-    ∙ pending-same cmp old.records (in_regions old (entered old.records.regions slot) now).records (context_at old t d) refl refl
+    ∙ ap (λ o. pending_of cmp (in_regions old (entered old.records.log.regions slot) now).records (on_key o)) (entered-same cmp join code old s slot h t d)
+    ∙ pending-same cmp old.records (in_regions old (entered old.records.log.regions slot) now).records (context_at old t d) refl refl
 
 -- a context that was free holds an operation that has not begun
 pub issues-all : {K V I : Type 0} (cmp : K → K → Ordering) (code : K → ℕ) (old new : CoreView K V I) (slot c : ℕ) (op : KeyedOp K V I) (now : ℕ) → Issues code old new slot c op now → AllPend cmp old new

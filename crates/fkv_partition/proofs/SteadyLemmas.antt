@@ -23,14 +23,14 @@ use Rattle.fkv_partition.specs.CoreViews.{CoreView, MovesTo}
 pub record IsSteady {K V I : Type 0} (old new : CoreView K V I) : Type 0 where
   pub number : new.number ≡ old.number
   pub count : new.count ≡ old.count
-  pub begin : new.records.begin ≡ old.records.begin
+  pub begin : new.records.log.begin ≡ old.records.log.begin
 
 module _ {K V I : Type 0} (v new : CoreView K V I) where
   steady-by : (u : CoreView K V I) → new ≡ u → IsSteady v u → IsSteady v new
   steady-by u is s = record {
     number = ap (λ (w : CoreView K V I). w.number) is ∙ s.number;
     count = ap (λ (w : CoreView K V I). w.count) is ∙ s.count;
-    begin = ap (λ (w : CoreView K V I). w.records.begin) is ∙ s.begin;
+    begin = ap (λ (w : CoreView K V I). w.records.log.begin) is ∙ s.begin;
   }
 
   -- the regions move
@@ -38,7 +38,7 @@ module _ {K V I : Type 0} (v new : CoreView K V I) where
   steady-moved regions now m = record {
     number = ap (λ (w : CoreView K V I). w.number) m.is;
     count = ap (λ (w : CoreView K V I). w.count) m.is;
-    begin = ap (λ (r : RecordsView K V). r.begin) m.moves.is;
+    begin = ap (λ (r : RecordsView K V). r.log.begin) m.moves.is;
   }
 
   -- ---- by kind of event
@@ -55,7 +55,7 @@ module _ {K V I : Type 0} (v new : CoreView K V I) where
     goes-steady stands cmp join f code result (Goes.claims x d i r) = record {
       number = ap (λ (w : CoreView K V I). w.number) i.is;
       count = ap (λ (w : CoreView K V I). w.count) i.is;
-      begin = ap (λ (w : CoreView K V I). w.records.begin) i.is ∙ ap (λ (w : RecordsView K V). w.begin) i.claims.is;
+      begin = ap (λ (w : CoreView K V I). w.records.log.begin) i.is ∙ ap (λ (w : RecordsView K V). w.log.begin) i.claims.is;
     }
     goes-steady stands cmp join f code result (Goes.unclaimed x d full is r) = steady-by _ is (record { number = refl; count = refl; begin = refl })
     goes-steady stands cmp join f code result (Goes.appends x value t e d entry room free is r) = steady-by _ is (record { number = refl; count = refl; begin = refl })

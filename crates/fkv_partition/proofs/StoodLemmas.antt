@@ -11,33 +11,33 @@ use Rattle.fkv_lookups.specs.RecordsViews.{RecordsView, IsReplaceable}
 use Rattle.fkv_lookups.specs.Traced.{IsTraced, IsStood}
 
 module _ {K V : Type 0} {keeps : Bool} {code : K → ℕ} (cmp : K → K → Ordering) (join : V → V → V) (v : RecordsView K V) (s : IsStood cmp join v) (t : IsTraced keeps code v) where
-  pub rises : IsRising v.entries
-  rises = alike-rising (stood cmp join v.entries) v.entries (alike_back cmp join v.entries) (subst IsRising s.is t.rising)
+  pub rises : IsRising v.log.text
+  rises = alike-rising (stood cmp join v.log.text) v.log.text (alike_back cmp join v.log.text) (subst IsRising s.is t.rising)
 
   -- the last that passes a test, as it stands
-  pub last-stood : (p : Entry K V → Bool) → IgnoresValues p → last_where p v.text ≡ option_map (having (value_of (last_where p v.text))) (last_where p v.entries)
-  last-stood p blind = subst (λ u. last_where p u ≡ option_map (having (value_of (last_where p u))) (last_where p v.entries)) (sym s.is) (stood-last cmp join v.entries p blind)
+  pub last-stood : (p : Entry K V → Bool) → IgnoresValues p → last_where p v.text ≡ option_map (having (value_of (last_where p v.text))) (last_where p v.log.text)
+  last-stood p blind = subst (λ u. last_where p u ≡ option_map (having (value_of (last_where p u))) (last_where p v.log.text)) (sym s.is) (stood-last cmp join v.log.text p blind)
 
   -- one that is no delta has its own value
-  pub whole-stood : (p : Entry K V → Bool) → IgnoresValues p → (e : Entry K V) → last_where p v.text ≡ Some e → e.delta ≡ false → last_where p v.entries ≡ Some e
-  whole-stood p blind e is whole = by_last (last_where p v.entries) refl (sym (last-stood p blind) ∙ is)
+  pub whole-stood : (p : Entry K V → Bool) → IgnoresValues p → (e : Entry K V) → last_where p v.text ≡ Some e → e.delta ≡ false → last_where p v.log.text ≡ Some e
+  whole-stood p blind e is whole = by_last (last_where p v.log.text) refl (sym (last-stood p blind) ∙ is)
     where
-      by_last : (o : Option (Entry K V)) → last_where p v.entries ≡ o → option_map (having (value_of (last_where p v.text))) o ≡ Some e → last_where p v.entries ≡ Some e
+      by_last : (o : Option (Entry K V)) → last_where p v.log.text ≡ o → option_map (having (value_of (last_where p v.text))) o ≡ Some e → last_where p v.log.text ≡ Some e
       by_last None h same = absurd (cc)
       by_last (Some d) h same =
           let one : having (value_of (last_where p v.text)) d ≡ e = cc in
           let flag : d.delta ≡ false = ap (λ (x : Entry K V). x.delta) one ∙ whole in
-          let value : value_of (last_where p v.text) ≡ d.value = ap (λ u. value_of (last_where p u)) s.is ∙ whole-last join cmp v.entries p blind d h flag in
+          let value : value_of (last_where p v.text) ≡ d.value = ap (λ u. value_of (last_where p u)) s.is ∙ whole-last join cmp v.log.text p blind d h flag in
           h ∙ ap Some (sym (ap (λ x. having x d) value) ∙ one)
 
   -- the record that may be changed where it stands
   pub record IsRawReplaceable (a : ℕ) : Type 0 where
     pub entry : Entry K V
-    pub here : entry_at v.entries a ≡ Some entry
+    pub here : entry_at v.log.text a ≡ Some entry
     pub at : entry.address ≡ a
-    pub last : last_of cmp v.entries entry.key ≡ Some entry
+    pub last : last_of cmp v.log.text entry.key ≡ Some entry
     pub some : IsSome entry.value
-    pub rises : IsRising v.entries
+    pub rises : IsRising v.log.text
 
   pub raw-replaceable : (a : ℕ) → IsReplaceable cmp v a → IsRawReplaceable a
   raw-replaceable a m = record {

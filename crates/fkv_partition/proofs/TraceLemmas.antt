@@ -1,5 +1,5 @@
 -- What a page on the way from the entry of a record's class down to its place tells of the record.
-use Rattle.std.proofs.Common.{◌≡◌, ◌+◌, ◌<◌, ◌≤◌, inl, inr, nat_le, ℕ, Bool, true, false, cond, length, nat_lt, IsTrue, List, Option, Some, None, refl, sym, ap, subst, ◌∙◌, arith}
+use Rattle.std.proofs.Common.{◌≡◌, ◌+◌, ◌<◌, ◌≤◌, inl, inr, nat_le, ℕ, Bool, true, false, cond, nat_lt, IsTrue, List, Option, Some, None, refl, sym, ap, subst, ◌∙◌, arith}
 use Rattle.std.proofs.lemmas.Bool.Decides.{nat_tests}
 use Rattle.std.proofs.lemmas.Bool.{cases_lt, ltb-true}
 use Rattle.std.specs.Prelude.{Result, Ok, Err}
@@ -47,34 +47,34 @@ use Rattle.fkv_partition.proofs.CheckingLemmas.{higher-left, higher-right, stand
 -- ---- what the page that came says
 pub record CameOf {K V : Type 0} (keeps : Bool) (entry : ℕ → List ℕ → ℕ → Entry K V → Type 0) (cmp : K → K → Ordering) (join : V → V → V) (code : K → ℕ) (r : RecordsView K V) (place : ℕ) (key : K) (l : Loading V) (st : Standing) (bytes : List ℕ)
     (result : Result (ChainResult K V) Refused) : Type 0 where
-  pub own : IsHeldBy r.receipts (page_at r.page_bits l.wanted) st
-  pub reads : ComesToInPage join (entry r.page_bits bytes) cmp key r.page_bits (higher_of (place + 1) (first_place r.page_bits (page_at r.page_bits l.wanted))) l.wanted l.parts result
+  pub own : IsHeldBy r.log.receipts (page_at r.log.bits l.wanted) st
+  pub reads : ComesToInPage join (entry r.log.bits bytes) cmp key r.log.bits (higher_of (place + 1) (first_place r.log.bits (page_at r.log.bits l.wanted))) l.wanted l.parts result
   pub kept : IsTrue keeps
-      → r.begin ≤ l.wanted
+      → r.log.begin ≤ l.wanted
       → IsOfClass code r key l.wanted
-      → (q : ChainResult K V) × (result ≡ Ok q) × ComesTo cmp join code r key (higher_of (place + 1) (first_place r.page_bits (page_at r.page_bits l.wanted))) l.wanted l.parts q
+      → (q : ChainResult K V) × (result ≡ Ok q) × ComesTo cmp join code r key (higher_of (place + 1) (first_place r.log.bits (page_at r.log.bits l.wanted))) l.wanted l.parts q
 
 pub page-came : {K V : Type 0} (keeps : Bool) (entry : ℕ → List ℕ → ℕ → Entry K V → Type 0) (cmp : K → K → Ordering) (join : V → V → V) (code : K → ℕ) (a d u v : RecordsView K V) (place : ℕ) (key : K) (page low : ℕ) (l : Loading V) (st : Standing) (bytes : List ℕ) (result : Result (ChainResult K V) Refused)
     → a ≡ v
     → d ≡ v
     → u ≡ v
-    → page ≡ page_at a.page_bits l.wanted
-    → low ≡ higher_of (place + 1) (first_place d.page_bits page)
-    → IsHeldBy v.receipts (page_at v.page_bits l.wanted) st
-    → ComesToInPage join (entry u.page_bits bytes) cmp key u.page_bits low l.wanted l.parts result
+    → page ≡ page_at a.log.bits l.wanted
+    → low ≡ higher_of (place + 1) (first_place d.log.bits page)
+    → IsHeldBy v.log.receipts (page_at v.log.bits l.wanted) st
+    → ComesToInPage join (entry u.log.bits bytes) cmp key u.log.bits low l.wanted l.parts result
     → (IsTrue keeps
-    → u.begin ≤ l.wanted
+    → u.log.begin ≤ l.wanted
     → IsOfClass code u key l.wanted
     → (r : ChainResult K V) × (result ≡ Ok r) × ComesTo cmp join code u key low l.wanted l.parts r)
     → CameOf keeps entry cmp join code v place key l st bytes result
 page-came {K} {V} keeps entry cmp join code a d u v place key page low l st bytes result a_is d_is u_is page_is low_is held reads kept =
-    let at : page ≡ page_at v.page_bits l.wanted = page_is ∙ ap (λ (w : RecordsView K V). page_at w.page_bits l.wanted) a_is in
-    let floor : low ≡ higher_of (place + 1) (first_place v.page_bits (page_at v.page_bits l.wanted)) =
-    low_is ∙ ap (λ (w : RecordsView K V). higher_of (place + 1) (first_place w.page_bits page)) d_is ∙ ap (λ n. higher_of (place + 1) (first_place v.page_bits n)) at in
+    let at : page ≡ page_at v.log.bits l.wanted = page_is ∙ ap (λ (w : RecordsView K V). page_at w.log.bits l.wanted) a_is in
+    let floor : low ≡ higher_of (place + 1) (first_place v.log.bits (page_at v.log.bits l.wanted)) =
+    low_is ∙ ap (λ (w : RecordsView K V). higher_of (place + 1) (first_place w.log.bits page)) d_is ∙ ap (λ n. higher_of (place + 1) (first_place v.log.bits n)) at in
     record {
       own = held;
-      reads = rw floor at (subst (λ (w : RecordsView K V). ComesToInPage join (entry w.page_bits bytes) cmp key w.page_bits low l.wanted l.parts result) u_is reads);
-      kept = rw floor at (subst (λ (w : RecordsView K V). IsTrue keeps → w.begin ≤ l.wanted → IsOfClass code w key l.wanted → (r : ChainResult K V) × (result ≡ Ok r) × ComesTo cmp join code w key low l.wanted l.parts r) u_is kept);
+      reads = rw floor at (subst (λ (w : RecordsView K V). ComesToInPage join (entry w.log.bits bytes) cmp key w.log.bits low l.wanted l.parts result) u_is reads);
+      kept = rw floor at (subst (λ (w : RecordsView K V). IsTrue keeps → w.log.begin ≤ l.wanted → IsOfClass code w key l.wanted → (r : ChainResult K V) × (result ≡ Ok r) × ComesTo cmp join code w key low l.wanted l.parts r) u_is kept);
     }
 
 module _ {K V I : Type 0} {keeps : Bool} (cmp : K → K → Ordering) (join : V → V → V) (code : K → ℕ) (order : IsKeyOrder cmp) (v : PartitionView K V I) (sound : IsSound keeps cmp join code v.core) (s : IsCompacting keeps cmp join code v) (slot c : ℕ) (x : Relocation K V) (e : Entry K V) (l : Loading V)
@@ -88,38 +88,38 @@ module _ {K V I : Type 0} {keeps : Bool} (cmp : K → K → Ordering) (join : V 
   tracing : IsTracing keeps cmp join code v.core.records x.target e l
   tracing = staged.1
 
-  begin-same : l.begin ≡ v.core.records.begin
-  begin-same = (same-awaited (record { begin = l.begin; wanted = l.wanted }) (record { begin = v.core.records.begin; wanted = l.wanted }) (sym (ap (λ (q : Stage K V). awaited_by x.target q) at) ∙ a.awaits)).0
+  begin-same : l.begin ≡ v.core.records.log.begin
+  begin-same = (same-awaited (record { begin = l.begin; wanted = l.wanted }) (record { begin = v.core.records.log.begin; wanted = l.wanted }) (sym (ap (λ (q : Stage K V). awaited_by x.target q) at) ∙ a.awaits)).0
 
-  begun : v.core.records.begin ≤ l.wanted
+  begun : v.core.records.log.begin ≤ l.wanted
   begun = let h = tracing.loading.begun in let same = begin-same in omega arith
 
   -- its page is flushed
-  pub way-flushed : HasReceipt v.core.records.receipts (page_at v.core.records.page_bits l.wanted)
+  pub way-flushed : HasReceipt v.core.records.log.receipts (page_at v.core.records.log.bits l.wanted)
   way-flushed = page_flushed v.core.records l.wanted sound.traced begun tracing.loading.on_disk
 
-  text-begins : IsTrue keeps → v.core.records.from ≤ l.wanted
+  text-begins : IsTrue keeps → v.core.records.log.from ≤ l.wanted
   text-begins yes_keeps = let from = kept-from v.core.records sound.traced yes_keeps in let h = begun in omega arith
 
   -- on a device that keeps, while Begin stands, the record read is that of the place
-  pub is-own : IsTrue keeps → entry_at v.core.records.entries x.target ≡ Some e
+  pub is-own : IsTrue keeps → entry_at v.core.records.log.text x.target ≡ Some e
   is-own yes_keeps = tracing.is yes_keeps begin-same
 
   -- the lowest address that is followed in the page
   abbrev floor : ℕ
-  floor = higher_of (x.target + 1) (first_place v.core.records.page_bits (page_at v.core.records.page_bits l.wanted))
+  floor = higher_of (x.target + 1) (first_place v.core.records.log.bits (page_at v.core.records.log.bits l.wanted))
 
   floor-above : x.target < floor
-  floor-above = let up = higher-left (x.target + 1) (first_place v.core.records.page_bits (page_at v.core.records.page_bits l.wanted)) in omega arith
+  floor-above = let up = higher-left (x.target + 1) (first_place v.core.records.log.bits (page_at v.core.records.log.bits l.wanted)) in omega arith
 
-  floor-page : first_place v.core.records.page_bits (page_at v.core.records.page_bits l.wanted) ≤ floor
-  floor-page = higher-right (x.target + 1) (first_place v.core.records.page_bits (page_at v.core.records.page_bits l.wanted))
+  floor-page : first_place v.core.records.log.bits (page_at v.core.records.log.bits l.wanted) ≤ floor
+  floor-page = higher-right (x.target + 1) (first_place v.core.records.log.bits (page_at v.core.records.log.bits l.wanted))
 
   -- a way out that lies above the place leaves the page
-  floor-under : (b : ℕ) → b < floor → x.target < b → b < first_place v.core.records.page_bits (page_at v.core.records.page_bits l.wanted)
-  floor-under b under high = by_test (nat_le (x.target + 1) (first_place v.core.records.page_bits (page_at v.core.records.page_bits l.wanted))) refl under
+  floor-under : (b : ℕ) → b < floor → x.target < b → b < first_place v.core.records.log.bits (page_at v.core.records.log.bits l.wanted)
+  floor-under b under high = by_test (nat_le (x.target + 1) (first_place v.core.records.log.bits (page_at v.core.records.log.bits l.wanted))) refl under
     where
-      by_test : (q : Bool) → nat_le (x.target + 1) (first_place v.core.records.page_bits (page_at v.core.records.page_bits l.wanted)) ≡ q → b < cond q (first_place v.core.records.page_bits (page_at v.core.records.page_bits l.wanted)) (x.target + 1) → b < first_place v.core.records.page_bits (page_at v.core.records.page_bits l.wanted)
+      by_test : (q : Bool) → nat_le (x.target + 1) (first_place v.core.records.log.bits (page_at v.core.records.log.bits l.wanted)) ≡ q → b < cond q (first_place v.core.records.log.bits (page_at v.core.records.log.bits l.wanted)) (x.target + 1) → b < first_place v.core.records.log.bits (page_at v.core.records.log.bits l.wanted)
       by_test true h less = less
       by_test false h less = absurd (omega (arith, less, high))
 
@@ -145,12 +145,12 @@ module _ {K V I : Type 0} {keeps : Bool} (cmp : K → K → Ordering) (join : V 
         absurd (cc)
 
     -- a newer record of the key that is no delta was met: the record of the place is superseded
-    pub way-dead : (r : ChainResult K V) → result ≡ Ok r → liveness x.target r ≡ Superseded → IsTrue keeps → (y : Entry K V) → entry_at v.core.records.entries x.target ≡ Some y → IsSuperseded cmp v.core.records.entries y
+    pub way-dead : (r : ChainResult K V) → result ≡ Ok r → liveness x.target r ≡ Superseded → IsTrue keeps → (y : Entry K V) → entry_at v.core.records.log.text x.target ≡ Some y → IsSuperseded cmp v.core.records.log.text y
     way-dead r is j yes_keeps y here =
         let own = is-own yes_keeps in
         let both : Some e ≡ Some y = sym own ∙ here in
         let same : e ≡ y = cc in
-        subst (λ (d : Entry K V). IsSuperseded cmp v.core.records.entries d) same
+        subst (λ (d : Entry K V). IsSuperseded cmp v.core.records.log.text d) same
         (met-dead cmp join code order v.core.records sound.traced sound.stood x.target e own floor l.wanted l.parts r (goes yes_keeps r is) j)
 
     -- what its key has from where the entry led, by where the way stands
@@ -160,7 +160,7 @@ module _ {K V I : Type 0} {keeps : Bool} (cmp : K → K → Ordering) (join : V 
         ∙ values_tell cmp join code v.core.records e.key order sound.traced sound.stood floor l.wanted l.parts r (goes yes_keeps r is)
 
     -- the records of the key down to there are deltas
-    led-deltas : IsTrue keeps → (r : ChainResult K V) → result ≡ Ok r → (d : Entry K V) → IsIn v.core.records.entries d → has_key cmp e.key d ≡ true → at_of r.position < d.address → d.address ≤ address_of l.kept.word → d.delta ≡ true
+    led-deltas : IsTrue keeps → (r : ChainResult K V) → result ≡ Ok r → (d : Entry K V) → IsIn v.core.records.log.text d → has_key cmp e.key d ≡ true → at_of r.position < d.address → d.address ≤ address_of l.kept.word → d.delta ≡ true
     led-deltas yes_keeps r is d m own past low = elim (cases_lt l.wanted d.address) [
       | inl high ↦ (tracing.loading.leads yes_keeps begin-same).between d m own high low
       | inr within ↦ between_tells cmp code v.core.records e.key order (raw-traced cmp join v.core.records sound.stood.is sound.traced) join floor l.wanted l.parts r (goes yes_keeps r is) d m own within past
@@ -183,7 +183,7 @@ module _ {K V I : Type 0} {keeps : Bool} (cmp : K → K → Ordering) (join : V 
             ],
           )
 
-      led-last : IsTrue keeps → word_at v.core.records.words l.kept.place ≡ l.kept.word → newest cmp v.core.records.entries e.key (address_of l.kept.word) ≡ last_of cmp v.core.records.entries e.key
+      led-last : IsTrue keeps → word_at v.core.records.words l.kept.place ≡ l.kept.word → newest cmp v.core.records.log.text e.key (address_of l.kept.word) ≡ last_of cmp v.core.records.log.text e.key
       led-last yes_keeps holds =
           let w = tracing.loading.entry in
           let class = class_in code v.core.records e.key in
@@ -197,7 +197,7 @@ module _ {K V I : Type 0} {keeps : Bool} (cmp : K → K → Ordering) (join : V 
           let issued = stands.issued in
           place-value cmp join code order v.core.records sound.traced sound.stood x.target e (is-own yes_keeps) (address_of l.kept.word) parts (led-last yes_keeps holds)
           (λ d m own above low. led-deltas yes_keeps r is d m own (subst (λ n. n < d.address) (sym (ap at_of ends.1)) above) low)
-          (cleared-lower cmp v.core.records.entries x.target v.cleared issued (s.cleared yes_keeps))
+          (cleared-lower cmp v.core.records.log.text x.target v.cleared issued (s.cleared yes_keeps))
           (led-value yes_keeps r is
           ∙ ap (λ p. onto join (end_of cmp v.core.records e.key p) r.parts) ends.1
           ∙ ap (onto join (value_of (newest cmp v.core.records.text e.key x.target))) ends.0)
@@ -208,10 +208,10 @@ module _ {K V I : Type 0} {keeps : Bool} (cmp : K → K → Ordering) (join : V 
         ready-by cmp join code order v.core.records sound.traced x.target e parts l.kept tracing.here tracing.some tracing.loading.entry tracing.loading.low is-own last-value
             (λ yes_keeps holds. (tracing.loading.leads yes_keeps begin-same).still)
             (λ yes_keeps none.
-            let st = stands-in cmp order v.core.records.entries (rises cmp join v.core.records sound.stood sound.traced) x.target e (is-own yes_keeps) in
+            let st = stands-in cmp order v.core.records.log.text (rises cmp join v.core.records sound.stood sound.traced) x.target e (is-own yes_keeps) in
             let from = kept-from v.core.records sound.traced yes_keeps in
             let least = sound.traced.first in
-            let low : v.core.records.from ≤ e.address = (traced-raw sound.traced sound.stood).from st.0.place e st.0.here in
+            let low : v.core.records.log.from ≤ e.address = (traced-raw sound.traced sound.stood).from st.0.place e st.0.here in
             let up = tracing.led yes_keeps in
             omega (arith, st.1, from, least, low, up, none))
             (λ yes_keeps d m own above low. led-deltas yes_keeps r is d m own (subst (λ n. n < d.address) (sym (ap at_of (ends-here yes_keeps).1)) above) low),
@@ -234,32 +234,32 @@ module _ {K V I : Type 0} {keeps : Bool} (cmp : K → K → Ordering) (join : V 
       pub way-below : TracesTo entry cmp join v x.target e.key l bytes (Ok (record { parts = parts; position = Below b }))
       way-below = traces-to (Ok (record { parts = parts; position = Below b })) is-below
 
-      begins : v.core.records.begin ≤ b
+      begins : v.core.records.log.begin ≤ b
       begins = let up = above-place in let h = tracing.begun in let same = begin-same in omega arith
 
       -- on a device that keeps, a record of the class stands there
       way-stands : IsTrue keeps → IsOfClass code v.core.records e.key b
       way-stands yes_keeps = way-class cmp join code v.core.records e.key floor l.wanted l.parts r (goes yes_keeps r is) b further.0 (let from = kept-from v.core.records sound.traced yes_keeps in let low = begins in omega arith)
 
-      pub way-place : IsTrue keeps → IsRecordStart v.core.records.page_bits v.core.records.record_size b
+      pub way-place : IsTrue keeps → IsRecordStart v.core.records.log.bits v.core.records.record_size b
       way-place yes_keeps = class-place v.core.records sound.traced sound.stood e.key b (way-stands yes_keeps)
 
       out-low : b < floor
-      out-low = gathered-low join (entry v.core.records.page_bits bytes) cmp e.key v.core.records.page_bits floor l.wanted b l.parts result came.reads (ap left_of is-below)
+      out-low = gathered-low join (entry v.core.records.log.bits bytes) cmp e.key v.core.records.log.bits floor l.wanted b l.parts result came.reads (ap left_of is-below)
 
-      lower : page_at v.core.records.page_bits b < page_at v.core.records.page_bits l.wanted
-      lower = lower_page v.core.records b (page_at v.core.records.page_bits l.wanted) sound.traced begins (floor-under b out-low above-place)
+      lower : page_at v.core.records.log.bits b < page_at v.core.records.log.bits l.wanted
+      lower = lower_page v.core.records b (page_at v.core.records.log.bits l.wanted) sound.traced begins (floor-under b out-low above-place)
 
       below-wanted : (t : Bool) → nat_lt b l.wanted ≡ t → b < l.wanted
       below-wanted true h = ltb-true b l.wanted h
       below-wanted false h =
           let le : l.wanted ≤ b = grind (arith, nat_tests) in
-          let up = page_rises v.core.records.page_bits l.wanted b le in
+          let up = page_rises v.core.records.log.bits l.wanted b le in
           let low = lower in
           absurd (omega arith)
 
-      pub lower-flushed : HasReceipt v.core.records.receipts (page_at v.core.records.page_bits b)
-      lower-flushed = lower_flushed v.core.records b (page_at v.core.records.page_bits l.wanted) sound.traced begins lower way-flushed
+      pub lower-flushed : HasReceipt v.core.records.log.receipts (page_at v.core.records.log.bits b)
+      lower-flushed = lower_flushed v.core.records b (page_at v.core.records.log.bits l.wanted) sound.traced begins lower way-flushed
 
       loading-lower : IsLoading keeps cmp join code v.core.records e.key (record l { wanted = b; parts = parts })
       loading-lower =
@@ -308,19 +308,19 @@ module _ {K V I : Type 0} {keeps : Bool} (cmp : K → K → Ordering) (join : V 
   waits-none : (q : Stage K V) → x.stage ≡ q → asked_by q ≡ None → ⊥
   waits-none q at none = let bad = sym none ∙ sym (ap asked_by at) ∙ a.awaits in absurd (cc)
 
-  same-begin : (q : Stage K V) (begin at : ℕ) → x.stage ≡ q → asked_by q ≡ Some (record { begin = begin; wanted = at }) → (begin ≡ v.core.records.begin) × (at ≡ wanted)
-  same-begin q begin at is told = same-awaited (record { begin = begin; wanted = at }) (record { begin = v.core.records.begin; wanted = wanted }) (sym told ∙ sym (ap asked_by is) ∙ a.awaits)
+  same-begin : (q : Stage K V) (begin at : ℕ) → x.stage ≡ q → asked_by q ≡ Some (record { begin = begin; wanted = at }) → (begin ≡ v.core.records.log.begin) × (at ≡ wanted)
+  same-begin q begin at is told = same-awaited (record { begin = begin; wanted = at }) (record { begin = v.core.records.log.begin; wanted = wanted }) (sym told ∙ sym (ap asked_by is) ∙ a.awaits)
 
-  pub awaited-flushed : HasReceipt v.core.records.receipts (page_at v.core.records.page_bits wanted)
+  pub awaited-flushed : HasReceipt v.core.records.log.receipts (page_at v.core.records.log.bits wanted)
   awaited-flushed = by_stage x.stage refl
     where
-      by_stage : (q : Stage K V) → x.stage ≡ q → HasReceipt v.core.records.receipts (page_at v.core.records.page_bits wanted)
+      by_stage : (q : Stage K V) → x.stage ≡ q → HasReceipt v.core.records.log.receipts (page_at v.core.records.log.bits wanted)
       by_stage Fresh at = absurd (waits-none Fresh at refl)
       by_stage (Ready e kept) at = absurd (waits-none (Ready e kept) at refl)
       by_stage (Reading begin) at =
           let same = same-begin (Reading begin) begin x.target at refl in
-          subst (λ (n : ℕ). HasReceipt v.core.records.receipts (page_at v.core.records.page_bits n)) same.1 (place-flushed cmp join code v sound s slot c x begin at same.0 a.here)
+          subst (λ (n : ℕ). HasReceipt v.core.records.log.receipts (page_at v.core.records.log.bits n)) same.1 (place-flushed cmp join code v sound s slot c x begin at same.0 a.here)
       by_stage (Tracing e l) at =
           let same = same-begin (Tracing e l) l.begin l.wanted at refl in
           let here = subst (λ (n : ℕ). AwaitsPage v slot c x n) (sym same.1) a in
-          subst (λ (n : ℕ). HasReceipt v.core.records.receipts (page_at v.core.records.page_bits n)) same.1 (way-flushed cmp join code order v sound s slot c x e l here at)
+          subst (λ (n : ℕ). HasReceipt v.core.records.log.receipts (page_at v.core.records.log.bits n)) same.1 (way-flushed cmp join code order v sound s slot c x e l here at)

@@ -36,23 +36,23 @@ cleared-below cmp text low limit le h = λ e here under. h e here (omega arith)
 pub record CutLeaves {K V I : Type 0} (old new : CoreView K V I) (limit : ℕ) : Type 0 where
   pub number : new.number ≡ old.number
   pub count : new.count ≡ old.count
-  pub begun : new.records.begin ≤ limit
+  pub begun : new.records.log.begin ≤ limit
 
-pub truncates-cut : {K V I : Type 0} (keeps : Bool) (old new : CoreView K V I) (page now limit : ℕ) (result : Result (Unit {0}) Refused) → old.records.begin ≤ limit → start_at old.records.page_bits page ≤ limit
+pub truncates-cut : {K V I : Type 0} (keeps : Bool) (old new : CoreView K V I) (page now limit : ℕ) (result : Result (Unit {0}) Refused) → old.records.log.begin ≤ limit → start_at old.records.log.bits page ≤ limit
     → partition.Truncates keeps old new page now result → CutLeaves old new limit
 truncates-cut {K} {V} {I} keeps old new page now limit result low high (partition.Truncates.not_due n is r) = record {
   number = ap (λ (u : CoreView K V I). u.number) is;
   count = ap (λ (u : CoreView K V I). u.count) is;
-  begun = subst (λ (u : CoreView K V I). u.records.begin ≤ limit) (sym is) low;
+  begun = subst (λ (u : CoreView K V I). u.records.log.begin ≤ limit) (sym is) low;
 }
 truncates-cut {K} {V} {I} keeps old new page now limit result low high (partition.Truncates.truncates due is r) = record {
   number = ap (λ (u : CoreView K V I). u.number) is;
   count = ap (λ (u : CoreView K V I). u.count) is;
-  begun = subst (λ (u : CoreView K V I). u.records.begin ≤ limit) (sym is) high;
+  begun = subst (λ (u : CoreView K V I). u.records.log.begin ≤ limit) (sym is) high;
 }
 
 -- what is told of it, where nothing goes that is not cleared
-pub truncates-told : {K V I : Type 0} (keeps : Bool) (v : PartitionView K V I) (new : CoreView K V I) (page now : ℕ) (result : Result (Unit {0}) Refused) → start_at v.core.records.page_bits page ≤ v.cleared
+pub truncates-told : {K V I : Type 0} (keeps : Bool) (v : PartitionView K V I) (new : CoreView K V I) (page now : ℕ) (result : Result (Unit {0}) Refused) → start_at v.core.records.log.bits page ≤ v.cleared
     → partition.Truncates keeps v.core new page now result → Truncates keeps v (with_core v new) page now result
 truncates-told keeps v new page now result low (partition.Truncates.not_due n is r) = Truncates.not_due (λ d. n d.due) (ap (with_core v) is) r
 truncates-told keeps v new page now result low (partition.Truncates.truncates due is r) = Truncates.truncates (record { due = due; cleared = low }) (ap (with_core v) is) r

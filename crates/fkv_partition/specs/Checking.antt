@@ -14,7 +14,7 @@ use Rattle.fkv_lookups.specs.declared.chain_results.ChainResult.{ChainResult}
 use Rattle.fkv_lookups.specs.Decisions.{low_of}
 use Rattle.fkv_index.specs.Places.{word_at}
 use Rattle.fkv_operations.specs.declared.entries.IndexEntry.{IndexEntry}
-use Rattle.fkv_lookups.specs.RecordsViews.{IsFull}
+use Rattle.fkv_hybrid.specs.Views.{IsFull}
 use Rattle.fkv_partition.specs.CoreViews.{CoreView, partition_of, found_for, entry_for, seen_at, reached_from}
 use Rattle.fkv_partition.specs.declared.relocations.Relocation.{Relocation}
 use Rattle.fkv_partition.specs.declared.relocations.Liveness.{Liveness}
@@ -43,7 +43,7 @@ liveness place g = liveness_at place g.parts g.position
 
 -- the lowest address to which the session at a slot follows that way in memory
 abbrev pub above : {K V I : Type 0} → CoreView K V I → ℕ → ℕ → ℕ
-above v slot place = higher_of (place + 1) (low_of v.records.begin (seen_at v slot))
+above v slot place = higher_of (place + 1) (low_of v.records.log.begin (seen_at v slot))
 
 -- what its look-up tells of a record of this key
 abbrev pub told_above : {K V I : Type 0} → (K → K → Ordering) → (V → V → V) → (K → ℕ) → CoreView K V I → ℕ → ℕ → K
@@ -82,18 +82,18 @@ pub data Ends {K V I O R : Type 0} (old new : PartitionView K V I) (slot c : ℕ
       → result ≡ Ok Next
       → Ends old new slot c x entry kept now result
   worn : word_at old.core.records.words kept.place ≡ kept.word
-      → old.core.records.tail ≡ 2 ^ 48
+      → old.core.records.log.tail ≡ 2 ^ 48
       → new ≡ old
       → result ≡ Err Worn
       → Ends old new slot c x entry kept now result
   full : word_at old.core.records.words kept.place ≡ kept.word
-      → IsFull old.core.records
+      → IsFull old.core.records.log
       → new ≡ with_relocation old slot c (Some (at_stage x (Ready entry kept))) now
       → result ≡ Ok (Waits Full)
       → Ends old new slot c x entry kept now result
   appends : word_at old.core.records.words kept.place ≡ kept.word
-      → old.core.records.tail ≢ 2 ^ 48
-      → (IsFull old.core.records → ⊥)
+      → old.core.records.log.tail ≢ 2 ^ 48
+      → (IsFull old.core.records.log → ⊥)
       → new ≡ again_at old slot c x.target kept entry now
       → result ≡ Ok (Done Cleared now)
       → Ends old new slot c x entry kept now result
@@ -102,7 +102,7 @@ pub data Ends {K V I O R : Type 0} (old new : PartitionView K V I) (slot c : ℕ
 pub data Asks {K V I O R : Type 0} (stands : R → Standing) (old new asking : PartitionView K V I) (wanted : ℕ)
     (result : Result (Progress K V I O R) Refused) : Type 0 where
   asks : (r : R)
-      → IsHeldBy old.core.records.receipts (page_at old.core.records.page_bits wanted) (stands r)
+      → IsHeldBy old.core.records.log.receipts (page_at old.core.records.log.bits wanted) (stands r)
       → new ≡ asking
       → result ≡ Ok (NeedsLoad r wanted)
       → Asks stands old new asking wanted result
@@ -122,5 +122,5 @@ pub data ChecksLiveness {K V I O R : Type 0} (stands : R → Standing) (cmp : K 
   further : (kept : IndexEntry) (b : ℕ) (parts : Option V)
       → IsChecked cmp join code old.core slot x.target entry kept (Further b parts)
       → Asks stands old new (with_relocation old slot c (Some (at_stage x (Tracing entry
-      (record { begin = old.core.records.begin; kept = kept; wanted = b; parts = parts; looked = now })))) now) b result
+      (record { begin = old.core.records.log.begin; kept = kept; wanted = b; parts = parts; looked = now })))) now) b result
       → ChecksLiveness stands cmp join code old new slot c x entry now result

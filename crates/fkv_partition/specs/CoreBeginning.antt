@@ -14,7 +14,7 @@ pub data Enters {K V I : Type 0} (old new : CoreView K V I) (now : ℕ) (result 
   full : free_slot old ≡ None → new ≡ old → result ≡ Err NoSlot → Enters old new now result
   enters : (slot : ℕ)
       → free_slot old ≡ Some slot
-      → new ≡ in_regions old (entered old.records.regions slot) now
+      → new ≡ in_regions old (entered old.records.log.regions slot) now
       → result ≡ Ok slot
       → Enters old new now result
 

@@ -25,7 +25,7 @@ pub data Leaves {K V I : Type 0} (keeps : Bool) (old new : CoreView K V I) (slot
       → Leaves keeps old new slot now result
   leaves : IsEntered old slot
       → open_context old slot ≡ None
-      → MovesTo keeps (left old.records.regions slot) old new now
+      → MovesTo keeps (left old.records.log.regions slot) old new now
       → result ≡ Ok tt
       → Leaves keeps old new slot now result
 

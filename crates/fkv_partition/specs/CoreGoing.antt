@@ -16,7 +16,8 @@ use Rattle.fkv_index.specs.Words.{is_empty}
 use Rattle.fkv_index.specs.Places.{words_of}
 use Rattle.fkv_index.specs.Entries.{IsAlone}
 use Rattle.fkv_operations.specs.declared.entries.IndexEntry.{IndexEntry}
-use Rattle.fkv_lookups.specs.RecordsViews.{class_in, confirmed, released, IsFull}
+use Rattle.fkv_lookups.specs.RecordsViews.{class_in, confirmed, released}
+use Rattle.fkv_hybrid.specs.Views.{IsFull}
 use Rattle.fkv_lookups.specs.Decisions.{decision}
 use Rattle.fkv_operations.specs.declared.operations.Answer.{Answer}
 use Rattle.fkv_lookups.specs.declared.decisions.Decision.{Decision}
@@ -107,20 +108,20 @@ pub data Goes {K V I O R : Type 0} (stands : R → Standing) (cmp : K → K → 
   appends : (x : Context K V I) (payload : Payload V) (a : Answer O) (e : IndexEntry)
       → Decides cmp join f code old slot c x (Append payload a)
       → found_for code old (key_of x.op) ≡ Some e
-      → old.records.tail ≢ 2 ^ 48
-      → (IsFull old.records → ⊥)
+      → old.records.log.tail ≢ 2 ^ 48
+      → (IsFull old.records.log → ⊥)
       → new ≡ with_payload old slot c e (key_of x.op) payload (standing join (live_of cmp old (key_of x.op)) payload) now
       → result ≡ Ok (Done a now)
       → Goes stands cmp join f code old new slot c now result
   worn : (x : Context K V I) (payload : Payload V) (a : Answer O)
       → Decides cmp join f code old slot c x (Append payload a)
-      → old.records.tail ≡ 2 ^ 48
+      → old.records.log.tail ≡ 2 ^ 48
       → new ≡ old
       → result ≡ Err Worn
       → Goes stands cmp join f code old new slot c now result
   full : (x : Context K V I) (payload : Payload V) (a : Answer O)
       → Decides cmp join f code old slot c x (Append payload a)
-      → IsFull old.records
+      → IsFull old.records.log
       → new ≡ record old { moment = now }
       → result ≡ Ok (Waits Full)
       → Goes stands cmp join f code old new slot c now result
@@ -150,9 +151,9 @@ pub data Goes {K V I O R : Type 0} (stands : R → Standing) (cmp : K → K → 
   asks_page : (x : Context K V I) (b : ℕ) (parts : Option V) (e : IndexEntry) (r : R)
       → Decides cmp join f code old slot c x (decided.Load b parts)
       → found_for code old (key_of x.op) ≡ Some e
-      → IsHeldBy old.records.receipts (page_at old.records.page_bits b) (stands r)
+      → IsHeldBy old.records.log.receipts (page_at old.records.log.bits b) (stands r)
       → new ≡ with_context old slot c (Some (at_phase x
-      (Load (record { begin = old.records.begin; kept = e; wanted = b; parts = parts; looked = now })))) now
+      (Load (record { begin = old.records.log.begin; kept = e; wanted = b; parts = parts; looked = now })))) now
       → result ≡ Ok (NeedsLoad r b)
       → Goes stands cmp join f code old new slot c now result
   unshared : (x : Context K V I) (b : ℕ) (parts : Option V)

@@ -6,7 +6,7 @@ use Rattle.fkv_functions.specs.declared.asks.Ask.{Ask}
 use Rattle.fkv_functions.specs.declared.refusals.Refused.{Refused}
 use Rattle.fkv_functions.specs.declared.refusals.Refused.TheVariants.{Unknown, NotReady, Stranger, Worn}
 use Rattle.fkv_functions.specs.declared.refusals.What.TheVariants.{Built}
-use Rattle.fkv_lookups.specs.RecordsViews.{IsFull}
+use Rattle.fkv_hybrid.specs.Views.{IsFull}
 use Rattle.fkv_index.specs.Places.{word_at}
 use Rattle.fkv_operations.specs.declared.entries.IndexEntry.{IndexEntry}
 use Rattle.fkv_operations.specs.declared.operations.Answer.TheVariants.{Value, Declined}
@@ -70,7 +70,7 @@ pub data Installs {K V I O R : Type 0} (cmp : K → K → Ordering) (f : Meaning
       → question_in x ≡ Some (e, ask)
       → word_at old.records.words e.place ≡ e.word
       → updated f ask.key ask.input ask.source ≡ Some value
-      → old.records.tail ≡ 2 ^ 48
+      → old.records.log.tail ≡ 2 ^ 48
       → new ≡ old
       → result ≡ Err Worn
       → Installs cmp f code old new slot c ask now result
@@ -80,7 +80,7 @@ pub data Installs {K V I O R : Type 0} (cmp : K → K → Ordering) (f : Meaning
       → question_in x ≡ Some (e, ask)
       → word_at old.records.words e.place ≡ e.word
       → updated f ask.key ask.input ask.source ≡ Some value
-      → IsFull old.records
+      → IsFull old.records.log
       → new ≡ record old { moment = now }
       → result ≡ Ok (Waits Full)
       → Installs cmp f code old new slot c ask now result
@@ -90,8 +90,8 @@ pub data Installs {K V I O R : Type 0} (cmp : K → K → Ordering) (f : Meaning
       → question_in x ≡ Some (e, ask)
       → word_at old.records.words e.place ≡ e.word
       → updated f ask.key ask.input ask.source ≡ Some value
-      → old.records.tail ≢ 2 ^ 48
-      → (IsFull old.records → ⊥)
+      → old.records.log.tail ≢ 2 ^ 48
+      → (IsFull old.records.log → ⊥)
       → new ≡ with_appended old slot c e ask.key (Some value) now
       → result ≡ Ok (Done (Value (f.shown ask.key ask.input value)) now)
       → Installs cmp f code old new slot c ask now result

@@ -42,7 +42,7 @@ pub record AwaitsPage {K V I : Type 0} (v : CoreView K V I) (slot c : ℕ) (x : 
     : Type 0 where
   pub here : context_at v slot c ≡ Some x
   pub loading : x.phase ≡ Load l
-  pub begin : l.begin ≡ v.records.begin
+  pub begin : l.begin ≡ v.records.log.begin
 
 -- and the page is the one that is kept of the address that is wanted: from there, with the parts that were collected, the
 -- records that its bytes spell come to this. `entry` says when the bytes of a page spell an entry at an address.
@@ -50,9 +50,9 @@ pub record ReadsOn {K V I : Type 0} (entry : ℕ → List ℕ → ℕ → Entry 
     (join : V → V → V) (v : CoreView K V I) (slot c : ℕ) (x : Context K V I) (l : Loading V) (s : Standing)
     (bytes : List ℕ) (reached : Result (ChainResult K V) Refused) : Type 0 where
   pub awaits : AwaitsPage v slot c x l
-  pub own : IsHeldBy v.records.receipts (page_at v.records.page_bits l.wanted) s
-  pub reads : ComesToInPage join (entry v.records.page_bits bytes) cmp (key_of x.op) v.records.page_bits
-      (first_place v.records.page_bits (page_at v.records.page_bits l.wanted)) l.wanted l.parts reached
+  pub own : IsHeldBy v.records.log.receipts (page_at v.records.log.bits l.wanted) s
+  pub reads : ComesToInPage join (entry v.records.log.bits bytes) cmp (key_of x.op) v.records.log.bits
+      (first_place v.records.log.bits (page_at v.records.log.bits l.wanted)) l.wanted l.parts reached
 
 -- what a page that came tells an operation of its key
 pub record IsTold {K V I R : Type 0} (stands : R → Standing) (entry : ℕ → List ℕ → ℕ → Entry K V → Type 0)
@@ -60,7 +60,7 @@ pub record IsTold {K V I R : Type 0} (stands : R → Standing) (entry : ℕ → 
     (p : Joined R) (value : Option V) : Type 0 where
   pub reached : ChainResult K V
   pub reads : ReadsOn entry cmp join v slot c x l (stands p.receipt) p.bytes (Ok reached)
-  pub tells : Tells join v.records.begin reached value
+  pub tells : Tells join v.records.log.begin reached value
 
 pub data Loads {K V I O R : Type 0} (stands : R → Standing) (entry : ℕ → List ℕ → ℕ → Entry K V → Type 0)
     (cmp : K → K → Ordering) (join : V → V → V) (f : Meanings K V I O) (old new : CoreView K V I) (slot c : ℕ)
@@ -81,7 +81,7 @@ pub data Loads {K V I O R : Type 0} (stands : R → Standing) (entry : ℕ → L
   moved : (x : Context K V I) (l : Loading V)
       → context_at old slot c ≡ Some x
       → x.phase ≡ Load l
-      → l.begin ≢ old.records.begin
+      → l.begin ≢ old.records.log.begin
       → new ≡ with_context old slot c (Some (at_phase x Fresh)) now
       → result ≡ Ok Next
       → Loads stands entry cmp join f old new slot c came now result
@@ -103,7 +103,7 @@ pub data Loads {K V I O R : Type 0} (stands : R → Standing) (entry : ℕ → L
   stranger : (x : Context K V I) (l : Loading V) (p : Joined R) (s : Standing)
       → AwaitsPage old slot c x l
       → came ≡ Ok p
-      → IsHeldBy old.records.receipts (page_at old.records.page_bits l.wanted) s
+      → IsHeldBy old.records.log.receipts (page_at old.records.log.bits l.wanted) s
       → s ≢ stands p.receipt
       → new ≡ old
       → result ≡ Err (Stranger what.Receipt s.number (stands p.receipt).number)
@@ -114,15 +114,15 @@ pub data Loads {K V I O R : Type 0} (stands : R → Standing) (entry : ℕ → L
       → ReadsOn entry cmp join old slot c x l (stands p.receipt) p.bytes (Err why)
       → came ≡ Ok p
       → new ≡ with_context old slot c None now
-      → result ≡ Err (Damaged (page_at old.records.page_bits l.wanted))
+      → result ≡ Err (Damaged (page_at old.records.log.bits l.wanted))
       → Loads stands entry cmp join f old new slot c came now result
   bad_link : (x : Context K V I) (l : Loading V) (p : Joined R) (b : ℕ) (parts : Option V)
       → ReadsOn entry cmp join old slot c x l (stands p.receipt) p.bytes (Ok (record { parts = parts; position = Below b }))
       → came ≡ Ok p
-      → old.records.begin ≤ b
-      → ¬ IsRecordStart old.records.page_bits old.records.record_size b
+      → old.records.log.begin ≤ b
+      → ¬ IsRecordStart old.records.log.bits old.records.record_size b
       → new ≡ with_context old slot c None now
-      → result ≡ Err (Damaged (page_at old.records.page_bits l.wanted))
+      → result ≡ Err (Damaged (page_at old.records.log.bits l.wanted))
       → Loads stands entry cmp join f old new slot c came now result
   -- a read is done, its effect being at its look-up
   done : (x : Context K V I) (l : Loading V) (p : Joined R) (k : K) (i : I) (value : Option V)
@@ -144,17 +144,17 @@ pub data Loads {K V I O R : Type 0} (stands : R → Standing) (entry : ℕ → L
   goes_on : (x : Context K V I) (l : Loading V) (p : Joined R) (b : ℕ) (parts : Option V) (r : R)
       → ReadsOn entry cmp join old slot c x l (stands p.receipt) p.bytes (Ok (record { parts = parts; position = Below b }))
       → came ≡ Ok p
-      → old.records.begin ≤ b
-      → IsRecordStart old.records.page_bits old.records.record_size b
-      → IsHeldBy old.records.receipts (page_at old.records.page_bits b) (stands r)
+      → old.records.log.begin ≤ b
+      → IsRecordStart old.records.log.bits old.records.record_size b
+      → IsHeldBy old.records.log.receipts (page_at old.records.log.bits b) (stands r)
       → new ≡ with_context old slot c (Some (at_phase x (Load (record l { wanted = b; parts = parts })))) now
       → result ≡ Ok (NeedsLoad r b)
       → Loads stands entry cmp join f old new slot c came now result
   unshared : (x : Context K V I) (l : Loading V) (p : Joined R) (b : ℕ) (parts : Option V)
       → ReadsOn entry cmp join old slot c x l (stands p.receipt) p.bytes (Ok (record { parts = parts; position = Below b }))
       → came ≡ Ok p
-      → old.records.begin ≤ b
-      → IsRecordStart old.records.page_bits old.records.record_size b
+      → old.records.log.begin ≤ b
+      → IsRecordStart old.records.log.bits old.records.record_size b
       → new ≡ old
       → result ≡ Err NoMemory
       → Loads stands entry cmp join f old new slot c came now result
@@ -189,10 +189,10 @@ pub record WaitsFor {K V I : Type 0} (v : CoreView K V I) (slot c page : ℕ) : 
   pub operation : Context K V I
   pub loading : Loading V
   pub awaits : AwaitsPage v slot c operation loading
-  pub page_is : page ≡ page_at v.records.page_bits loading.wanted
+  pub page_is : page ≡ page_at v.records.log.bits loading.wanted
 
 abbrev pub LoadsBy : {K V I O R : Type 0} → (R → Standing) → (ℕ → List ℕ → ℕ → Entry K V → Type 0)
     → (K → K → Ordering) → (V → V → V) → Meanings K V I O → CoreView K V I → CoreView K V I → ℕ → ℕ → ℕ → ℕ → ℕ
     → Result (Progress K V I O R) Refused → Type 0
-LoadsBy stands entry cmp join f old new slot c now before after result = ReadsBy stands old.records.receipts
+LoadsBy stands entry cmp join f old new slot c now before after result = ReadsBy stands old.records.log.receipts
     (WaitsFor old slot c) (λ came. Loads stands entry cmp join f old new slot c came now result) old new before after result

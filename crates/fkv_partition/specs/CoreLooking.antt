@@ -16,42 +16,42 @@ pub data Refreshes {K V I : Type 0} (keeps : Bool) (old new : CoreView K V I) (s
       → result ≡ Err Unknown
       → Refreshes keeps old new slot now result
   refreshes : IsEntered old slot
-      → MovesTo keeps (refreshed old.records.regions slot) old new now
+      → MovesTo keeps (refreshed old.records.log.regions slot) old new now
       → result ≡ Ok tt
       → Refreshes keeps old new slot now result
 
 -- the read-only offset moves up to a page's start, and the safe one behind it as far as is due
 pub data Shifts {K V I : Type 0} (keeps : Bool) (old new : CoreView K V I) (page now : ℕ)
     (result : Result (Unit {0}) Refused) : Type 0 where
-  not_due : ¬ IsReadOnlyDue old.records.regions page old.records.tail
+  not_due : ¬ IsReadOnlyDue old.records.log.regions page old.records.log.tail
       → new ≡ old
       → result ≡ Err NotDue
       → Shifts keeps old new page now result
-  full : IsReadOnlyDue old.records.regions page old.records.tail
-      → 16 ≤ length old.records.regions.epochs.waiting
+  full : IsReadOnlyDue old.records.log.regions page old.records.log.tail
+      → 16 ≤ length old.records.log.regions.epochs.waiting
       → new ≡ old
       → result ≡ Err DrainFull
       → Shifts keeps old new page now result
-  shifts : IsReadOnlyDue old.records.regions page old.records.tail
-      → IsRoomy old.records.regions
-      → MovesTo keeps (with_read_only old.records.regions (start_at old.records.regions.bits page)) old new now
+  shifts : IsReadOnlyDue old.records.log.regions page old.records.log.tail
+      → IsRoomy old.records.log.regions
+      → MovesTo keeps (with_read_only old.records.log.regions (start_at old.records.log.regions.bits page)) old new now
       → result ≡ Ok tt
       → Shifts keeps old new page now result
 
 -- Head moves up to a page's start, and frames below are closed as far as is due
 pub data Evicts {K V I : Type 0} (keeps : Bool) (old new : CoreView K V I) (page now : ℕ)
     (result : Result (Unit {0}) Refused) : Type 0 where
-  not_due : ¬ IsHeadDue old.records.regions page
+  not_due : ¬ IsHeadDue old.records.log.regions page
       → new ≡ old
       → result ≡ Err NotDue
       → Evicts keeps old new page now result
-  full : IsHeadDue old.records.regions page
-      → 16 ≤ length old.records.regions.epochs.waiting
+  full : IsHeadDue old.records.log.regions page
+      → 16 ≤ length old.records.log.regions.epochs.waiting
       → new ≡ old
       → result ≡ Err DrainFull
       → Evicts keeps old new page now result
-  evicts : IsHeadDue old.records.regions page
-      → IsRoomy old.records.regions
-      → MovesTo keeps (with_head old.records.regions (start_at old.records.regions.bits page)) old new now
+  evicts : IsHeadDue old.records.log.regions page
+      → IsRoomy old.records.log.regions
+      → MovesTo keeps (with_head old.records.log.regions (start_at old.records.log.regions.bits page)) old new now
       → result ≡ Ok tt
       → Evicts keeps old new page now result

@@ -34,13 +34,13 @@ use Rattle.fkv_partition.specs.CoreViews.{CoreView, partition_of, slots_of}
 pub record IsKept {K V : Type 0} (keeps : Bool) (cmp : K → K → Ordering) (code : K → ℕ) (r : RecordsView K V) (k : K)
     (e : IndexEntry) (source : Option V) : Type 0 where
   pub entry : WasEntryOf r (class_in code r k) e
-  pub low : address_of e.word < r.tail
+  pub low : address_of e.word < r.log.tail
   pub value : IsTrue keeps
       → word_at r.words e.place ≡ e.word
       → value_of (newest cmp r.text k (address_of e.word)) ≡ source
   pub still : IsTrue keeps
       → word_at r.words e.place ≡ e.word
-      → IsStill r.regions.offsets.safe_read_only (newest cmp r.text k (address_of e.word))
+      → IsStill r.log.regions.offsets.safe_read_only (newest cmp r.text k (address_of e.word))
   pub nowhere : IsTrue keeps → address_of e.word < 64 → source ≡ None
 
 -- where a look-up goes on: a record of the key's class stands at the address that is wanted; from where the entry led, the
@@ -48,21 +48,21 @@ pub record IsKept {K V : Type 0} (keeps : Bool) (cmp : K → K → Ordering) (co
 -- were collected, and nobody changes its newest record
 pub record LeadsOn {K V : Type 0} (cmp : K → K → Ordering) (join : V → V → V) (code : K → ℕ) (r : RecordsView K V) (k : K)
     (l : Loading V) : Type 0 where
-  pub class : r.from ≤ l.wanted → IsOfClass code r k l.wanted
-  pub still : IsStill r.regions.offsets.safe_read_only (newest cmp r.text k (address_of l.kept.word))
+  pub class : r.log.from ≤ l.wanted → IsOfClass code r k l.wanted
+  pub still : IsStill r.log.regions.offsets.safe_read_only (newest cmp r.text k (address_of l.kept.word))
   pub newest : value_of (newest cmp r.text k (address_of l.kept.word)) ≡ onto join (value_of (newest cmp r.text k l.wanted)) l.parts
-  pub between : AreDeltasBetween cmp r.entries k l.wanted (address_of l.kept.word)
+  pub between : AreDeltasBetween cmp r.log.text k l.wanted (address_of l.kept.word)
 
 -- a look-up goes on in a page on disk, since Begin stood no higher than now: on a device that keeps, while Begin stands, at
 -- the address that is wanted
 pub record IsLoading {K V : Type 0} (keeps : Bool) (cmp : K → K → Ordering) (join : V → V → V) (code : K → ℕ)
     (r : RecordsView K V) (k : K) (l : Loading V) : Type 0 where
   pub entry : WasEntryOf r (class_in code r k) l.kept
-  pub low : address_of l.kept.word < r.tail
+  pub low : address_of l.kept.word < r.log.tail
   pub begun : l.begin ≤ l.wanted
-  pub past : l.begin ≤ r.begin
-  pub on_disk : l.wanted < r.regions.offsets.head
-  pub leads : IsTrue keeps → l.begin ≡ r.begin → LeadsOn cmp join code r k l
+  pub past : l.begin ≤ r.log.begin
+  pub on_disk : l.wanted < r.log.regions.offsets.head
+  pub leads : IsTrue keeps → l.begin ≡ r.log.begin → LeadsOn cmp join code r k l
 
 -- what an open operation stands for
 abbrev pub StandsFor : {K V I : Type 0} → Bool → (K → K → Ordering) → (V → V → V) → (K → ℕ) → RecordsView K V
@@ -95,7 +95,7 @@ pub record IsSound {K V I : Type 0} (keeps : Bool) (cmp : K → K → Ordering) 
   pub owned : AreOwned v.records.words v.contexts
   -- keys belong here: those of records, and those of open operations
   pub routed : (i : ℕ) (e : Entry K V)
-      → slice_get v.records.entries i ≡ Some e
+      → slice_get v.records.log.text i ≡ Some e
       → partition_of v.count (code e.key) ≡ v.number
   pub asked : (p : ℕ) (x : Context K V I)
       → slice_get v.contexts p ≡ Some (Some (OnKey x))

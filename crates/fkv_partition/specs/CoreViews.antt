@@ -69,11 +69,11 @@ entry_for code v k = entry_of v.records (class_in code v.records k)
 
 -- each slot with its epoch, where a session is entered there
 abbrev pub slots_of : {K V I : Type 0} → CoreView K V I → List (Option ℕ)
-slots_of v = v.records.regions.epochs.slots
+slots_of v = v.records.log.regions.epochs.slots
 
 -- what the session at a slot saw when it last looked
 abbrev pub seen_at : {K V I : Type 0} → CoreView K V I → ℕ → View
-seen_at v slot = view_at v.records.regions.views slot
+seen_at v slot = view_at v.records.log.regions.views slot
 
 -- what the session at a slot meets when it looks a key up
 abbrev pub met_at : {K V I : Type 0} → (K → K → Ordering) → (V → V → V) → (K → ℕ) → CoreView K V I → ℕ → K → LookupResult V
@@ -83,7 +83,7 @@ met_at cmp join code v slot k = meeting.met_at cmp join code v.records (seen_at 
 abbrev pub newest_in_memory : {K V I : Type 0} → (K → K → Ordering) → (K → ℕ) → CoreView K V I → ℕ → K → Option ℕ
     → ChainPosition K V
 newest_in_memory cmp code v slot k None = Below 1
-newest_in_memory cmp code v slot k (Some a) = newest_above cmp code v.records (low_of v.records.begin (seen_at v slot)) k a
+newest_in_memory cmp code v slot k (Some a) = newest_above cmp code v.records (low_of v.records.log.begin (seen_at v slot)) k a
 
 -- a look-up that stops here in memory has no value yet: at a delta, or below, where the records go on in a page on disk
 abbrev pub LacksValue : {K V : Type 0} → ℕ → ChainPosition K V → Type 0
@@ -93,7 +93,7 @@ LacksValue begin (Below b) = begin ≤ b
 -- a session is entered at the slot, and the last record of the key that it reads in memory, if any, has no value of it yet
 pub record MayNeedPage {K V I : Type 0} (cmp : K → K → Ordering) (code : K → ℕ) (v : CoreView K V I) (slot : ℕ) (k : K) : Type 0 where
   pub entered : is_session (slots_of v) slot ≡ true
-  pub lacks : LacksValue v.records.begin (newest_in_memory cmp code v slot k (entry_for code v k))
+  pub lacks : LacksValue v.records.log.begin (newest_in_memory cmp code v slot k (entry_for code v k))
 
 -- what its look-up comes to in memory, no lower than an address
 abbrev pub reached_from : {K V I : Type 0} → (K → K → Ordering) → (V → V → V) → (K → ℕ) → CoreView K V I → ℕ → K → ℕ
@@ -150,7 +150,7 @@ in_regions v regions now = record v { records = with_regions v.records regions; 
 
 -- the lowest free slot
 abbrev pub free_slot : {K V I : Type 0} → CoreView K V I → Option ℕ
-free_slot v = epochs.free_slot v.records.regions.epochs
+free_slot v = epochs.free_slot v.records.log.regions.epochs
 
 -- the lowest open context of a slot
 abbrev pub open_context : {K V I : Type 0} → CoreView K V I → ℕ → Option ℕ

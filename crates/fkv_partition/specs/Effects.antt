@@ -50,8 +50,8 @@ pub record LeavesOthers {K V I : Type 0} (earlier later : Asks K V I) (old new :
   pub others : (s d : ℕ) → (s ≢ slot) ⊎ (d ≢ c) → later s d ≡ earlier s d
   pub number : new.number ≡ old.number
   pub count : new.count ≡ old.count
-  pub begin : new.records.begin ≡ old.records.begin
-  pub regions : new.records.regions ≡ old.records.regions
+  pub begin : new.records.log.begin ≡ old.records.log.begin
+  pub regions : new.records.log.regions ≡ old.records.log.regions
   pub rises : before ≤ after
   pub moment : new.moment ≡ now
 
@@ -63,7 +63,7 @@ pub record IsQuiet {K V I : Type 0} (earlier later : Asks K V I) (keeps : Bool) 
   pub text : IsTrue keeps → new.records.text ≡ old.records.text
   pub number : new.number ≡ old.number
   pub count : new.count ≡ old.count
-  pub begin : new.records.begin ≡ old.records.begin
+  pub begin : new.records.log.begin ≡ old.records.log.begin
   pub cleared : after ≡ before
   pub moment : new.moment ≡ now
 
@@ -158,8 +158,8 @@ pub record IsTruncation {K V I : Type 0} (earlier later : Asks K V I) (keeps : B
   pub same : (s d : ℕ) → later s d ≡ earlier s d
   pub pend : (s d : ℕ) → pending cmp new s d ≡ None
   pub live : IsTrue keeps → Same (live_of cmp new) (live_of cmp old)
-  pub begin : new.records.begin ≡ start_at old.records.page_bits page
-  pub regions : new.records.regions ≡ old.records.regions
+  pub begin : new.records.log.begin ≡ start_at old.records.log.bits page
+  pub regions : new.records.log.regions ≡ old.records.log.regions
   pub number : new.number ≡ old.number
   pub count : new.count ≡ old.count
   pub cleared : after ≡ before

@@ -116,7 +116,7 @@ abbrev pub LoadsBy : {K V I O R : Type 0} → (R → Standing) → (ℕ → List
     → (K → K → Ordering) → (V → V → V) → Meanings K V I O → (K → ℕ) → PartitionView K V I → PartitionView K V I
     → ℕ → ℕ → ℕ → ℕ → ℕ → Result (Progress K V I O R) Refused → Type 0
 LoadsBy stands spells cmp join f code old new slot c now before after result = loading.ReadsBy stands
-    old.core.records.receipts (WaitsFor old slot c)
+    old.core.records.log.receipts (WaitsFor old slot c)
     (λ came. Loads stands spells cmp join f code old new slot c came now result) old new before after result
 
 -- what is open in a context is given up

@@ -32,36 +32,36 @@ pub record Bears {K V : Type 0} (keeps : Bool) (cmp : K → K → Ordering) (joi
 pub record IsSameShape {K V : Type 0} (old new : RecordsView K V) : Type 0 where
   pub partition_bits : new.partition_bits ≡ old.partition_bits
   pub bucket_bits : new.bucket_bits ≡ old.bucket_bits
-  pub page_bits : new.page_bits ≡ old.page_bits
+  pub page_bits : new.log.bits ≡ old.log.bits
   pub record_size : new.record_size ≡ old.record_size
-  pub frames : new.frames ≡ old.frames
+  pub frames : new.log.frames ≡ old.log.frames
 
 -- nothing falls, what is flushed stays so, by the same receipt where Begin is now or above, and what is frozen stays as it is, where the text begins now or above; on a
 -- device that keeps, what was cleared is cleared; and a record at an address that was taken is of the key that it was of, and
 -- a delta where it was one
 pub record IsGrown {K V : Type 0} (keeps : Bool) (cmp : K → K → Ordering) (old new : RecordsView K V) : Type 0 where
   pub shape : IsSameShape old new
-  pub begin : old.begin ≤ new.begin
-  pub tail : old.tail ≤ new.tail
-  pub raised : IsRaised old.regions.offsets new.regions.offsets
+  pub begin : old.log.begin ≤ new.log.begin
+  pub tail : old.log.tail ≤ new.log.tail
+  pub raised : IsRaised old.log.regions.offsets new.log.regions.offsets
   pub receipts : (page : ℕ) (s : Standing)
-      → page_at new.page_bits new.begin ≤ page
-      → IsHeldBy old.receipts page s
-      → IsHeldBy new.receipts page s
+      → page_at new.log.bits new.log.begin ≤ page
+      → IsHeldBy old.log.receipts page s
+      → IsHeldBy new.log.receipts page s
   pub stay : (a : ℕ)
-      → new.from ≤ a
-      → a < old.regions.offsets.safe_read_only
-      → entry_at new.entries a ≡ entry_at old.entries a
+      → new.log.from ≤ a
+      → a < old.log.regions.offsets.safe_read_only
+      → entry_at new.log.text a ≡ entry_at old.log.text a
   pub clear : (limit : ℕ)
-      → limit ≤ old.tail
+      → limit ≤ old.log.tail
       → IsTrue keeps
-      → IsCleared cmp old.entries limit
-      → IsCleared cmp new.entries limit
+      → IsCleared cmp old.log.text limit
+      → IsCleared cmp new.log.text limit
   pub places : (p : Place) → IsPlace old.words p → IsPlace new.words p
   pub were : (e : Entry K V)
-      → IsIn new.entries e
-      → e.address < old.tail
-      → (d : Entry K V) × IsIn old.entries d × (d.address ≡ e.address) × (d.key ≡ e.key) × (d.delta ≡ e.delta)
+      → IsIn new.log.text e
+      → e.address < old.log.tail
+      → (d : Entry K V) × IsIn old.log.text d × (d.address ≡ e.address) × (d.key ≡ e.key) × (d.delta ≡ e.delta)
 
 -- both of an event; and on a device that keeps, no address is used twice
 pub record IsPreserved {K V I : Type 0} (keeps : Bool) (cmp : K → K → Ordering) (join : V → V → V) (code : K → ℕ)

@@ -13,7 +13,6 @@ pub mod CoreSound
 pub mod CoreBeginning
 pub mod CoreEnding
 pub mod Pending
-pub mod Frozen
 pub mod CoreLooking
 pub mod CoreLoading
 pub mod CoreFlushing

@@ -23,7 +23,7 @@ abbrev pub pending_by : {K V I : Type 0} → (K → K → Ordering) → RecordsV
 pending_by cmp r op Fresh = None
 pending_by cmp r op (Confirm p) = None
 pending_by cmp r op (Prepared e s) = None
-pending_by cmp r op (Load l) = cond (l.begin == r.begin)
+pending_by cmp r op (Load l) = cond (l.begin == r.log.begin)
     (Some (record {
       moment = l.looked;
       value = value_of (newest cmp r.text (key_of op) (address_of l.kept.word));

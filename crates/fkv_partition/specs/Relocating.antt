@@ -17,6 +17,6 @@ pub record IsRelocating {K V I : Type 0} (keeps : Bool) (cmp : K → K → Order
   pub rises : old.cleared ≤ new.cleared
   pub number : new.core.number ≡ old.core.number
   pub count : new.core.count ≡ old.core.count
-  pub begin : new.core.records.begin ≡ old.core.records.begin
-  pub regions : new.core.records.regions ≡ old.core.records.regions
+  pub begin : new.core.records.log.begin ≡ old.core.records.log.begin
+  pub regions : new.core.records.log.regions ≡ old.core.records.log.regions
   pub moment : new.core.moment ≡ now

@@ -17,9 +17,9 @@ use Rattle.fkv_partition.specs.declared.relocations.Stage.TheVariants.{Fresh, Re
 
 -- it waits for the page of its place, which was on disk when Begin was here
 pub record IsReading {K V : Type 0} (r : RecordsView K V) (place begin : ℕ) : Type 0 where
-  pub past : begin ≤ r.begin
+  pub past : begin ≤ r.log.begin
   pub begun : begin ≤ place
-  pub on_disk : place < r.regions.offsets.head
+  pub on_disk : place < r.log.regions.offsets.head
 
 -- its record was read, and the way from the entry of its class goes on at an address above its place, in a page on disk,
 -- with the parts of the key's deltas above.
@@ -32,7 +32,7 @@ pub record IsTracing {K V : Type 0} (keeps : Bool) (cmp : K → K → Ordering) 
   pub above : place < l.wanted
   pub led : IsTrue keeps → place ≤ address_of l.kept.word
   pub loading : IsLoading keeps cmp join code r entry.key l
-  pub is : IsTrue keeps → l.begin ≡ r.begin → entry_at r.entries place ≡ Some entry
+  pub is : IsTrue keeps → l.begin ≡ r.log.begin → entry_at r.log.text place ≡ Some entry
 
 -- this record is to be appended. On a device that keeps, its key has its value while the entry stands as it was kept, the
 -- record of the place has that key, and of the key's records only deltas stand after the place, up to where the kept entry
@@ -42,8 +42,8 @@ pub record IsReady {K V : Type 0} (keeps : Bool) (cmp : K → K → Ordering) (j
   pub here : entry.address ≡ place
   pub some : IsSome entry.value
   pub is_kept : IsKept keeps cmp code r entry.key kept entry.value
-  pub own : IsTrue keeps → (d : Entry K V) → entry_at r.entries place ≡ Some d → d.key ≡ entry.key
-  pub between : IsTrue keeps → AreDeltasBetween cmp r.entries entry.key place (address_of kept.word)
+  pub own : IsTrue keeps → (d : Entry K V) → entry_at r.log.text place ≡ Some d → d.key ≡ entry.key
+  pub between : IsTrue keeps → AreDeltasBetween cmp r.log.text entry.key place (address_of kept.word)
 
 abbrev pub StageStands : {K V I : Type 0} → Bool → (K → K → Ordering) → (V → V → V) → (K → ℕ) → CoreView K V I → ℕ → Stage K V
     → Type 0
@@ -57,7 +57,7 @@ StageStands keeps cmp join code v place (Ready entry kept) =
 -- its place is that of a frozen record, and was not cleared when it was issued
 pub record RelocationStands {K V I : Type 0} (keeps : Bool) (cmp : K → K → Ordering) (join : V → V → V) (code : K → ℕ)
     (v : CoreView K V I) (cleared : ℕ) (x : Relocation K V) : Type 0 where
-  pub place : IsRecordStart v.records.page_bits v.records.record_size x.target
-  pub frozen : x.target < v.records.regions.offsets.safe_read_only
+  pub place : IsRecordStart v.records.log.bits v.records.record_size x.target
+  pub frozen : x.target < v.records.log.regions.offsets.safe_read_only
   pub issued : x.target ≤ cleared
   pub stage : StageStands keeps cmp join code v x.target x.stage

@@ -42,7 +42,7 @@ with_relocation v slot c x now = with_core v (relocated v.core slot c x now)
 
 -- the place after one, or 2^48 where there is none
 abbrev pub place_behind : {K V I : Type 0} → PartitionView K V I → ℕ → ℕ
-place_behind v a = tail_after v.core.records.page_bits v.core.records.record_size a
+place_behind v a = tail_after v.core.records.log.bits v.core.records.record_size a
 
 -- what is cleared once the record at an address is: up to the next place, or more where it was more
 abbrev pub cleared_past : {K V I : Type 0} → PartitionView K V I → ℕ → ℕ

@@ -7,7 +7,8 @@ ghost use Rattle.fkv_index.specs.Places.{words_of};
 ghost use Rattle.fkv_index.specs.Entries.{IsAlone};
 ghost use Rattle.fkv_operations.specs.After.{key_of, is_merge};
 ghost use Rattle.fkv_operations.specs.Classes.{IsClass};
-ghost use Rattle.fkv_lookups.specs.RecordsViews.{class_in, confirmed, released, with_value, IsFull, IsReplaceable};
+ghost use Rattle.fkv_lookups.specs.RecordsViews.{class_in, confirmed, released, with_value, IsReplaceable};
+ghost use Rattle.fkv_hybrid.specs.Views.{IsFull};
 ghost use Rattle.fkv_lookups.specs.Payloads.{standing};
 ghost use Rattle.fkv_partition.specs.CoreContexts.{joined, on_key, at_phase, claim_by, claim_at};
 ghost use Rattle.fkv_partition.specs.CoreClaiming.{IsClaimed};
@@ -141,7 +142,7 @@ impl<F: Mergeable, R: Receipt> Core<F, R> {
     pub(crate) fn vacate(&mut self, slot: usize, now: u64)
         requires entered { IsEntered self.old slot }
         requires idle { open_context self.old slot ≡ None }
-        ensures { MovesTo R.keeps (left self.old.records.regions slot) self.old self.new now }
+        ensures { MovesTo R.keeps (left self.old.records.log.regions slot) self.old self.new now }
     {
         let _left = self.records.leave(slot);
         self.records.known();
@@ -162,7 +163,7 @@ impl<F: Mergeable, R: Receipt> Core<F, R> {
         requires context { context < 8 }
         requires unclaimed { claim_at self.old.contexts (slot * 8 + context) ≡ None }
         requires last { IsReplaceable F.Key.cmp self.old.records address }
-        requires mutable { self.old.records.regions.offsets.safe_read_only ≤ address }
+        requires mutable { self.old.records.log.regions.offsets.safe_read_only ≤ address }
         ensures { self.new ≡ with_replaced self.old slot context address value now }
     {
         records_change::<F::Key, F::Value>();
@@ -176,7 +177,7 @@ impl<F: Mergeable, R: Receipt> Core<F, R> {
     /// Gives the last record of its key, which has a value, another one where it stands. No context changes.
     pub(crate) fn revalue(&mut self, address: Address, value: F::Value, now: u64)
         requires last { IsReplaceable F.Key.cmp self.old.records address }
-        requires mutable { self.old.records.regions.offsets.safe_read_only ≤ address }
+        requires mutable { self.old.records.log.regions.offsets.safe_read_only ≤ address }
         ensures { self.new ≡ record self.old { records = with_value self.old.records address (Some value); moment = now } }
     {
         records_change::<F::Key, F::Value>();
@@ -286,9 +287,9 @@ impl<F: Mergeable, R: Receipt> Core<F, R> {
         ensures ok { IfOk result (λ o. IfSome o (λ _.
             self.new ≡ with_payload self.old slot context write.entry write.key write.payload
             (standing F.parts.joined (live_of F.Key.cmp self.old write.key) write.payload) now)) }
-        ensures room { (result ≡ Ok None) ↔ IsFull self.old.records }
+        ensures room { (result ≡ Ok None) ↔ IsFull self.old.records.log }
         ensures full { result ≡ Ok None → self.new ≡ record self.old { moment = now } }
-        ensures worn { (result ≡ Err Refused.Worn) ↔ (self.old.records.tail ≡ 2 ^ 48) }
+        ensures worn { (result ≡ Err Refused.Worn) ↔ (self.old.records.log.tail ≡ 2 ^ 48) }
         ensures only { IfErr result (λ refused. refused ≡ Refused.Worn) }
         ensures unchanged { OnErr result (self.new ≡ self.old) }
     {

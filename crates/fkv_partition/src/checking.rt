@@ -33,8 +33,8 @@ impl<F: Mergeable, R: Receipt> Partition<F, R> {
         requires context { context < 8 }
         requires here { relocation_at self.old slot context ≡ Some relocation.now }
         requires stands { entry.address ≡ relocation.now.target }
-        requires begun { self.old.core.records.begin ≤ relocation.now.target }
-        requires is { IsTrue R.keeps → entry_at self.old.core.records.entries relocation.now.target ≡ Some entry }
+        requires begun { self.old.core.records.log.begin ≤ relocation.now.target }
+        requires is { IsTrue R.keeps → entry_at self.old.core.records.log.text relocation.now.target ≡ Some entry }
         ensures effect { ChecksLiveness R.stands F.Key.cmp F.parts.joined F.code self.old self.new slot context relocation.now entry now
             result }
         ensures event { IfOk result (λ _. IsRelocating R.keeps F.Key.cmp self.old self.new slot context now) }
@@ -80,8 +80,8 @@ impl<F: Mergeable, R: Receipt> Partition<F, R> {
         requires context { context < 8 }
         requires here { relocation_at self.old slot context ≡ Some relocation.now }
         requires stands { entry.address ≡ relocation.now.target }
-        requires begun { self.old.core.records.begin ≤ relocation.now.target }
-        requires is { IsTrue R.keeps → entry_at self.old.core.records.entries relocation.now.target ≡ Some entry }
+        requires begun { self.old.core.records.log.begin ≤ relocation.now.target }
+        requires is { IsTrue R.keeps → entry_at self.old.core.records.log.text relocation.now.target ≡ Some entry }
         requires some { entry.value ≢ None }
         requires own { partition_of self.old.core.count (F.code entry.key) ≡ self.old.core.number }
         requires found { found_for F.code self.old.core entry.key ≡ Some kept }

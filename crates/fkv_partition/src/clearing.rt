@@ -1,7 +1,7 @@
 //! What the layer above does to clear a partition: it looks at the records, and cuts the start of the log.
 ghost use Rattle.std.specs.Prelude.{◌≡◌, ◌<◌, ◌≤◌, IsTrue, OnOk, OnErr};
 ghost use Rattle.fkv_records.specs.Places.{start_at};
-ghost use Rattle.fkv_lookups.specs.RecordsViews.{IsTruncationDue};
+ghost use Rattle.fkv_hybrid.specs.Views.{IsTruncationDue};
 ghost use Rattle.fkv_texts.specs.Deltas.{IsCleared};
 ghost use Rattle.fkv_partition.specs.CoreTruncating.{Truncates};
 ghost use Rattle.fkv_partition.specs.CoreEffect.{IsTruncation};
@@ -40,8 +40,8 @@ impl<F: Mergeable, R: Receipt> Core<F, R> {
     pub fn truncate(&mut self, page: u64, now: u64) -> Result<(), Refused>
         requires later { self.old.moment < now }
         requires cleared { IsTrue R.keeps
-            → IsTruncationDue self.old.records page
-            → IsCleared F.Key.cmp self.old.records.entries (start_at self.old.records.page_bits page) }
+            → IsTruncationDue self.old.records.log page
+            → IsCleared F.Key.cmp self.old.records.log.text (start_at self.old.records.log.bits page) }
         ensures effect { Truncates R.keeps self.old self.new page now result }
         ensures event { OnOk result (IsTruncation R.keeps F.Key.cmp self.old self.new page now) }
         ensures unchanged { OnErr result (self.new ≡ self.old) }

@@ -169,7 +169,7 @@ impl<F: Mergeable, R: Receipt> Partition<F, R> {
         ensures once { P.reads reader.new ≤ P.reads reader.old + 1 }
         ensures unread { ((page : ℕ) → WaitsFor self.old.core slot context page → ⊥) → reader.new ≡ reader.old }
         ensures caused { P.failures reader.new ≢ P.failures reader.old → (page : ℕ)
-            × MayFail R.stands P.can_fail self.old.core.records.receipts self.old.core.records.page_bits page }
+            × MayFail R.stands P.can_fail self.old.core.records.log.receipts self.old.core.records.log.bits page }
         ensures within { IfOk result (λ _. (slot < 16) × (context < 8)) }
         ensures moment { self.new.core.moment ≤ now }
     {

@@ -7,6 +7,7 @@ ghost use Rattle.fkv_functions.specs.declared.asks.Ask.{Ask};
 ghost use Rattle.fkv_functions.specs.declared.refusals.Refused.{Refused};
 ghost use Rattle.fkv_device.specs.Standing.{Standing, Joined};
 ghost use Rattle.fkv_hybrid.specs.Spelled.{IsEntryIn};
+ghost use Rattle.fkv_hybrid.specs.Views.{FrozenStay};
 ghost use Rattle.fkv_texts.specs.Text.{last_of};
 ghost use Rattle.fkv_lookups.specs.RecordsViews.{class_in, IsEntryOf};
 ghost use Rattle.fkv_operations.specs.declared.entries.IndexEntry.{IndexEntry};
@@ -17,7 +18,6 @@ ghost use Rattle.fkv_partition.specs.AnyEvent.{Event, IsPartition, AreEvents};
 ghost use Rattle.fkv_partition.specs.Asking.{AsksNothing};
 ghost use Rattle.fkv_partition.specs.CoreSound.{IsSound};
 ghost use Rattle.fkv_partition.specs.CoreViews.{live_of};
-ghost use Rattle.fkv_partition.specs.Frozen.{FrozenStay};
 ghost use Rattle.fkv_partition.specs.Grown.{IsPreserved};
 ghost use Rattle.fkv_partition.specs.declared.contexts.Progress.{Progress};
 ghost use Rattle.fkv_partition.specs.Pending.{pending};
@@ -53,7 +53,7 @@ pub fn frozen_stay<F: Mergeable, R: Receipt>()
     ensures { (old new : PartitionView F.Key F.Value F.Input)
         → IsPartition R.keeps F.Key.cmp F.parts.joined F.code old → IsPartition R.keeps F.Key.cmp F.parts.joined F.code new
         → Event R.keeps R.stands (IsEntryIn F.Key.codec F.Value.codec) F.Key.cmp F.parts.joined F.meaning F.code old new
-        → FrozenStay old.core new.core }
+        → FrozenStay old.core.records.log new.core.records.log }
 {
     every_event_preserves::<F, R>();
 }
@@ -67,7 +67,7 @@ pub fn kept_words_stay_sound<F: Mergeable, R: Receipt>()
         → IsPartition R.keeps F.Key.cmp F.parts.joined F.code v
         → AreEvents R.keeps R.stands (IsEntryIn F.Key.codec F.Value.codec) F.Key.cmp F.parts.joined F.meaning F.code v vs
         → IsEntryOf v.core.records (class_in F.code v.core.records k) e
-        → IsStill v.core.records.regions.offsets.safe_read_only (last_of F.Key.cmp v.core.records.text k)
+        → IsStill v.core.records.log.regions.offsets.safe_read_only (last_of F.Key.cmp v.core.records.text k)
         → IsEntryOf (after_last v vs).core.records (class_in F.code v.core.records k) e
         → live_of F.Key.cmp (after_last v vs).core k ≡ live_of F.Key.cmp v.core k }
 {

@@ -56,10 +56,10 @@ impl<F: Mergeable, R: Receipt> Core<F, R> {
         ensures front { IsTrue R.keeps → IsBare F.code self.now (get F.Key.cmp map.old) → OnErr result
             (HasFront F.Key.cmp (get F.Key.cmp map.old) (get F.Key.cmp map.new) self.now.records.text) }
         ensures steady { OnOk result (P.failures reader.new ≡ P.failures reader.old) }
-        ensures refused { IfErr result (IsScanRefusal R.keeps (page_at self.now.records.page_bits self.now.records.begin)
-            (length self.now.records.receipts) (P.failures reader.old) (P.failures reader.new)) }
+        ensures refused { IfErr result (IsScanRefusal R.keeps (page_at self.now.records.log.bits self.now.records.log.begin)
+            (length self.now.records.log.receipts) (P.failures reader.old) (P.failures reader.new)) }
         ensures caused { IsTrue R.keeps → IfErr result (λ e. e ≢ Refused.NoMemory → (page : ℕ)
-            × MayFail R.stands P.can_fail self.now.records.receipts self.now.records.page_bits page) }
+            × MayFail R.stands P.can_fail self.now.records.log.receipts self.now.records.log.bits page) }
     {
         self.records.put_live(functions, reader, map)
     }
@@ -78,10 +78,10 @@ impl<F: Mergeable, R: Receipt> Core<F, R> {
         ensures own { IsTrue R.keeps → IfOk result
             (λ pairs. All (λ k. partition_of self.now.count (F.code k) ≡ self.now.number) (keys_of pairs.items)) }
         ensures steady { OnOk result (P.failures reader.new ≡ P.failures reader.old) }
-        ensures refused { IfErr result (IsScanRefusal R.keeps (page_at self.now.records.page_bits self.now.records.begin)
-            (length self.now.records.receipts) (P.failures reader.old) (P.failures reader.new)) }
+        ensures refused { IfErr result (IsScanRefusal R.keeps (page_at self.now.records.log.bits self.now.records.log.begin)
+            (length self.now.records.log.receipts) (P.failures reader.old) (P.failures reader.new)) }
         ensures caused { IsTrue R.keeps → IfErr result (λ e. e ≢ Refused.NoMemory → (page : ℕ)
-            × MayFail R.stands P.can_fail self.now.records.receipts self.now.records.page_bits page) }
+            × MayFail R.stands P.can_fail self.now.records.log.receipts self.now.records.log.bits page) }
     {
         let mut map = BTreeMap::new(alloc);
         match self.records.put_live(functions, reader, &mut map) {

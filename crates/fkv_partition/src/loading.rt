@@ -110,7 +110,7 @@ impl<F: Mergeable, R: Receipt> Core<F, R> {
         ensures once { P.reads reader.new ≤ P.reads reader.old + 1 }
         ensures unread { ((page : ℕ) → WaitsFor self.old slot context page → ⊥) → reader.new ≡ reader.old }
         ensures caused { P.failures reader.new ≢ P.failures reader.old → (page : ℕ)
-            × MayFail R.stands P.can_fail self.old.records.receipts self.old.records.page_bits page }
+            × MayFail R.stands P.can_fail self.old.records.log.receipts self.old.records.log.bits page }
         ensures within { IfOk result (λ _. (slot < 16) × (context < 8)) }
         ensures moment { self.new.moment ≤ now }
     {
@@ -141,13 +141,13 @@ impl<F: Mergeable, R: Receipt> Core<F, R> {
         reader: &mut P,
         page: u64,
     ) -> Result<Loaded<R>, Refused>
-        requires flushed { HasReceipt self.now.records.receipts page }
-        ensures own { IfOk result (λ l. IsHeldBy self.now.records.receipts page (R.stands l.receipt)) }
+        requires flushed { HasReceipt self.now.records.log.receipts page }
+        ensures own { IfOk result (λ l. IsHeldBy self.now.records.log.receipts page (R.stands l.receipt)) }
         ensures steady { OnOk result (P.failures reader.new ≡ P.failures reader.old) }
         ensures counted { IfErr result (ReadFailsBy page (P.failures reader.old) (P.failures reader.new)) }
         ensures once { P.reads reader.new ≤ P.reads reader.old + 1 }
         ensures caused { IfErr result (λ e. e ≢ Refused.NoMemory
-            → MayFail R.stands P.can_fail self.now.records.receipts self.now.records.page_bits page) }
+            → MayFail R.stands P.can_fail self.now.records.log.receipts self.now.records.log.bits page) }
     {
         self.records.log().known();
         let receipt = match self.records.receipt(page) {
@@ -201,7 +201,7 @@ impl<F: Mergeable, R: Receipt> Core<F, R> {
         requires session { slot < 16 }
         requires context { context < 8 }
         requires awaits { AwaitsPage self.old slot context operation.now loading }
-        requires own { IsHeldBy self.old.records.receipts (page_at self.old.records.page_bits loading.wanted)
+        requires own { IsHeldBy self.old.records.log.receipts (page_at self.old.records.log.bits loading.wanted)
             (R.stands loaded.receipt) }
         ensures effect { Loads R.stands (IsEntryIn F.Key.codec F.Value.codec) F.Key.cmp F.parts.joined F.meaning self.old self.new slot context (Ok loaded) now result }
         ensures event { IsTrue R.keeps → IfOk result
@@ -315,12 +315,12 @@ impl<F: Mergeable, R: Receipt> Core<F, R> {
         requires context { context < 8 }
         requires awaits { AwaitsPage self.old slot context operation.now loading }
         requires asks { MayLoad operation.now.op }
-        requires flushed { HasReceipt self.old.records.receipts (page_at self.old.records.page_bits address) }
+        requires flushed { HasReceipt self.old.records.log.receipts (page_at self.old.records.log.bits address) }
         requires stands { IsLoading R.keeps F.Key.cmp F.parts.joined F.code self.old.records (key_of operation.now.op)
             (record loading { wanted = address; parts = parts }) }
         ensures asked { IfOk result (λ progress. (r : R)
             × (progress ≡ Progress.NeedsLoad r address)
-            × IsHeldBy self.old.records.receipts (page_at self.old.records.page_bits address) (R.stands r)) }
+            × IsHeldBy self.old.records.log.receipts (page_at self.old.records.log.bits address) (R.stands r)) }
         ensures effect { OnOk result (self.new ≡ with_context self.old slot context
             (Some (at_phase operation.now (Load (record loading { wanted = address; parts = parts })))) now) }
         ensures only { IfErr result (λ refused. refused ≡ Refused.NoMemory) }

@@ -205,9 +205,9 @@ impl<F: Mergeable, R: Receipt> Core<F, R> {
     /// The lowest address that the session at a slot reads in memory.
     pub fn lowest(&self, slot: usize) -> Address
         requires { IsEntered self.now slot }
-        ensures value { result ≡ low_of self.now.records.begin (seen_at self.now slot) }
-        ensures begin { self.now.records.begin ≤ result }
-        ensures closed { self.now.records.regions.offsets.closed ≤ result }
+        ensures value { result ≡ low_of self.now.records.log.begin (seen_at self.now slot) }
+        ensures begin { self.now.records.log.begin ≤ result }
+        ensures closed { self.now.records.log.regions.offsets.closed ≤ result }
     {
         let view = self.records.view(slot);
         low_of(self.records.begin(), &view)
@@ -223,8 +223,8 @@ impl<F: Mergeable, R: Receipt> Core<F, R> {
         low: Address,
         entry: Option<Address>,
     ) -> ChainResult<F::Key, F::Value>
-        requires begin { self.now.records.begin ≤ low }
-        requires closed { self.now.records.regions.offsets.closed ≤ low }
+        requires begin { self.now.records.log.begin ≤ low }
+        requires closed { self.now.records.log.regions.offsets.closed ≤ low }
         requires entry { entry ≡ entry_for F.code self.now key.now }
         ensures { result ≡ reached_from F.Key.cmp F.parts.joined F.code self.now slot key.now low
             (entry_for F.code self.now key.now) }

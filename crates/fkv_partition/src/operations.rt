@@ -234,7 +234,7 @@ impl<F: Mergeable, R: Receipt> Partition<F, R> {
         ensures unread { ((page : ℕ) → WaitsFor self.old slot context page → ⊥) → reader.new ≡ reader.old }
         // the reader fails only where it may for the receipt that is kept of a page
         ensures caused { P.failures reader.new ≢ P.failures reader.old → (page : ℕ)
-            × MayFail R.stands P.can_fail self.old.core.records.receipts self.old.core.records.page_bits page }
+            × MayFail R.stands P.can_fail self.old.core.records.log.receipts self.old.core.records.log.bits page }
         ensures within { IfOk result (λ _. (slot < 16) × (context < 8)) }
         ensures moment { self.new.core.moment ≤ now }
     {
@@ -260,7 +260,7 @@ impl<F: Mergeable, R: Receipt> Partition<F, R> {
     ) -> Result<ProgressOf<F, R>, Refused>
         requires later { self.old.core.moment < now }
         requires own { (page : ℕ) → WaitsOn self.old slot context page
-            → IsHeldBy self.old.core.records.receipts page (R.stands loaded.receipt) }
+            → IsHeldBy self.old.core.records.log.receipts page (R.stands loaded.receipt) }
         ensures effect { Loads R.stands (IsEntryIn F.Key.codec F.Value.codec) F.Key.cmp F.parts.joined F.meaning F.code self.old self.new slot context (Ok loaded) now result }
         // on a device that keeps, what comes of it is what the look-up was to find
         ensures event { IsTrue R.keeps → IfOk result (λ progress.

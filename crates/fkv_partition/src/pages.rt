@@ -67,7 +67,7 @@ impl<F: Mergeable, R: Receipt> Partition<F, R> {
 
     /// The lowest page that is not flushed.
     pub fn unflushed(&self) -> u64
-        ensures { result ≡ length self.now.core.records.receipts }
+        ensures { result ≡ length self.now.core.records.log.receipts }
     {
         self.core.records().log().unflushed()
     }
@@ -75,16 +75,16 @@ impl<F: Mergeable, R: Receipt> Partition<F, R> {
     /// What holds of all pages that are kept or wait. It does nothing when it runs.
     pub fn pages_known(&self)
         ensures receipts { (n : ℕ) (s : Standing)
-            → IsHeldBy self.now.core.records.receipts n s
-            → (s.page ≡ n) × (s.length ≡ 2 ^ self.now.core.records.page_bits) }
+            → IsHeldBy self.now.core.records.log.receipts n s
+            → (s.page ≡ n) × (s.length ≡ 2 ^ self.now.core.records.log.bits) }
         // the pages from the first that is not flushed to below that of SafeReadOnly wait, each with the records there
-        ensures waiting { length self.now.core.records.waiting
-            ≡ page_at self.now.core.records.page_bits self.now.core.records.regions.offsets.safe_read_only
-            - length self.now.core.records.receipts }
+        ensures waiting { length self.now.core.records.log.waiting
+            ≡ page_at self.now.core.records.log.bits self.now.core.records.log.regions.offsets.safe_read_only
+            - length self.now.core.records.log.receipts }
         ensures spelled { (i : ℕ) (page : List ℕ)
-            → slice_get self.now.core.records.waiting i ≡ Some page
-            → IsPageOf F.Key.codec F.Value.codec self.now.core.records.page_bits
-            (length self.now.core.records.receipts + i) self.now.core.records.entries page }
+            → slice_get self.now.core.records.log.waiting i ≡ Some page
+            → IsPageOf F.Key.codec F.Value.codec self.now.core.records.log.bits
+            (length self.now.core.records.log.receipts + i) self.now.core.records.log.text page }
     {
         self.core.records().log().known();
     }
@@ -93,10 +93,10 @@ impl<F: Mergeable, R: Receipt> Partition<F, R> {
     /// nothing changes: `NotDue` where the page does not end at or below the safe read-only offset, `NoMemory`.
     pub fn flush_take(&mut self, alloc: Global, now: u64) -> Result<FlushJob, Refused>
         requires later { self.old.core.moment < now }
-        ensures page { IfOk result (λ job. job.page ≡ length self.old.core.records.receipts) }
+        ensures page { IfOk result (λ job. job.page ≡ length self.old.core.records.log.receipts) }
         ensures bytes { IfOk result
-            (λ job. slice_get self.old.core.records.waiting 0 ≡ Some job.bytes) }
-        ensures due { (result ≡ Err Refused.NotDue) ↔ (self.old.core.records.waiting ≡ []) }
+            (λ job. slice_get self.old.core.records.log.waiting 0 ≡ Some job.bytes) }
+        ensures due { (result ≡ Err Refused.NotDue) ↔ (self.old.core.records.log.waiting ≡ []) }
         ensures only { IfErr result (λ refused. (refused ≡ Refused.NotDue) ⊎ (refused ≡ Refused.NoMemory)) }
         ensures passes { OnOk result (self.new ≡ at_moment self.old now) }
         ensures event { OnOk result (IsQuiet R.keeps self.old self.new now) }
@@ -157,13 +157,13 @@ impl<F: Mergeable, R: Receipt> Partition<F, R> {
     /// changes: `NotDue` where Begin would not rise, or would pass Head.
     pub fn truncate_cleared(&mut self, now: u64) -> Result<Address, Refused>
         requires later { self.old.core.moment < now }
-        ensures effect { Truncates R.keeps self.old self.new (page_at self.old.core.records.page_bits self.old.cleared)
+        ensures effect { Truncates R.keeps self.old self.new (page_at self.old.core.records.log.bits self.old.cleared)
             now (told_of result) }
-        ensures begin { IfOk result (λ begin. (begin ≡ self.new.core.records.begin)
-            × (begin ≡ start_at self.old.core.records.page_bits
-            (page_at self.old.core.records.page_bits self.old.cleared))) }
+        ensures begin { IfOk result (λ begin. (begin ≡ self.new.core.records.log.begin)
+            × (begin ≡ start_at self.old.core.records.log.bits
+            (page_at self.old.core.records.log.bits self.old.cleared))) }
         ensures event { OnOk result (IsTruncation R.keeps F.Key.cmp self.old self.new
-            (page_at self.old.core.records.page_bits self.old.cleared) now) }
+            (page_at self.old.core.records.log.bits self.old.cleared) now) }
         ensures unchanged { OnErr result (self.new ≡ self.old) }
         ensures moment { self.new.core.moment ≤ now }
     {
@@ -190,12 +190,12 @@ impl<F: Mergeable, R: Receipt> Partition<F, R> {
             (keys_of pairs.items)) }
         ensures steady { OnOk result (P.failures reader.new ≡ P.failures reader.old) }
         ensures refused { IfErr result (IsScanRefusal R.keeps
-            (page_at self.now.core.records.page_bits self.now.core.records.begin)
-            (length self.now.core.records.receipts) (P.failures reader.old)
+            (page_at self.now.core.records.log.bits self.now.core.records.log.begin)
+            (length self.now.core.records.log.receipts) (P.failures reader.old)
             (P.failures reader.new)) }
         ensures caused { IsTrue R.keeps → IfErr result (λ e. e ≢ Refused.NoMemory → (page : ℕ)
-            × MayFail R.stands P.can_fail self.now.core.records.receipts
-            self.now.core.records.page_bits page) }
+            × MayFail R.stands P.can_fail self.now.core.records.log.receipts
+            self.now.core.records.log.bits page) }
     {
         self.core.live(functions, alloc, reader)
     }
@@ -219,12 +219,12 @@ impl<F: Mergeable, R: Receipt> Partition<F, R> {
             (HasFront F.Key.cmp (get F.Key.cmp map.old) (get F.Key.cmp map.new) self.now.core.records.text) }
         ensures steady { OnOk result (P.failures reader.new ≡ P.failures reader.old) }
         ensures refused { IfErr result (IsScanRefusal R.keeps
-            (page_at self.now.core.records.page_bits self.now.core.records.begin)
-            (length self.now.core.records.receipts) (P.failures reader.old)
+            (page_at self.now.core.records.log.bits self.now.core.records.log.begin)
+            (length self.now.core.records.log.receipts) (P.failures reader.old)
             (P.failures reader.new)) }
         ensures caused { IsTrue R.keeps → IfErr result (λ e. e ≢ Refused.NoMemory → (page : ℕ)
-            × MayFail R.stands P.can_fail self.now.core.records.receipts
-            self.now.core.records.page_bits page) }
+            × MayFail R.stands P.can_fail self.now.core.records.log.receipts
+            self.now.core.records.log.bits page) }
     {
         self.core.put_live(functions, reader, map)
     }

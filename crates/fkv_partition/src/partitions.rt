@@ -99,28 +99,28 @@ impl<F: Mergeable, R: Receipt> Partition<F, R> {
 
     /// Begin: where the records begin that are not dropped.
     pub fn begin(&self) -> Address
-        ensures { result ≡ self.now.core.records.begin }
+        ensures { result ≡ self.now.core.records.log.begin }
     {
         self.core.records().begin()
     }
 
     /// The address of the next record, or 2^48 where there can't be one.
     pub fn tail(&self) -> Address
-        ensures { result ≡ self.now.core.records.tail }
+        ensures { result ≡ self.now.core.records.log.tail }
     {
         self.core.records().log().tail()
     }
 
     /// Head: records below it are read from the device by sessions that are refreshed from now on.
     pub fn head(&self) -> Address
-        ensures { result ≡ self.now.core.records.regions.offsets.head }
+        ensures { result ≡ self.now.core.records.log.regions.offsets.head }
     {
         self.core.records().log().regions().offsets().head
     }
 
     /// How many frames its pages have in memory: one at least.
     pub fn frames(&self) -> u64
-        ensures value { result ≡ self.now.core.records.frames }
+        ensures value { result ≡ self.now.core.records.log.frames }
         ensures some { 0 < result }
     {
         self.core.records().log().frame_count()
@@ -128,7 +128,7 @@ impl<F: Mergeable, R: Receipt> Partition<F, R> {
 
     /// The bytes of a page.
     pub fn page_size(&self) -> usize
-        ensures { result ≡ 2 ^ self.now.core.records.page_bits }
+        ensures { result ≡ 2 ^ self.now.core.records.log.bits }
     {
         self.core.records().log().shape().page_size()
     }

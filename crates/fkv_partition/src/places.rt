@@ -110,7 +110,7 @@ impl<F: Mergeable, R: Receipt> Partition<F, R> {
 
     /// What is cleared once the record at a place is.
     pub(crate) fn past(&self, place: Address) -> Address
-        requires place { IsRecordStart self.now.core.records.page_bits self.now.core.records.record_size place }
+        requires place { IsRecordStart self.now.core.records.log.bits self.now.core.records.record_size place }
         ensures { result ≡ cleared_past self.now place }
     {
         if self.cleared <= place {
@@ -126,11 +126,11 @@ impl<F: Mergeable, R: Receipt> Partition<F, R> {
         requires context { context < 8 }
         requires here { IsSome (relocation_at self.old slot context) }
         requires issued { place ≤ self.old.cleared }
-        requires place { IsRecordStart self.old.core.records.page_bits self.old.core.records.record_size place }
-        requires low { place < self.old.core.records.tail }
+        requires place { IsRecordStart self.old.core.records.log.bits self.old.core.records.record_size place }
+        requires low { place < self.old.core.records.log.tail }
         requires superseded { IsTrue R.keeps → (e : Entry F.Key F.Value)
-            → entry_at self.old.core.records.entries place ≡ Some e
-            → IsSuperseded F.Key.cmp self.old.core.records.entries e }
+            → entry_at self.old.core.records.log.text place ≡ Some e
+            → IsSuperseded F.Key.cmp self.old.core.records.log.text e }
         ensures { self.new ≡ done_at self.old slot context place now }
     {
         cleared_stay::<F::Key, F::Value>();

@@ -10,7 +10,7 @@ ghost use Rattle.fkv_records.specs.Places.{start_at};
 ghost use Rattle.fkv_device.specs.Standing.{Standing, Joined};
 ghost use Rattle.fkv_hybrid.specs.Spelled.{IsEntryIn};
 ghost use Rattle.fkv_operations.specs.declared.operations.KeyedOp.{KeyedOp};
-ghost use Rattle.fkv_lookups.specs.RecordsViews.{IsTruncationDue};
+ghost use Rattle.fkv_hybrid.specs.Views.{IsTruncationDue};
 ghost use Rattle.fkv_texts.specs.Deltas.{IsCleared};
 ghost use Rattle.fkv_partition.specs.declared.changes.Write.{Write};
 ghost use Rattle.fkv_partition.specs.declared.contexts.Progress.{Progress};
@@ -75,8 +75,8 @@ pub fn events_preserve<K, V, I, O, R>()
     ensures truncates { (keeps : Bool) (cmp : K → K → Ordering) (join : V → V → V) (code : K → ℕ) (old new : CoreView K V I)
         (page now : ℕ) (result : Result (Unit {0}) Refused)
         → IsKeyOrder cmp → IsSound keeps cmp join code old
-        → (IsTrue keeps → IsTruncationDue old.records page
-        → IsCleared cmp old.records.entries (start_at old.records.page_bits page))
+        → (IsTrue keeps → IsTruncationDue old.records.log page
+        → IsCleared cmp old.records.log.text (start_at old.records.log.bits page))
         → Truncates keeps old new page now result
         → IsSound keeps cmp join code new
         → IsPreserved keeps cmp join code old new }

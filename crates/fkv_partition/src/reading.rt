@@ -93,7 +93,7 @@ impl<F: Mergeable, R: Receipt> Partition<F, R> {
         ensures once { P.reads reader.new ≤ P.reads reader.old + 1 }
         ensures unread { ((page : ℕ) → WaitsOn self.old slot context page → ⊥) → reader.new ≡ reader.old }
         ensures caused { P.failures reader.new ≢ P.failures reader.old → (page : ℕ)
-            × MayFail R.stands P.can_fail self.old.core.records.receipts self.old.core.records.page_bits page }
+            × MayFail R.stands P.can_fail self.old.core.records.log.receipts self.old.core.records.log.bits page }
         ensures within { IfOk result (λ _. (slot < 16) × (context < 8)) }
         ensures undamaged { IsTrue R.keeps → (page : ℕ) → result ≡ Err (Refused.Damaged page)
             → P.failures reader.new ≡ P.failures reader.old + 1 }
@@ -130,7 +130,7 @@ impl<F: Mergeable, R: Receipt> Partition<F, R> {
     ) -> Result<ProgressOf<F, R>, Refused>
         requires later { self.old.core.moment < now }
         requires own { (page : ℕ) → WaitsOn self.old slot context page
-            → IsHeldBy self.old.core.records.receipts page (R.stands loaded.receipt) }
+            → IsHeldBy self.old.core.records.log.receipts page (R.stands loaded.receipt) }
         ensures effect { LoadsOn R.stands (IsEntryIn F.Key.codec F.Value.codec) F.Key.cmp F.parts.joined F.code self.old self.new slot context (Ok loaded) now result }
         ensures event { IfOk result (λ _. IsRelocating R.keeps F.Key.cmp self.old self.new slot context now) }
         ensures cleared { result ≡ Ok (Progress.Done Answer.Cleared now)
@@ -229,7 +229,7 @@ impl<F: Mergeable, R: Receipt> Partition<F, R> {
         requires session { slot < 16 }
         requires context { context < 8 }
         requires has { HasPage self.old slot context relocation.now relocation.now.target (R.stands loaded.now.receipt) }
-        requires reads { relocation.now.stage ≡ Reading self.old.core.records.begin }
+        requires reads { relocation.now.stage ≡ Reading self.old.core.records.log.begin }
         ensures effect { LoadsOn R.stands (IsEntryIn F.Key.codec F.Value.codec) F.Key.cmp F.parts.joined F.code self.old self.new slot context (Ok loaded.now) now result }
         ensures event { IfOk result (λ _. IsRelocating R.keeps F.Key.cmp self.old self.new slot context now) }
         ensures cleared { result ≡ Ok (Progress.Done Answer.Cleared now) → relocation.now.target < self.new.cleared }

@@ -118,8 +118,8 @@ impl<F: Mergeable, R: Receipt> Partition<F, R> {
         requires context { context < 8 }
         requires here { relocation_at self.old slot context ≡ Some relocation.now }
         requires later { self.old.core.moment < now }
-        requires flushed { HasReceipt self.old.core.records.receipts
-            (page_at self.old.core.records.page_bits wanted) }
+        requires flushed { HasReceipt self.old.core.records.log.receipts
+            (page_at self.old.core.records.log.bits wanted) }
         requires stands { StageStands R.keeps F.Key.cmp F.parts.joined F.code self.old.core relocation.now.target stage }
         ensures effect { Asks R.stands self.old self.new
             (with_relocation self.old slot context (Some (at_stage relocation.now stage)) now) wanted result }

@@ -7,9 +7,8 @@ use Rattle.fkv_functions.specs.declared.refusals.Refused.TheVariants.{NoMemory, 
 use Rattle.fkv_functions.specs.declared.refusals.What.TheVariants as what
 use Rattle.fkv_device.specs.Failing.{FailsOnlyBy}
 use Rattle.fkv_device.specs.Standing.{Standing}
-use Rattle.fkv_hybrid.specs.Flushes.{first_difference, difference, bytes_refusal}
-use Rattle.fkv_lookups.specs.RecordsViews.{RecordsView}
-use Rattle.fkv_lookups.specs.Flushes.{flush_refusal}
+use Rattle.fkv_hybrid.specs.Flushes.{first_difference, difference, bytes_refusal, flush_refusal}
+use Rattle.fkv_hybrid.specs.Views.{LogView}
 use Rattle.fkv_partition.specs.CoreBeginning as beginning
 use Rattle.fkv_partition.specs.CoreFlushing as flushing
 use Rattle.fkv_partition.specs.CoreLooking as looking
@@ -98,14 +97,14 @@ bytes_told (held ∷ rest) came why h = by_difference (difference held came) ref
     by_difference (Some d) is told =
         let e : Stranger what.Bytes d.0 d.1 ≡ why = cc in subst IsUnflushed e (differ held came d is)
 
-page_told : {K V : Type 0} (v : RecordsView K V) (page : ℕ) (came : List ℕ) (why : Refused) → flush_refusal v page came ≡ Some why → IsUnflushed why
-page_told v page came why h = by_page (page == length v.receipts) refl h
+page_told : {K V : Type 0} (log : LogView K V) (page : ℕ) (came : List ℕ) (why : Refused) → flush_refusal log page came ≡ Some why → IsUnflushed why
+page_told log page came why h = by_page (page == length log.receipts) refl h
   where
-    by_page : (b : Bool) → (page == length v.receipts) ≡ b
-        → (if b then bytes_refusal v.waiting came else Some (Stranger what.Page (length v.receipts) page)) ≡ Some why → IsUnflushed why
-    by_page true t is = bytes_told v.waiting came why is
-    by_page false t is = let e : Stranger what.Page (length v.receipts) page ≡ why = cc in
-        subst IsUnflushed e (λ same. eqb-false page (length v.receipts) t (sym same))
+    by_page : (b : Bool) → (page == length log.receipts) ≡ b
+        → (if b then bytes_refusal log.waiting came else Some (Stranger what.Page (length log.receipts) page)) ≡ Some why → IsUnflushed why
+    by_page true t is = bytes_told log.waiting came why is
+    by_page false t is = let e : Stranger what.Page (length log.receipts) page ≡ why = cc in
+        subst IsUnflushed e (λ same. eqb-false page (length log.receipts) t (sym same))
 
 pub flush_told : {K V I : Type 0} (old new : PartitionView K V I) (s : Standing) (bytes : List ℕ) (clock now : ℕ) (r : Result (Unit {0}) Refused)
     → IsTimed clock r (Flushes old new s bytes now r) → IfErr r IsUnflushed
@@ -113,7 +112,7 @@ flush_told old new s bytes clock now r (inl worn) = told-as IsUnflushed r Worn w
 flush_told old new s bytes clock now r (inr h) = by_rule h.does
   where
     by_rule : flushing.Flushes old.core new.core s bytes now r → IfErr r IsUnflushed
-    by_rule (flushing.Flushes.refused why refused is told) = told-as IsUnflushed r why told (page_told old.core.records s.page bytes why refused)
+    by_rule (flushing.Flushes.refused why refused is told) = told-as IsUnflushed r why told (page_told old.core.records.log s.page bytes why refused)
     by_rule (flushing.Flushes.unkept fine is told) = told-as IsUnflushed r NoMemory told tt
     by_rule (flushing.Flushes.keeps fine is told) = told-none IsUnflushed r tt told
 

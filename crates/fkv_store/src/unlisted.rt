@@ -46,11 +46,11 @@ impl<F: Mergeable, D: Disk> Unlisted<F, D> {
         ensures list { IsTrue D.Receipt.keeps → IfOk result (λ list.
             Same (get F.Key.cmp list) (live_of F.Key.cmp self.partition.core)) }
         ensures refused { IfErr result (λ why. (failures : ℕ) × IsScanRefusal D.Receipt.keeps
-            (page_at self.partition.core.records.page_bits self.partition.core.records.begin)
-            (length self.partition.core.records.receipts) (D.Reader.failures self.reader) failures why) }
+            (page_at self.partition.core.records.log.bits self.partition.core.records.log.begin)
+            (length self.partition.core.records.log.receipts) (D.Reader.failures self.reader) failures why) }
         ensures caused { IsTrue D.Receipt.keeps → IfErr result (λ why. why ≢ Refused.NoMemory → (page : ℕ)
-            × MayFail D.Receipt.stands D.Reader.can_fail self.partition.core.records.receipts
-            self.partition.core.records.page_bits page) }
+            × MayFail D.Receipt.stands D.Reader.can_fail self.partition.core.records.log.receipts
+            self.partition.core.records.log.bits page) }
         ensures only { IfErr result IsUnlisted }
     {
         let Unlisted { partition, reader } = self;

@@ -27,8 +27,8 @@ pub record IsRunless {X V I : Type 0} (keeps : Bool) (view : X → PartitionView
   pub part : X
   pub here : slice_get parts place ≡ Some part
   pub now : ℕ
-  pub scan : IsScanRefusal keeps (page_at (view part).core.records.page_bits (view part).core.records.begin)
-      (length (view part).core.records.receipts) (failures part) now why
+  pub scan : IsScanRefusal keeps (page_at (view part).core.records.log.bits (view part).core.records.log.begin)
+      (length (view part).core.records.log.receipts) (failures part) now why
 
 -- what was refused first: all results before it are there
 pub record IsFirstRefusal {A : Type 0} (results : List (Result A Refused)) (why : Refused) : Type 0 where

@@ -193,11 +193,11 @@ module _ {K V I O R : Type 0} {stands : R → Standing} {entry : ℕ → List �
     pub does-evict : (page : ℕ) → Evicts true old new page now (Ok tt) → IsQuiet true old new now → Acts stands entry cmp join f code s (record s { partitions = slice_set s.partitions p new; moment = now }) (Head p page) (Ok outcome.Shifted)
     does-evict page does ev = acts-evict stands entry cmp join f code s now due.next due.fits p old new (here cmp f code s state p now due old is) page does ev
 
-    pub refused-truncate : (r : Refused) → new ≡ old → Truncates true old new (page_at old.core.records.page_bits old.cleared) now (Err r) → Acts stands entry cmp join f code s (record s { partitions = slice_set s.partitions p new }) (Truncate p) (Err r)
-    refused-truncate r same does = refused-step (Truncate p) refl refl r same (refusing.truncate p (subst (λ (v : PartitionView K V I). Truncates true old v (page_at old.core.records.page_bits old.cleared) now (Err r)) same does))
+    pub refused-truncate : (r : Refused) → new ≡ old → Truncates true old new (page_at old.core.records.log.bits old.cleared) now (Err r) → Acts stands entry cmp join f code s (record s { partitions = slice_set s.partitions p new }) (Truncate p) (Err r)
+    refused-truncate r same does = refused-step (Truncate p) refl refl r same (refusing.truncate p (subst (λ (v : PartitionView K V I). Truncates true old v (page_at old.core.records.log.bits old.cleared) now (Err r)) same does))
 
-    pub does-truncate : (begin : ℕ) → begin ≡ new.core.records.begin → Truncates true old new (page_at old.core.records.page_bits old.cleared) now (Ok tt)
-        → IsTruncation true cmp old new (page_at old.core.records.page_bits old.cleared) now
+    pub does-truncate : (begin : ℕ) → begin ≡ new.core.records.log.begin → Truncates true old new (page_at old.core.records.log.bits old.cleared) now (Ok tt)
+        → IsTruncation true cmp old new (page_at old.core.records.log.bits old.cleared) now
         → Acts stands entry cmp join f code s (record s { partitions = slice_set s.partitions p new; moment = now }) (Truncate p) (Ok (outcome.Truncated begin))
     does-truncate begin at does ev = rw at (acts-truncate stands entry cmp join f code s now due.next due.fits p old new (here cmp f code s state p now due old is) does ev)
 

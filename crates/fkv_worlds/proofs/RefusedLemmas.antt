@@ -13,8 +13,8 @@ use Rattle.fkv_operations.specs.declared.operations.Op.{Op}
 use Rattle.fkv_operations.specs.declared.operations.KeyedOp.{KeyedOp}
 use Rattle.fkv_operations.specs.declared.entries.IndexEntry.{IndexEntry}
 use Rattle.fkv_hybrid.specs.Flushes.{difference, bytes_refusal}
-use Rattle.fkv_lookups.specs.RecordsViews.{RecordsView}
-use Rattle.fkv_lookups.specs.Flushes.{flush_refusal}
+use Rattle.fkv_hybrid.specs.Views.{LogView}
+use Rattle.fkv_hybrid.specs.Flushes.{flush_refusal}
 use Rattle.fkv_records.specs.Places.{page_at}
 use Rattle.fkv_partition.specs.CoreViews.{CoreView}
 use Rattle.fkv_partition.specs.CoreBeginning as core_beginning
@@ -182,12 +182,12 @@ bytes-no : (waiting : List (List ℕ)) (came : List ℕ) (e : Refused) → bytes
 bytes-no [] came e h = let k : NotDue ≡ e = cc in is e NotDue (sym k) refl
 bytes-no (held ∷ rest) came e h = strange-no (difference held came) e h
 
-flush-no : {K V : Type 0} (r : RecordsView K V) (page : ℕ) (came : List ℕ) (e : Refused) → flush_refusal r page came ≡ Some e → ends_operation e ≡ false
-flush-no r page came e h = by_test (page == length r.receipts) refl
+flush-no : {K V : Type 0} (log : LogView K V) (page : ℕ) (came : List ℕ) (e : Refused) → flush_refusal log page came ≡ Some e → ends_operation e ≡ false
+flush-no log page came e h = by_test (page == length log.receipts) refl
   where
-    by_test : (b : Bool) → (page == length r.receipts) ≡ b → ends_operation e ≡ false
-    by_test true t = bytes-no r.waiting came e (rw t at h)
-    by_test false t = let k : Some (Stranger Page (length r.receipts) page) ≡ Some e = rw t at h in let n : Stranger Page (length r.receipts) page ≡ e = cc in is e (Stranger Page (length r.receipts) page) (sym n) refl
+    by_test : (b : Bool) → (page == length log.receipts) ≡ b → ends_operation e ≡ false
+    by_test true t = bytes-no log.waiting came e (rw t at h)
+    by_test false t = let k : Some (Stranger Page (length log.receipts) page) ≡ Some e = rw t at h in let n : Stranger Page (length log.receipts) page ≡ e = cc in is e (Stranger Page (length log.receipts) page) (sym n) refl
 
 unwritten-no : (job : FlushJob) (access : Access) (e : Refused) → Unwritten job access e → ends_operation e ≡ false
 unwritten-no job access e (Unwritten.fails a h) = is e (Device 2 job.page) h refl
@@ -198,7 +198,7 @@ spoils-no v now job access e (Spoils.unwritten h) = unwritten-no job access e h
 spoils-no {K} {V} {I} v now job access e (Spoils.strange a h) = by_rule h.does
   where
     by_rule : core_flushing.Flushes v.core v.core (receipt_of job) job.bytes now (Err e) → ends_operation e ≡ false
-    by_rule (core_flushing.Flushes.refused why r b h) = let k : e ≡ why = cc in is e why k (flush-no v.core.records job.page job.bytes why r)
+    by_rule (core_flushing.Flushes.refused why r b h) = let k : e ≡ why = cc in is e why k (flush-no v.core.records.log job.page job.bytes why r)
     by_rule (core_flushing.Flushes.unkept r b h) = is e NoMemory (ok-err e _ h) refl
     by_rule (core_flushing.Flushes.keeps r b h) = absurd (cc)
 
@@ -216,7 +216,7 @@ refuses-no stands entry cmp join f code s v now e t (refusing.go w h) = goes_all
 refuses-no {K} {V} {I} {O} {R} stands entry cmp join f code s v now e t (refusing.install w ask q h) = installs_all-no v v now e {R = R} cmp f code w.slot w.context ask h
 refuses-no stands entry cmp join f code s v now e t (refusing.load w access r came a c h n) = n
 refuses-no stands entry cmp join f code s v now e t (refusing.give_up w h) = gives_up_all-no v v now e w.slot w.context h
-refuses-no stands entry cmp join f code s v now e t (refusing.truncate p h) = truncates-no v v now e true (page_at v.core.records.page_bits v.cleared) h
+refuses-no stands entry cmp join f code s v now e t (refusing.truncate p h) = truncates-no v v now e true (page_at v.core.records.log.bits v.cleared) h
 
 -- what comes in place of a page ends the operation, but for want of memory
 comes-cases : {R : Type 0} (stands : R → Standing) (r : R) (access : Access) (came : Result (Joined R) Refused) (e : Refused) → Comes stands r access came → came ≡ Err e → (e ≡ NoMemory) ⊎ (ends_operation e ≡ true)

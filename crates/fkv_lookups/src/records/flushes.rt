@@ -2,7 +2,7 @@
 ghost use Rattle.std.specs.Prelude.{◌≡◌, ◌-◌, ◌<◌, None, Err, IfOk, IfErr, IfSome, OnOk, OnErr};
 ghost use Rattle.std.specs.Prelude.{length};
 ghost use Rattle.fkv_hybrid.specs.Loads.{HasReceipt, IsHeldBy};
-ghost use Rattle.fkv_lookups.specs.Flushes.{flush_refusal};
+ghost use Rattle.fkv_hybrid.specs.Flushes.{flush_refusal};
 ghost use Rattle.fkv_lookups.specs.RecordsViews.{with_receipt};
 
 use crate::records::Records;
@@ -13,9 +13,9 @@ impl<F: Mergeable, R: Receipt> Records<F, R> {
     /// Takes in that the lowest page that is not flushed was written, and keeps its receipt. Refused, and then nothing
     /// changes: as [`fkv_hybrid::Log::flush_refusal`] says, and then `NoMemory`.
     pub fn flush_done(&mut self, written: Written<R>) -> Result<(), Refused>
-        ensures refused { IfSome (flush_refusal self.old (R.stands written.receipt).page written.bytes)
+        ensures refused { IfSome (flush_refusal self.old.log (R.stands written.receipt).page written.bytes)
             (λ why. result ≡ Err why) }
-        ensures only { flush_refusal self.old (R.stands written.receipt).page written.bytes ≡ None
+        ensures only { flush_refusal self.old.log (R.stands written.receipt).page written.bytes ≡ None
             → IfErr result (λ why. why ≡ Refused.NoMemory) }
         ensures done { OnOk result (self.new ≡ with_receipt self.old (R.stands written.receipt)) }
         ensures unchanged { OnErr result (self.new ≡ self.old) }
@@ -27,8 +27,8 @@ impl<F: Mergeable, R: Receipt> Records<F, R> {
 
     /// A receipt of a flushed page that is not dropped, by which it can be read. Refused: `NoMemory`.
     pub fn receipt(&self, page: u64) -> Result<R, Refused>
-        requires { HasReceipt self.now.receipts page }
-        ensures stands { IfOk result (λ r. IsHeldBy self.now.receipts page (R.stands r)) }
+        requires { HasReceipt self.now.log.receipts page }
+        ensures stands { IfOk result (λ r. IsHeldBy self.now.log.receipts page (R.stands r)) }
         ensures memory { IfErr result (λ refused. refused ≡ Refused.NoMemory) }
     {
         self.log.receipt(page)

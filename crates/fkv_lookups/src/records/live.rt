@@ -29,10 +29,10 @@ impl<F: Mergeable, R: Receipt> Records<F, R> {
         ensures front { IsTrue R.keeps → IsApart F.Key.cmp (get F.Key.cmp map.old) self.now.text
             → OnErr result (HasFront F.Key.cmp (get F.Key.cmp map.old) (get F.Key.cmp map.new) self.now.text) }
         ensures steady { OnOk result (P.failures reader.new ≡ P.failures reader.old) }
-        ensures refused { IfErr result (IsScanRefusal R.keeps (page_at self.now.page_bits self.now.begin)
-            (length self.now.receipts) (P.failures reader.old) (P.failures reader.new)) }
+        ensures refused { IfErr result (IsScanRefusal R.keeps (page_at self.now.log.bits self.now.log.begin)
+            (length self.now.log.receipts) (P.failures reader.old) (P.failures reader.new)) }
         ensures caused { IsTrue R.keeps → IfErr result (λ e. e ≢ Refused.NoMemory → (page : ℕ)
-            × MayFail R.stands P.can_fail self.now.receipts self.now.page_bits page) }
+            × MayFail R.stands P.can_fail self.now.log.receipts self.now.log.bits page) }
     {
         self.log.known();
         let mut scan = self.log.scan();

@@ -20,23 +20,23 @@ use fkv_texts::{ChainPosition, Entry};
 impl<F: Mergeable, R: Receipt> Records<F, R> {
     /// The page of an address.
     pub fn page_of(&self, address: Address) -> u64
-        ensures { result ≡ page_at self.now.page_bits address }
+        ensures { result ≡ page_at self.now.log.bits address }
     {
         self.log.shape().page_of(address)
     }
 
     /// Whether a record may stand at an address.
     pub fn is_record_start(&self, address: Address) -> bool
-        ensures { IsTrue result ↔ IsRecordStart self.now.page_bits self.now.record_size address }
+        ensures { IsTrue result ↔ IsRecordStart self.now.log.bits self.now.record_size address }
     {
         self.log.shape().is_record_start(address)
     }
 
     /// Whether a page was read by the receipt that is kept of it. Refused: `Stranger` where it was read by another.
     pub fn is_own(&self, loaded: &Loaded<R>, page: u64) -> Result<(), Refused>
-        requires { HasReceipt self.now.receipts page }
-        ensures own { IsOk result ↔ IsHeldBy self.now.receipts page (R.stands loaded.now.receipt) }
-        ensures stranger { IfErr result (λ refused. IfSome (receipt_at self.now.receipts page) (λ s.
+        requires { HasReceipt self.now.log.receipts page }
+        ensures own { IsOk result ↔ IsHeldBy self.now.log.receipts page (R.stands loaded.now.receipt) }
+        ensures stranger { IfErr result (λ refused. IfSome (receipt_at self.now.log.receipts page) (λ s.
             (s ≢ R.stands loaded.now.receipt)
             × (refused
             ≡ Refused.Stranger what.Receipt s.number (R.stands loaded.now.receipt).number))) }
@@ -52,22 +52,22 @@ impl<F: Mergeable, R: Receipt> Records<F, R> {
         loaded: &Loaded<R>,
         address: Address,
     ) -> Result<Entry<F::Key, F::Value>, Refused>
-        requires own { IsHeldBy self.now.receipts (page_at self.now.page_bits address)
+        requires own { IsHeldBy self.now.log.receipts (page_at self.now.log.bits address)
             (R.stands loaded.now.receipt) }
-        ensures only { IfOk result (IsEntryIn F.Key.codec F.Value.codec self.now.page_bits loaded.now.bytes address) }
+        ensures only { IfOk result (IsEntryIn F.Key.codec F.Value.codec self.now.log.bits loaded.now.bytes address) }
         ensures found { (e : Entry F.Key F.Value)
-            → IsEntryIn F.Key.codec F.Value.codec self.now.page_bits loaded.now.bytes address e
+            → IsEntryIn F.Key.codec F.Value.codec self.now.log.bits loaded.now.bytes address e
             → result ≡ Ok e }
-        ensures damaged { IfErr result (λ refused. refused ≡ Refused.Damaged (page_at self.now.page_bits address)) }
-        ensures kept { IsTrue R.keeps → IfSome (entry_at self.now.entries address) (λ e. result ≡ Ok e) }
+        ensures damaged { IfErr result (λ refused. refused ≡ Refused.Damaged (page_at self.now.log.bits address)) }
+        ensures kept { IsTrue R.keeps → IfSome (entry_at self.now.log.text address) (λ e. result ≡ Ok e) }
     {
         self.log.own_record_in(loaded, address)
     }
 
     /// Where the first record of a flushed page stands.
     pub fn first_of(&self, page: u64) -> Address
-        requires { page < length self.now.receipts }
-        ensures { result ≡ first_place self.now.page_bits page }
+        requires { page < length self.now.log.receipts }
+        ensures { result ≡ first_place self.now.log.bits page }
     {
         self.log.first_of(page)
     }
@@ -86,13 +86,13 @@ impl<F: Mergeable, R: Receipt> Records<F, R> {
         low: Address,
         parts: Option<F::Value>,
     ) -> Result<ChainResult<F::Key, F::Value>, Refused>
-        requires own { IsHeldBy self.now.receipts (page_at self.now.page_bits from) (R.stands loaded.now.receipt) }
-        requires floor { first_place self.now.page_bits (page_at self.now.page_bits from) ≤ low }
-        ensures damaged { IfErr result (λ refused. refused ≡ Refused.Damaged (page_at self.now.page_bits from)) }
-        ensures read { ComesToInPage F.parts.joined (IsEntryIn F.Key.codec F.Value.codec self.now.page_bits loaded.now.bytes) F.Key.cmp key.now self.now.page_bits low
+        requires own { IsHeldBy self.now.log.receipts (page_at self.now.log.bits from) (R.stands loaded.now.receipt) }
+        requires floor { first_place self.now.log.bits (page_at self.now.log.bits from) ≤ low }
+        ensures damaged { IfErr result (λ refused. refused ≡ Refused.Damaged (page_at self.now.log.bits from)) }
+        ensures read { ComesToInPage F.parts.joined (IsEntryIn F.Key.codec F.Value.codec self.now.log.bits loaded.now.bytes) F.Key.cmp key.now self.now.log.bits low
             from parts result }
         ensures kept { IsTrue R.keeps
-            → self.now.begin ≤ from
+            → self.now.log.begin ≤ from
             → IsOfClass F.code self.now key.now from
             → (r : ChainResult F.Key F.Value)
             × (result ≡ Ok r)

@@ -13,9 +13,9 @@ use fkv_texts::Entry;
 impl<F: Mergeable, R: Receipt> Records<F, R> {
     /// The record at an address whose frame is not closed, where one stands.
     pub fn record_at(&self, address: Address) -> Entry<F::Key, F::Value>
-        requires there { IsSome (entry_at self.now.entries address) }
-        requires in_frame { self.now.regions.offsets.closed ≤ address }
-        ensures entry { entry_at self.now.entries address ≡ Some result }
+        requires there { IsSome (entry_at self.now.log.text address) }
+        requires in_frame { self.now.log.regions.offsets.closed ≤ address }
+        ensures entry { entry_at self.now.log.text address ≡ Some result }
         // so the way along previous addresses falls
         ensures previous { IsPrevious address result.previous }
         ensures falls { result.previous < address }
@@ -25,7 +25,7 @@ impl<F: Mergeable, R: Receipt> Records<F, R> {
 
     /// The address after one: where the next record stands behind a record, or 2^48 where no record can.
     pub fn next(&self, address: Address) -> Address
-        ensures next { result ≡ tail_after self.now.page_bits self.now.record_size address }
+        ensures next { result ≡ tail_after self.now.log.bits self.now.record_size address }
         ensures rises { address < 2 ^ 48 → address < result }
     {
         self.log.next(address)

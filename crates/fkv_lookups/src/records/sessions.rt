@@ -18,7 +18,7 @@ use fkv_regions::View;
 impl<F: Mergeable, R: Receipt> Records<F, R> {
     /// Whether a session is entered at a slot.
     pub fn is_entered(&self, slot: usize) -> bool
-        ensures value { result ≡ is_entered self.now.regions.epochs slot }
+        ensures value { result ≡ is_entered self.now.log.regions.epochs slot }
         ensures within { IsTrue result → slot < 16 }
     {
         self.log.known();
@@ -27,9 +27,9 @@ impl<F: Mergeable, R: Receipt> Records<F, R> {
 
     /// What the session at a slot saw when it last looked.
     pub fn view(&self, slot: usize) -> View
-        requires { IsTrue (is_entered self.now.regions.epochs slot) }
-        ensures value { result ≡ view_at self.now.regions.views slot }
-        ensures agrees { ViewAgrees self.now.regions.offsets result }
+        requires { IsTrue (is_entered self.now.log.regions.epochs slot) }
+        ensures value { result ≡ view_at self.now.log.regions.views slot }
+        ensures agrees { ViewAgrees self.now.log.regions.offsets result }
     {
         self.log.regions().view(slot)
     }
@@ -37,9 +37,9 @@ impl<F: Mergeable, R: Receipt> Records<F, R> {
     /// Enters a session: the lowest free slot gets the current epoch and the view of now. Refused, and then nothing
     /// changes: `NoSlot` where sixteen sessions are entered.
     pub fn enter(&mut self) -> Result<usize, Refused>
-        ensures slot { result ≡ ok_or (free_slot self.old.regions.epochs) Refused.NoSlot }
+        ensures slot { result ≡ ok_or (free_slot self.old.log.regions.epochs) Refused.NoSlot }
         ensures within { IfOk result (λ slot. slot < 16) }
-        ensures effect { IfOk result (λ slot. self.new ≡ with_regions self.old (entered self.old.regions slot)) }
+        ensures effect { IfOk result (λ slot. self.new ≡ with_regions self.old (entered self.old.log.regions slot)) }
         ensures unchanged { OnErr result (self.new ≡ self.old) }
     {
         let slot = self.log.enter();
@@ -50,9 +50,9 @@ impl<F: Mergeable, R: Receipt> Records<F, R> {
     /// Gives a session's slot the current epoch, moves the offsets that are due then, and gives the slot the view
     /// of now. Refused, and then nothing changes: `Unknown` where no session is entered at the slot.
     pub fn refresh(&mut self, slot: usize) -> Result<(), Refused>
-        ensures unknown { IsOk result ↔ IsTrue (is_entered self.old.regions.epochs slot) }
-        ensures effect { OnOk result (IsMoved R.keeps (refreshed self.old.regions slot) self.old self.new) }
-        ensures raised { IsRaised self.old.regions.offsets self.new.regions.offsets }
+        ensures unknown { IsOk result ↔ IsTrue (is_entered self.old.log.regions.epochs slot) }
+        ensures effect { OnOk result (IsMoved R.keeps (refreshed self.old.log.regions slot) self.old self.new) }
+        ensures raised { IsRaised self.old.log.regions.offsets self.new.log.regions.offsets }
         ensures refused { IfErr result (λ why. (why ≡ Refused.Unknown) × (self.new ≡ self.old)) }
     {
         let moved = self.log.refresh(slot);
@@ -63,9 +63,9 @@ impl<F: Mergeable, R: Receipt> Records<F, R> {
     /// Frees a session's slot, and moves the offsets that are due then. Refused, and then nothing changes: `Unknown`
     /// where no session is entered at the slot.
     pub fn leave(&mut self, slot: usize) -> Result<(), Refused>
-        ensures unknown { IsOk result ↔ IsTrue (is_entered self.old.regions.epochs slot) }
-        ensures effect { OnOk result (IsMoved R.keeps (left self.old.regions slot) self.old self.new) }
-        ensures raised { IsRaised self.old.regions.offsets self.new.regions.offsets }
+        ensures unknown { IsOk result ↔ IsTrue (is_entered self.old.log.regions.epochs slot) }
+        ensures effect { OnOk result (IsMoved R.keeps (left self.old.log.regions slot) self.old self.new) }
+        ensures raised { IsRaised self.old.log.regions.offsets self.new.log.regions.offsets }
         ensures refused { IfErr result (λ why. (why ≡ Refused.Unknown) × (self.new ≡ self.old)) }
     {
         let moved = self.log.leave(slot);
@@ -78,14 +78,14 @@ impl<F: Mergeable, R: Receipt> Records<F, R> {
     /// moves wait.
     pub fn shift_read_only(&mut self, page: u64) -> Result<(), Refused>
         ensures ok { IsOk result
-            ↔ (IsReadOnlyDue self.old.regions page self.old.tail × IsRoomy self.old.regions) }
+            ↔ (IsReadOnlyDue self.old.log.regions page self.old.log.tail × IsRoomy self.old.log.regions) }
         ensures effect { OnOk result (IsMoved R.keeps
-            (with_read_only self.old.regions (start_at self.old.regions.bits page)) self.old self.new) }
-        ensures raised { IsRaised self.old.regions.offsets self.new.regions.offsets }
-        ensures not_due { (result ≡ Err Refused.NotDue) ↔ ¬ IsReadOnlyDue self.old.regions page self.old.tail }
+            (with_read_only self.old.log.regions (start_at self.old.log.regions.bits page)) self.old self.new) }
+        ensures raised { IsRaised self.old.log.regions.offsets self.new.log.regions.offsets }
+        ensures not_due { (result ≡ Err Refused.NotDue) ↔ ¬ IsReadOnlyDue self.old.log.regions page self.old.log.tail }
         ensures full { (result ≡ Err Refused.DrainFull)
-            ↔ (IsReadOnlyDue self.old.regions page self.old.tail
-            × (16 ≤ length self.old.regions.epochs.waiting)) }
+            ↔ (IsReadOnlyDue self.old.log.regions page self.old.log.tail
+            × (16 ≤ length self.old.log.regions.epochs.waiting)) }
         ensures only { IfErr result (λ why. (why ≡ Refused.NotDue) ⊎ (why ≡ Refused.DrainFull)) }
         ensures unchanged { OnErr result (self.new ≡ self.old) }
     {
@@ -98,14 +98,14 @@ impl<F: Mergeable, R: Receipt> Records<F, R> {
     /// `NotDue` where it would not rise, or a page below is not flushed; `DrainFull` where sixteen moves wait.
     pub fn shift_head(&mut self, page: u64) -> Result<(), Refused>
         ensures ok { IsOk result
-            ↔ (IsHeadDue self.old.regions page × IsRoomy self.old.regions) }
+            ↔ (IsHeadDue self.old.log.regions page × IsRoomy self.old.log.regions) }
         ensures effect { OnOk result (IsMoved R.keeps
-            (with_head self.old.regions (start_at self.old.regions.bits page)) self.old self.new) }
-        ensures raised { IsRaised self.old.regions.offsets self.new.regions.offsets }
-        ensures not_due { (result ≡ Err Refused.NotDue) ↔ ¬ IsHeadDue self.old.regions page }
+            (with_head self.old.log.regions (start_at self.old.log.regions.bits page)) self.old self.new) }
+        ensures raised { IsRaised self.old.log.regions.offsets self.new.log.regions.offsets }
+        ensures not_due { (result ≡ Err Refused.NotDue) ↔ ¬ IsHeadDue self.old.log.regions page }
         ensures full { (result ≡ Err Refused.DrainFull)
-            ↔ (IsHeadDue self.old.regions page
-            × (16 ≤ length self.old.regions.epochs.waiting)) }
+            ↔ (IsHeadDue self.old.log.regions page
+            × (16 ≤ length self.old.log.regions.epochs.waiting)) }
         ensures only { IfErr result (λ why. (why ≡ Refused.NotDue) ⊎ (why ≡ Refused.DrainFull)) }
         ensures unchanged { OnErr result (self.new ≡ self.old) }
     {
@@ -118,7 +118,7 @@ impl<F: Mergeable, R: Receipt> Records<F, R> {
     /// it a tombstone. Nothing else changes.
     pub fn replace(&mut self, address: Address, value: Option<F::Value>)
         requires last { IsReplaceable F.Key.cmp self.old address }
-        requires mutable { self.old.regions.offsets.safe_read_only ≤ address }
+        requires mutable { self.old.log.regions.offsets.safe_read_only ≤ address }
         ensures { self.new ≡ with_value self.old address value }
     {
         match value {

@@ -2,7 +2,8 @@
 ghost use Rattle.std.specs.Prelude.{◌≡◌, ◌↔◌, IsOk, IfErr, OnOk, OnErr};
 ghost use Rattle.fkv_records.specs.Places.{start_at};
 ghost use Rattle.fkv_index.specs.Changes.{Sweeps, SameTentative};
-ghost use Rattle.fkv_lookups.specs.RecordsViews.{IsTruncationDue, truncated};
+ghost use Rattle.fkv_hybrid.specs.Views.{IsTruncationDue};
+ghost use Rattle.fkv_lookups.specs.RecordsViews.{truncated};
 
 use crate::records::Records;
 use fkv_device::Receipt;
@@ -12,10 +13,10 @@ impl<F: Mergeable, R: Receipt> Records<F, R> {
     /// Moves Begin to the start of a page: records below are dropped, and the entries that lead there are emptied.
     /// Refused, and then nothing changes: `NotDue` where Begin would not rise, or would pass Head.
     pub fn truncate(&mut self, page: u64) -> Result<(), Refused>
-        ensures ok { IsOk result ↔ IsTruncationDue self.old page }
+        ensures ok { IsOk result ↔ IsTruncationDue self.old.log page }
         ensures effect { OnOk result (self.new
-            ≡ truncated R.keeps self.old (start_at self.old.page_bits page) self.new.text) }
-        ensures sweeps { OnOk result (Sweeps (start_at self.old.page_bits page) self.old.words self.new.words) }
+            ≡ truncated R.keeps self.old (start_at self.old.log.bits page) self.new.text) }
+        ensures sweeps { OnOk result (Sweeps (start_at self.old.log.bits page) self.old.words self.new.words) }
         ensures tentative { OnOk result (SameTentative self.old.words self.new.words) }
         ensures only { IfErr result (λ refused. refused ≡ Refused.NotDue) }
         ensures unchanged { OnErr result (self.new ≡ self.old) }

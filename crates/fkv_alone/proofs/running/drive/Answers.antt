@@ -31,7 +31,7 @@ returns-in-Err-step-clause-drives g c = λ op old started h.
     Drives.refused c.in-Err-step.refused
     (stop-halted g.R.Receipt.keeps g.R.Receipt.stands g.F.Key.Ord.cmp g.F.Mergeable.parts.joined g.F.Functions.meaning g.F.Functions.code op old c.args.slot c.args.context started c.loop-turn.partition.core c.step.new.partition.core c.loop-turn.told come i.on e.1)
     (let k = i.taken in omega arith)
-    (subst (λ n. IsStop g.R.Receipt.keeps old.records.tail n (g.P.PageReader.failures c.step.new.reader) c.in-Err-step.refused) (i.comes op old started h).1 e.0)
+    (subst (λ n. IsStop g.R.Receipt.keeps old.records.log.tail n (g.P.PageReader.failures c.step.new.reader) c.in-Err-step.refused) (i.comes op old started h).1 e.0)
     refl
 
 pub returns-then-not-is_on-clause-drives : goal.returns-then-not-is_on-clause-drives
@@ -133,7 +133,7 @@ returns-in-Err-clause-enough g c = λ op old started n h kept near low e. (let o
 pub returns-in-Err-step-clause-enough : goal.returns-in-Err-step-clause-enough
 returns-in-Err-step-clause-enough g c = λ op old started n h kept near low e.
     (let a = c.in-Err-step.ensures.advances op old started (c.loop-turn.invariant.comes op old started h).0 in
-    stop-stalled old.records.tail _ _ c.in-Err-step.refused a.0 (cc))
+    stop-stalled old.records.log.tail _ _ c.in-Err-step.refused a.0 (cc))
 
 pub returns-then-not-is_on-clause-enough : goal.returns-then-not-is_on-clause-enough
 returns-then-not-is_on-clause-enough g c = λ op old started n h kept near low e. absurd (cc)

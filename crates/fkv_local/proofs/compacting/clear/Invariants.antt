@@ -12,9 +12,9 @@ invariant-loop-record g l = record {
   onward : IsOnward l.initial.shard.part.partition l.shard.part.partition;
   past : l.shard.part.partition.core.moment ≤ l.clock;
   later : l.initial.clock + l._record ≤ l.clock;
-  kept : IsKeptBy g.D.Receipt.Receipt.stands l.shard.part.partition.core.records.receipts l.kept.is_sure l.kept.page;
+  kept : IsKeptBy g.D.Receipt.Receipt.stands l.shard.part.partition.core.records.log.receipts l.kept.is_sure l.kept.page;
   writes : g.D.Writer.PageWriter.failures l.shard.part.writer ≡ g.D.Writer.PageWriter.failures l.initial.shard.part.writer;
   reads : g.D.Reader.PageReader.failures l.shard.reader ≡ g.D.Reader.PageReader.failures l.initial.shard.reader;
   numbered : g.D.Writer.PageWriter.next l.shard.part.writer ≤ l.clock;
-  begin : l.shard.part.partition.core.records.begin ≡ l.initial.shard.part.partition.core.records.begin;
+  begin : l.shard.part.partition.core.records.log.begin ≡ l.initial.shard.part.partition.core.records.log.begin;
 }

@@ -14,8 +14,8 @@ invariant-loop-event g l = record {
   later : l.initial.clock ≤ l.clock;
   spare : l.clock + 1 < 2 ^ 64;
   wanted : IsWanted l.shard.part.partition l.context (option_map g.D.Receipt.Receipt.stands l.wanted.receipt);
-  kept : IsKeptBy g.D.Receipt.Receipt.stands l.shard.part.partition.core.records.receipts l.kept.is_sure l.kept.page;
+  kept : IsKeptBy g.D.Receipt.Receipt.stands l.shard.part.partition.core.records.log.receipts l.kept.is_sure l.kept.page;
   writer : l.shard.part.writer ≡ l.initial.shard.part.writer;
   reads : g.D.Reader.PageReader.failures l.shard.reader ≡ g.D.Reader.PageReader.failures l.initial.shard.reader;
-  begin : l.shard.part.partition.core.records.begin ≡ l.initial.shard.part.partition.core.records.begin;
+  begin : l.shard.part.partition.core.records.log.begin ≡ l.initial.shard.part.partition.core.records.log.begin;
 }

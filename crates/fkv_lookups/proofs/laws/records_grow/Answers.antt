@@ -7,11 +7,11 @@ use Rattle.fkv_lookups.proofs.laws.records_grow.Goals as goal
 pub returns : goal.returns
 returns g c = record {
   kept = λ cmp v e key payload has k a low.
-      newest-below cmp v.text (record { address = v.tail; previous = address_of e.word; key = key; value = has; delta = is_part payload }) k a low;
+      newest-below cmp v.text (record { address = v.log.tail; previous = address_of e.word; key = key; value = has; delta = is_part payload }) k a low;
   lives = λ cmp v e key payload has.
-      live-append cmp v.text (record { address = v.tail; previous = address_of e.word; key = key; value = has; delta = is_part payload });
+      live-append cmp v.text (record { address = v.log.tail; previous = address_of e.word; key = key; value = has; delta = is_part payload });
   frozen = λ keeps code v e key payload has a t low.
       let most = t.regions.read_only in
       let safe = t.regions.agree.in_order.safe in
-      entry_at-old v.entries (record { address = v.tail; previous = address_of e.word; key = key; value = value_in payload; delta = is_part payload }) a (λ same. omega arith);
+      entry_at-old v.log.text (record { address = v.log.tail; previous = address_of e.word; key = key; value = value_in payload; delta = is_part payload }) a (λ same. omega arith);
 }

@@ -29,9 +29,9 @@ loop-last-init g c =
     let order = key_order g.F.Key.PartialEq.eq g.F.Key.Ord.cmp ord.matches_eq known.exact ord.total in
     let v = c.args.self.now in
     let traced : IsTraced g.R.Receipt.keeps g.F.Functions.code v = rw (← c.self.view_is) c.self.invariant in
-    let shape : IsShape v.page_bits (size_of g.F.Key.Fixed.SIZE g.F.Value.Fixed.SIZE) = rw (← c.self.view_is) c.self.invariant.shape in
+    let shape : IsShape v.log.bits (size_of g.F.Key.Fixed.SIZE g.F.Value.Fixed.SIZE) = rw (← c.self.view_is) c.self.invariant.shape in
     record {
-      read = read-begins g.F.Mergeable.parts.joined g.F.Key.Fixed.codec g.F.Value.Fixed.codec v.page_bits shape c.args.loaded.now.bytes
+      read = read-begins g.F.Mergeable.parts.joined g.F.Key.Fixed.codec g.F.Value.Fixed.codec v.log.bits shape c.args.loaded.now.bytes
           g.F.Key.Ord.cmp c.args.key.now c.args.low c.args.from c.args.parts c.in-Ok.position (rw (← c.self.view_is) c.in-Ok.ensures.read);
       kept = λ keeps begun class.
           let told = kept-told g.F.Key.Ord.cmp g.F.Mergeable.parts.joined g.F.Functions.code v c.args.key.now order traced (rw (← c.self.view_is) refl) c.args.low c.args.from keeps begun c.requires.floor
@@ -46,10 +46,10 @@ pub own_first_in_page-requires-in-Some-clause-within :
     goal.own_first_in_page-requires-in-Some-clause-within
 own_first_in_page-requires-in-Some-clause-within g c =
     let v = c.args.self.now in
-    let shape : IsShape v.page_bits (size_of g.F.Key.Fixed.SIZE g.F.Value.Fixed.SIZE) = rw (← c.self.view_is) c.self.invariant.shape in
-    let falls = read-falls g.F.Mergeable.parts.joined g.F.Key.Fixed.codec g.F.Value.Fixed.codec v.page_bits shape c.args.loaded.now.bytes
+    let shape : IsShape v.log.bits (size_of g.F.Key.Fixed.SIZE g.F.Value.Fixed.SIZE) = rw (← c.self.view_is) c.self.invariant.shape in
+    let falls = read-falls g.F.Mergeable.parts.joined g.F.Key.Fixed.codec g.F.Value.Fixed.codec v.log.bits shape c.args.loaded.now.bytes
     g.F.Key.Ord.cmp c.args.key.now c.args.low c.args.from c.args.parts c.loop-last.parts c.loop-last.position c.loop-last.invariant.read c.in-Some.last c.in-Some.ensures.some.0 in
-    let low = read-low g.F.Mergeable.parts.joined g.F.Key.Fixed.codec g.F.Value.Fixed.codec v.page_bits shape c.args.loaded.now.bytes
+    let low = read-low g.F.Mergeable.parts.joined g.F.Key.Fixed.codec g.F.Value.Fixed.codec v.log.bits shape c.args.loaded.now.bytes
     g.F.Key.Ord.cmp c.args.key.now c.args.low c.args.from c.args.parts c.loop-last.parts c.loop-last.position c.loop-last.invariant.read c.in-Some.last c.in-Some.ensures.some.0 in
     let page = rw (← c.self.view_is) at c.page_of-page.ensures in
     rw page (page_rises c.self.inside.log.bits c.in-Some.last.previous c.args.from (omega (arith, falls, low)))
@@ -58,8 +58,8 @@ pub returns-in-Err-own_first_in_page-clause-read :
     goal.returns-in-Err-own_first_in_page-clause-read
 returns-in-Err-own_first_in_page-clause-read g c =
     let v = c.args.self.now in
-    let shape : IsShape v.page_bits (size_of g.F.Key.Fixed.SIZE g.F.Value.Fixed.SIZE) = rw (← c.self.view_is) c.self.invariant.shape in
-    read-refused g.F.Mergeable.parts.joined g.F.Key.Fixed.codec g.F.Value.Fixed.codec v.page_bits shape c.args.loaded.now.bytes
+    let shape : IsShape v.log.bits (size_of g.F.Key.Fixed.SIZE g.F.Value.Fixed.SIZE) = rw (← c.self.view_is) c.self.invariant.shape in
+    read-refused g.F.Mergeable.parts.joined g.F.Key.Fixed.codec g.F.Value.Fixed.codec v.log.bits shape c.args.loaded.now.bytes
     g.F.Key.Ord.cmp c.args.key.now c.args.low c.args.from c.args.parts c.loop-last.parts c.loop-last.position c.loop-last.invariant.read c.in-Some.last c.in-Some.ensures.some.0
     c.in-Some.ensures.some.1 c.in-Err-own_first_in_page.refused (rw (← c.self.view_is) c.in-Err-own_first_in_page.ensures.read)
 
@@ -80,8 +80,8 @@ returns-in-Err-own_first_in_page-clause-kept g c = λ keeps begun class.
 pub loop-last-smaller : goal.loop-last-smaller
 loop-last-smaller g c =
     let v = c.args.self.now in
-    let shape : IsShape v.page_bits (size_of g.F.Key.Fixed.SIZE g.F.Value.Fixed.SIZE) = rw (← c.self.view_is) c.self.invariant.shape in
-    read-smaller g.F.Mergeable.parts.joined g.F.Key.Fixed.codec g.F.Value.Fixed.codec v.page_bits shape c.args.loaded.now.bytes
+    let shape : IsShape v.log.bits (size_of g.F.Key.Fixed.SIZE g.F.Value.Fixed.SIZE) = rw (← c.self.view_is) c.self.invariant.shape in
+    read-smaller g.F.Mergeable.parts.joined g.F.Key.Fixed.codec g.F.Value.Fixed.codec v.log.bits shape c.args.loaded.now.bytes
     g.F.Key.Ord.cmp c.args.key.now c.args.low c.args.from c.args.parts c.loop-last.parts c.loop-last.position c.loop-last.invariant.read c.in-Some.last c.in-Some.ensures.some.0
     c.in-Ok-own_first_in_page.position (rw (← c.self.view_is) c.in-Ok-own_first_in_page.ensures.read)
 
@@ -92,9 +92,9 @@ loop-last-preserved g c =
     let order = key_order g.F.Key.PartialEq.eq g.F.Key.Ord.cmp ord.matches_eq known.exact ord.total in
     let v = c.args.self.now in
     let traced : IsTraced g.R.Receipt.keeps g.F.Functions.code v = rw (← c.self.view_is) c.self.invariant in
-    let shape : IsShape v.page_bits (size_of g.F.Key.Fixed.SIZE g.F.Value.Fixed.SIZE) = rw (← c.self.view_is) c.self.invariant.shape in
+    let shape : IsShape v.log.bits (size_of g.F.Key.Fixed.SIZE g.F.Value.Fixed.SIZE) = rw (← c.self.view_is) c.self.invariant.shape in
     rw c.onto-parts.ensures (record {
-      read = read-on g.F.Mergeable.parts.joined g.F.Key.Fixed.codec g.F.Value.Fixed.codec v.page_bits shape c.args.loaded.now.bytes
+      read = read-on g.F.Mergeable.parts.joined g.F.Key.Fixed.codec g.F.Value.Fixed.codec v.log.bits shape c.args.loaded.now.bytes
           g.F.Key.Ord.cmp c.args.key.now c.args.low c.args.from c.args.parts c.loop-last.parts c.loop-last.position c.loop-last.invariant.read c.in-Some.last c.in-Some.ensures.some.0
           c.in-Some.ensures.some.1 c.in-Ok-own_first_in_page.position (rw (← c.self.view_is) c.in-Ok-own_first_in_page.ensures.read);
       kept = λ keeps begun class.
@@ -113,8 +113,8 @@ loop-last-preserved g c =
 pub returns-clause-read : goal.returns-clause-read
 returns-clause-read g c =
     let v = c.args.self.now in
-    let shape : IsShape v.page_bits (size_of g.F.Key.Fixed.SIZE g.F.Value.Fixed.SIZE) = rw (← c.self.view_is) c.self.invariant.shape in
-    read-end g.F.Mergeable.parts.joined g.F.Key.Fixed.codec g.F.Value.Fixed.codec v.page_bits shape c.args.loaded.now.bytes
+    let shape : IsShape v.log.bits (size_of g.F.Key.Fixed.SIZE g.F.Value.Fixed.SIZE) = rw (← c.self.view_is) c.self.invariant.shape in
+    read-end g.F.Mergeable.parts.joined g.F.Key.Fixed.codec g.F.Value.Fixed.codec v.log.bits shape c.args.loaded.now.bytes
     g.F.Key.Ord.cmp c.args.key.now c.args.low c.args.from c.args.parts c.loop-last.parts c.loop-last.position c.loop-last.invariant.read (c.delta_at.ensures.none c.in_default.is)
 
 pub returns-clause-kept : goal.returns-clause-kept

@@ -12,10 +12,10 @@ invariant-loop-last g l =
     let cmp = g.F.Key.Ord.cmp in
     let join = g.F.Mergeable.parts.joined in
     let code = g.F.Functions.code in
-    let entry = IsEntryIn g.F.Key.Fixed.codec g.F.Value.Fixed.codec l.self.page_bits l.loaded.bytes in
+    let entry = IsEntryIn g.F.Key.Fixed.codec g.F.Value.Fixed.codec l.self.log.bits l.loaded.bytes in
     record {
-      read : IsReadOn join entry cmp l.key l.self.page_bits l.low l.from l.fn.parts l.parts l.position;
-      kept : IsTrue g.R.Receipt.keeps → l.self.begin ≤ l.from → IsOfClass code l.self l.key l.from → IsKeptOn cmp join code l.self l.key l.low l.from l.fn.parts l.parts l.position;
+      read : IsReadOn join entry cmp l.key l.self.log.bits l.low l.from l.fn.parts l.parts l.position;
+      kept : IsTrue g.R.Receipt.keeps → l.self.log.begin ≤ l.from → IsOfClass code l.self l.key l.from → IsKeptOn cmp join code l.self l.key l.low l.from l.fn.parts l.parts l.position;
     }
 
 abbrev pub decreases-loop-last : goal.decreases-loop-last

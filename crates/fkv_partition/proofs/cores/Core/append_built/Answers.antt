@@ -10,7 +10,8 @@ use Rattle.fkv_operations.specs.After.{key_of}
 use Rattle.fkv_operations.specs.declared.entries.IndexEntry.{IndexEntry}
 use Rattle.fkv_operations.specs.declared.operations.Answer.TheVariants.{Value}
 use Rattle.fkv_lookups.specs.Payloads.{standing}
-use Rattle.fkv_lookups.specs.RecordsViews.{class_in, IsFull}
+use Rattle.fkv_lookups.specs.RecordsViews.{class_in}
+use Rattle.fkv_hybrid.specs.Views.{IsFull}
 use Rattle.fkv_lookups.specs.declared.payloads.Payload.TheVariants.{Whole}
 use Rattle.fkv_partition.specs.declared.contexts.Context.{Context}
 use Rattle.fkv_partition.specs.declared.contexts.Progress.TheVariants.{Done}
@@ -32,7 +33,7 @@ module _ {K V I O : Type 0} (cmp : K → K → Ordering) (join : V → V → V) 
   shown-here : shown ≡ f.shown ask.key ask.input value
   shown-here = shows ∙ ap (λ (a : Ask K V I). f.shown a.key a.input value) same
 
-  built-installs : {R : Type 0} (x : Context K V I) → context_at v slot c ≡ Some x → question_in x ≡ Some (e, ask) → word_at v.records.words e.place ≡ e.word → updated f ask.key ask.input ask.source ≡ Some value → (v.records.tail ≡ 2 ^ 48 → ⊥) → (IsFull v.records → ⊥)
+  built-installs : {R : Type 0} (x : Context K V I) → context_at v slot c ≡ Some x → question_in x ≡ Some (e, ask) → word_at v.records.words e.place ≡ e.word → updated f ask.key ask.input ask.source ≡ Some value → (v.records.log.tail ≡ 2 ^ 48 → ⊥) → (IsFull v.records.log → ⊥)
       → Installs {R = R} cmp f code v new slot c ask now (Ok (Done (Value shown) now))
   built-installs x here question stands built low room = done x e value here question stands built low room made-here (ap (λ s. Ok (Done (Value s) now)) shown-here)
 

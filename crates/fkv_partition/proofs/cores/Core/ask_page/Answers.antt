@@ -1,4 +1,4 @@
-use Rattle.std.proofs.Common.{◌≡◌, ◌<◌, Err, length, refl, sym, ap, subst, ◌∙◌}
+use Rattle.std.proofs.Common.{◌≡◌, Err, refl, sym, ap, subst, ◌∙◌}
 use Rattle.fkv_records.specs.Places.{page_at}
 use Rattle.fkv_hybrid.specs.Loads.{HasReceipt, IsHeldBy}
 use Rattle.fkv_functions.proofs.KeyOrder.{key_order}
@@ -27,7 +27,7 @@ receipt-requires-whole g c κs =
     let met = load-met g.F.Functions.meaning x.op (met_at g.F.Key.Ord.cmp g.F.Mergeable.parts.joined g.F.Functions.code v c.args.slot (key_of x.op)) c.args.wanted c.args.parts d.decided in
     let w = c.meetings_tell.ensures.wanted g.R.Receipt.keeps g.F.Key.Ord.cmp g.F.Mergeable.parts.joined g.F.Functions.code v.records (key_of x.op) c.args.slot c.args.wanted c.args.parts order c.known.ensures.traced c.known.ensures.stood inside met in
     with_six (
-    rw c.page_of-page.ensures (subst (λ u. HasReceipt u.records.receipts (page_at u.records.page_bits c.args.wanted)) (sym c.self.view_is) (page_flushed v.records c.args.wanted c.known.ensures.traced w.begun w.low)))
+    rw c.page_of-page.ensures (subst (λ u. HasReceipt u.records.log.receipts (page_at u.records.log.bits c.args.wanted)) (sym c.self.view_is) (page_flushed v.records c.args.wanted c.known.ensures.traced w.begun w.low)))
 
 pub set_phase-requires-clause-unclaimed : goal.set_phase-requires-clause-unclaimed
 set_phase-requires-clause-unclaimed g c = ap claim_by c.requires.decided.fresh
@@ -45,7 +45,7 @@ set_phase-requires-clause-stands g c =
     let inside = (key_at (slots_of v) v.contexts c.args.slot c.args.context x d.here).inside in
     let leads = c.entries_lead.ensures.found g.R.Receipt.keeps g.F.Functions.code v.records class c.args.kept c.known.ensures.traced c.requires.stands in
     let met = load-met g.F.Functions.meaning x.op (met_at g.F.Key.Ord.cmp g.F.Mergeable.parts.joined g.F.Functions.code v c.args.slot (key_of x.op)) c.args.wanted c.args.parts d.decided in
-    let begins : c.begin.result ≡ v.records.begin = c.begin.ensures ∙ ap (λ u. u.records.begin) c.self.view_is in
+    let begins : c.begin.result ≡ v.records.log.begin = c.begin.ensures ∙ ap (λ u. u.records.log.begin) c.self.view_is in
     rw begins (loading-stands g.F.Key.Ord.cmp g.F.Mergeable.parts.joined g.F.Functions.meaning g.F.Functions.code v c.args.slot c.args.context c.args.now x d.here g.R.Receipt.keeps c.args.kept c.args.wanted c.args.parts
     c.requires.stands
     (c.entries_lead.ensures.low g.R.Receipt.keeps g.F.Functions.code v.records class a c.known.ensures.traced leads)
@@ -59,8 +59,8 @@ returns-in-Err-clause-effect g c = unshared c.args.operation.now c.args.wanted c
 pub returns-clause-effect : goal.returns-clause-effect
 returns-clause-effect g c =
     let v = c.args.self.now in
-    let begins : c.begin.result ≡ v.records.begin = c.begin.ensures ∙ ap (λ u. u.records.begin) c.self.view_is in
-    let held = subst (λ u. IsHeldBy u.records.receipts (page_at u.records.page_bits c.args.wanted) (g.R.Receipt.stands c.in-Ok.receipt)) c.self.view_is (rw c.page_of-page.ensures at c.in-Ok.ensures.stands) in
+    let begins : c.begin.result ≡ v.records.log.begin = c.begin.ensures ∙ ap (λ u. u.records.log.begin) c.self.view_is in
+    let held = subst (λ u. IsHeldBy u.records.log.receipts (page_at u.records.log.bits c.args.wanted) (g.R.Receipt.stands c.in-Ok.receipt)) c.self.view_is (rw c.page_of-page.ensures at c.in-Ok.ensures.stands) in
     rw (c.set_phase.ensures, begins) (asks_page c.args.operation.now c.args.wanted c.args.parts c.args.kept c.in-Ok.receipt c.requires.decided c.requires.kept held refl refl)
 
 pub returns-clause-event : goal.returns-clause-event

@@ -24,9 +24,9 @@ some-none x h = cc
 
 -- what is met as mutable is the record that is read first
 module _ {K V I : Type 0} {keeps : Bool} (cmp : K → K → Ordering) (join : V → V → V) (code : K → ℕ) (v : CoreView K V I) (slot : ℕ) (k : K) (first : ChainPosition K V) (order : IsKeyOrder cmp) (s : IsSound keeps cmp join code v) (entered : is_session (slots_of v) slot ≡ true) (read : first ≡ newest_in_memory cmp code v slot k (entry_for code v k))
-    (firsts : (keeps : Bool) (cmp : K → K → Ordering) (join : V → V → V) (code : K → ℕ) (v : RecordsView K V) (k : K) (low a : ℕ) → IsKeyOrder cmp → IsTraced keeps code v → IsStood cmp join v → entry_of v (class_in code v k) ≡ Some a → v.from ≤ low → StartsAt (newest_above cmp code v low k a) (looked_up cmp join code v low k a)) where
-  tells-here : (a : ℕ) → entry_for code v k ≡ Some a → StartsAt (newest_above cmp code v.records (low_of v.records.begin (seen_at v slot)) k a) (looked_up cmp join code v.records (low_of v.records.begin (seen_at v slot)) k a)
-  tells-here a entry = firsts keeps cmp join code v.records k (low_of v.records.begin (seen_at v slot)) a order s.traced s.stood entry (seen-begun v slot s.traced entered)
+    (firsts : (keeps : Bool) (cmp : K → K → Ordering) (join : V → V → V) (code : K → ℕ) (v : RecordsView K V) (k : K) (low a : ℕ) → IsKeyOrder cmp → IsTraced keeps code v → IsStood cmp join v → entry_of v (class_in code v k) ≡ Some a → v.log.from ≤ low → StartsAt (newest_above cmp code v low k a) (looked_up cmp join code v low k a)) where
+  tells-here : (a : ℕ) → entry_for code v k ≡ Some a → StartsAt (newest_above cmp code v.records (low_of v.records.log.begin (seen_at v slot)) k a) (looked_up cmp join code v.records (low_of v.records.log.begin (seen_at v slot)) k a)
+  tells-here a entry = firsts keeps cmp join code v.records k (low_of v.records.log.begin (seen_at v slot)) a order s.traced s.stood entry (seen-begun v slot s.traced entered)
 
   none-below : (b : ℕ) → first ≡ Below b → (held : V) → met_at cmp join code v slot k ≡ Mutable held → ⊥
   none-below b is held met =

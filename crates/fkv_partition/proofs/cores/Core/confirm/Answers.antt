@@ -10,14 +10,14 @@ use Rattle.fkv_partition.proofs.cores.Core.confirm.Goals as goal
 pub confirm-is_final-requires-whole : goal.confirm-is_final-requires-whole
 confirm-is_final-requires-whole g c κs =
     let x = c.args.operation.now in
-    let at : on_key (context_in c.self.inside.records.regions.epochs.slots c.self.inside.contexts.items c.args.slot c.args.context) ≡ Some x = rw (← c.self.view_is) at c.requires.here in
+    let at : on_key (context_in c.self.inside.records.log.regions.epochs.slots c.self.inside.contexts.items c.args.slot c.args.context) ≡ Some x = rw (← c.self.view_is) at c.requires.here in
     with_six (
     is-tentative g.F.Key.Ord.cmp g.F.Mergeable.parts.joined g.F.Functions.code (view_of g.F.Mergeable.MERGES c.self.inside.number c.self.inside.count c.self.inside.records c.self.inside.contexts.items c.self.inside.moment) c.self.invariant c.args.slot c.args.context c.args.now x at c.args.place c.requires.phase)
 
 pub invariant_of-self : goal.invariant_of-self
 invariant_of-self g c =
     let x = c.args.operation.now in
-    let at : on_key (context_in c.self.inside.records.regions.epochs.slots c.self.inside.contexts.items c.args.slot c.args.context) ≡ Some x = rw (← c.self.view_is) at c.requires.here in
+    let at : on_key (context_in c.self.inside.records.log.regions.epochs.slots c.self.inside.contexts.items c.args.slot c.args.context) ≡ Some x = rw (← c.self.view_is) at c.requires.here in
     let made = c.confirm-is_final.ensures in
     let is = is-tentative g.F.Key.Ord.cmp g.F.Mergeable.parts.joined g.F.Functions.code (view_of g.F.Mergeable.MERGES c.self.inside.number c.self.inside.count c.self.inside.records c.self.inside.contexts.items c.self.inside.moment) c.self.invariant c.args.slot c.args.context c.args.now x at c.args.place c.requires.phase in
     rw (c.move_on.ensures)
@@ -38,5 +38,5 @@ returns-clause-backed_off g c =
 
 pub move_on-requires-clause-here : goal.move_on-requires-clause-here
 move_on-requires-clause-here g c =
-    let at : on_key (context_in c.self.inside.records.regions.epochs.slots c.self.inside.contexts.items c.args.slot c.args.context) ≡ Some c.args.operation.now = rw (← c.self.view_is) at c.requires.here in
-    (key_at c.self.inside.records.regions.epochs.slots c.self.inside.contexts.items c.args.slot c.args.context c.args.operation.now at).here
+    let at : on_key (context_in c.self.inside.records.log.regions.epochs.slots c.self.inside.contexts.items c.args.slot c.args.context) ≡ Some c.args.operation.now = rw (← c.self.view_is) at c.requires.here in
+    (key_at c.self.inside.records.log.regions.epochs.slots c.self.inside.contexts.items c.args.slot c.args.context c.args.operation.now at).here

@@ -17,5 +17,5 @@ returns-in-Some g c =
     let s = c.known.ensures in
     let up = seen-begun v c.args.slot s.traced c.requires.entered in
     let d = c.is_delta.ensures.0 c.if-is_delta.true in
-    let m = met-delta g.F.Key.Ord.cmp g.F.Mergeable.parts.joined g.F.Functions.code v c.args.slot k (λ a entry. c.lookups_tell.ensures.first g.R.Receipt.keeps g.F.Key.Ord.cmp g.F.Mergeable.parts.joined g.F.Functions.code v.records k (low_of v.records.begin (seen_at v c.args.slot)) a order s.traced s.stood entry up) d.0 (sym c.requires.first ∙ d.1) d.2 in
-    c.in-Some.ensures.some m.entry v.records.begin (seen_at v c.args.slot) m.part m.position ∙ ap (decision g.F.Functions.meaning op) (sym m.met)
+    let m = met-delta g.F.Key.Ord.cmp g.F.Mergeable.parts.joined g.F.Functions.code v c.args.slot k (λ a entry. c.lookups_tell.ensures.first g.R.Receipt.keeps g.F.Key.Ord.cmp g.F.Mergeable.parts.joined g.F.Functions.code v.records k (low_of v.records.log.begin (seen_at v c.args.slot)) a order s.traced s.stood entry up) d.0 (sym c.requires.first ∙ d.1) d.2 in
+    c.in-Some.ensures.some m.entry v.records.log.begin (seen_at v c.args.slot) m.part m.position ∙ ap (decision g.F.Functions.meaning op) (sym m.met)

@@ -15,7 +15,7 @@ returns-in-Err-clause-effect g c =
 
 pub invariant_of-self-2 : goal.invariant_of-self-2
 invariant_of-self-2 g c =
-    let was = c.self.inside.records.regions in
+    let was = c.self.inside.records.log.regions in
     rw c.in-Ok.ensures.effect
     (sound-regions c.self.invariant (entered was c.in-Ok.slot) c.args.now (rw c.in-Ok.ensures.effect at c.known.ensures.traced) (rw c.in-Ok.ensures.effect at c.known.ensures.stood) (record { closed = omega arith; head = omega arith; safe = omega arith; read_only = omega arith })
     (λ t d x low here. renewed-stays was.epochs.slots c.in-Ok.slot t was.epochs.epoch (c.self.invariant.housed t d x low here)))

@@ -18,7 +18,7 @@ holds_relocation-requires-clause-places g c = ap length c.deref.ensures.value âˆ
 
 pub returns : goal.returns
 returns g c =
-    let slots = c.self.inside.records.regions.epochs.slots in
+    let slots = c.self.inside.records.log.regions.epochs.slots in
     let contexts = c.self.inside.contexts.items in
     let i = c.args.slot * 8 + c.args.context in
     c.holds_relocation.ensures

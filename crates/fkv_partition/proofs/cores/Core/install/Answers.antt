@@ -21,7 +21,7 @@ returns-then-not-is-clause-effect g c =
 pub holds-requires-whole : goal.holds-requires-whole
 holds-requires-whole g c κs =
     let q = c.in-Some-question_of.question in
-    let at : on_key (context_in c.self.inside.records.regions.epochs.slots c.self.inside.contexts.items c.args.slot c.args.context) ≡ Some c.in-Some.open = rw (← c.self.view_is) at (sym c.in-Some.ensures.value) in
+    let at : on_key (context_in c.self.inside.records.log.regions.epochs.slots c.self.inside.contexts.items c.args.slot c.args.context) ≡ Some c.in-Some.open = rw (← c.self.view_is) at (sym c.in-Some.ensures.value) in
     with_six (
     (kept-at g.F.Key.Ord.cmp g.F.Mergeable.parts.joined g.F.Functions.code (view_of g.F.Mergeable.MERGES c.self.inside.number c.self.inside.count c.self.inside.records c.self.inside.contexts.items c.self.inside.moment) c.self.invariant c.args.slot c.args.context c.in-Some.open q.0 q.1 at (sym c.in-Some-question_of.ensures)).entry.place)
 

@@ -14,14 +14,14 @@ returns-in_default-loading_of-clause-effect g c = Loads.not_ready c.in-Some.open
 pub returns-then-loading-begin-clause-effect : goal.returns-then-loading-begin-clause-effect
 returns-then-loading-begin-clause-effect g c =
     let l = c.in-Some-loading_of.loading in
-    let begins : c.begin.result ≡ c.args.self.now.records.begin = c.begin.ensures ∙ ap (λ u. u.records.begin) c.self.view_is in
+    let begins : c.begin.result ≡ c.args.self.now.records.log.begin = c.begin.ensures ∙ ap (λ u. u.records.log.begin) c.self.view_is in
     rw c.set_phase.ensures (Loads.moved c.in-Some.open l (sym c.in-Some.ensures.value) (loading-is c.in-Some.open.phase l (sym c.in-Some-loading_of.ensures)) (λ e. c.if-loading-begin.true (e ∙ sym begins)) refl refl)
 
 pub receive-requires-clause-awaits : goal.receive-requires-clause-awaits
 receive-requires-clause-awaits g c = record {
   here = sym c.in-Some.ensures.value;
   loading = loading-is c.in-Some.open.phase c.in-Some-loading_of.loading (sym c.in-Some-loading_of.ensures);
-  begin = c.if-loading-begin.false ∙ c.begin.ensures ∙ ap (λ u. u.records.begin) c.self.view_is;
+  begin = c.if-loading-begin.false ∙ c.begin.ensures ∙ ap (λ u. u.records.log.begin) c.self.view_is;
 }
 
 pub returns-then-is_no_memory-clause-effect : goal.returns-then-is_no_memory-clause-effect
@@ -29,7 +29,7 @@ returns-then-is_no_memory-clause-effect g c =
     let a : AwaitsPage c.args.self.now c.args.slot c.args.context c.in-Some.open c.in-Some-loading_of.loading = record {
       here = sym c.in-Some.ensures.value;
       loading = loading-is c.in-Some.open.phase c.in-Some-loading_of.loading (sym c.in-Some-loading_of.ensures);
-      begin = c.if-loading-begin.false ∙ c.begin.ensures ∙ ap (λ u. u.records.begin) c.self.view_is;
+      begin = c.if-loading-begin.false ∙ c.begin.ensures ∙ ap (λ u. u.records.log.begin) c.self.view_is;
     } in
     let is = c.is_no_memory.ensures.0 c.if-is_no_memory.true in
     Loads.unread c.in-Some.open c.in-Some-loading_of.loading a (c.in-Err.is ∙ ap Err is) refl (ap Err is)
@@ -43,7 +43,7 @@ returns-else-is_no_memory-clause-effect g c =
     let a : AwaitsPage c.args.self.now c.args.slot c.args.context c.in-Some.open c.in-Some-loading_of.loading = record {
       here = sym c.in-Some.ensures.value;
       loading = loading-is c.in-Some.open.phase c.in-Some-loading_of.loading (sym c.in-Some-loading_of.ensures);
-      begin = c.if-loading-begin.false ∙ c.begin.ensures ∙ ap (λ u. u.records.begin) c.self.view_is;
+      begin = c.if-loading-begin.false ∙ c.begin.ensures ∙ ap (λ u. u.records.log.begin) c.self.view_is;
     } in
     rw c.free.ensures (Loads.failed c.in-Some.open c.in-Some-loading_of.loading c.in-Err.refused a c.in-Err.is (λ e. let memory = c.is_no_memory.ensures.1 e in let bad : false ≡ true = sym c.if-is_no_memory.false ∙ memory in cc) refl refl)
 
@@ -56,7 +56,7 @@ returns-in-Ok-clause-within g c = if-all c.receive.result (c.in-Some.ensures.ses
 pub returns-then-loading-begin-clause-event : goal.returns-then-loading-begin-clause-event
 returns-then-loading-begin-clause-event g c = λ keeps.
     let l = c.in-Some-loading_of.loading in
-    let begins : c.begin.result ≡ c.args.self.now.records.begin = c.begin.ensures ∙ ap (λ u. u.records.begin) c.self.view_is in
+    let begins : c.begin.result ≡ c.args.self.now.records.log.begin = c.begin.ensures ∙ ap (λ u. u.records.log.begin) c.self.view_is in
     rw c.set_phase.ensures (load-moved g.F.Key.Ord.cmp c.args.self.now c.args.slot c.args.context c.args.now c.in-Some.open (sym c.in-Some.ensures.value) g.F.Functions.meaning l (loading-is c.in-Some.open.phase l (sym c.in-Some-loading_of.ensures)) (λ e. c.if-loading-begin.true (e ∙ sym begins)))
 
 pub returns-in_default-clause-effect : goal.returns-in_default-clause-effect

@@ -23,9 +23,9 @@ returns-in_default-loading_of-clause-effect g c =
 pub returns-then-loading-begin-clause-effect : goal.returns-then-loading-begin-clause-effect
 returns-then-loading-begin-clause-effect g c =
     let l = c.in-Some-loading_of.loading in
-    let begins : c.begin-begin.result ≡ c.args.self.now.records.begin = c.begin-begin.ensures ∙ ap (λ u. u.records.begin) c.self.view_is in
+    let begins : c.begin-begin.result ≡ c.args.self.now.records.log.begin = c.begin-begin.ensures ∙ ap (λ u. u.records.log.begin) c.self.view_is in
     let phase = loading-is c.in-Some.open.phase l (sym c.in-Some-loading_of.ensures) in
-    let other : l.begin ≢ c.args.self.now.records.begin = λ e. c.if-loading-begin.true (e ∙ sym begins) in
+    let other : l.begin ≢ c.args.self.now.records.log.begin = λ e. c.if-loading-begin.true (e ∙ sym begins) in
     idle (waits-moved c.args.self.now c.args.slot c.args.context c.in-Some.open l (sym c.in-Some.ensures.value) phase other)
     (λ handed. rw c.set_phase.ensures (Loads.moved c.in-Some.open l (sym c.in-Some.ensures.value) phase other refl refl)) refl
 
@@ -34,9 +34,9 @@ returns-in-Err-clause-effect g c =
     let a : AwaitsPage c.args.self.now c.args.slot c.args.context c.in-Some.open c.in-Some-loading_of.loading = record {
       here = sym c.in-Some.ensures.value;
       loading = loading-is c.in-Some.open.phase c.in-Some-loading_of.loading (sym c.in-Some-loading_of.ensures);
-      begin = c.if-loading-begin.false ∙ c.begin-begin.ensures ∙ ap (λ u. u.records.begin) c.self.view_is;
+      begin = c.if-loading-begin.false ∙ c.begin-begin.ensures ∙ ap (λ u. u.records.log.begin) c.self.view_is;
     } in
-    let page = c.page_of-page.ensures ∙ ap (λ u. page_at u.records.page_bits c.in-Some-loading_of.loading.wanted) c.self.view_is in
+    let page = c.page_of-page.ensures ∙ ap (λ u. page_at u.records.log.bits c.in-Some-loading_of.loading.wanted) c.self.view_is in
     failed c.page_of-page.result c.in-Err.refused (record { operation = c.in-Some.open; loading = c.in-Some-loading_of.loading; awaits = a; page_is = page }) c.in-Err.ensures.counted refl refl
 
 pub returns-in-Ok-clause-effect : goal.returns-in-Ok-clause-effect
@@ -44,9 +44,9 @@ returns-in-Ok-clause-effect g c =
     let a : AwaitsPage c.args.self.now c.args.slot c.args.context c.in-Some.open c.in-Some-loading_of.loading = record {
       here = sym c.in-Some.ensures.value;
       loading = loading-is c.in-Some.open.phase c.in-Some-loading_of.loading (sym c.in-Some-loading_of.ensures);
-      begin = c.if-loading-begin.false ∙ c.begin-begin.ensures ∙ ap (λ u. u.records.begin) c.self.view_is;
+      begin = c.if-loading-begin.false ∙ c.begin-begin.ensures ∙ ap (λ u. u.records.log.begin) c.self.view_is;
     } in
-    let page = c.page_of-page.ensures ∙ ap (λ u. page_at u.records.page_bits c.in-Some-loading_of.loading.wanted) c.self.view_is in
+    let page = c.page_of-page.ensures ∙ ap (λ u. page_at u.records.log.bits c.in-Some-loading_of.loading.wanted) c.self.view_is in
     came c.page_of-page.result c.in-Ok.loaded (record { operation = c.in-Some.open; loading = c.in-Some-loading_of.loading; awaits = a; page_is = page })
     c.in-Ok.ensures.own c.resume_look_up.ensures.effect c.in-Ok.ensures.steady
 
@@ -70,9 +70,9 @@ returns-in-Err-clause-unread g c = λ none.
     let a : AwaitsPage c.args.self.now c.args.slot c.args.context c.in-Some.open c.in-Some-loading_of.loading = record {
       here = sym c.in-Some.ensures.value;
       loading = loading-is c.in-Some.open.phase c.in-Some-loading_of.loading (sym c.in-Some-loading_of.ensures);
-      begin = c.if-loading-begin.false ∙ c.begin-begin.ensures ∙ ap (λ u. u.records.begin) c.self.view_is;
+      begin = c.if-loading-begin.false ∙ c.begin-begin.ensures ∙ ap (λ u. u.records.log.begin) c.self.view_is;
     } in
-    let page = c.page_of-page.ensures ∙ ap (λ u. page_at u.records.page_bits c.in-Some-loading_of.loading.wanted) c.self.view_is in
+    let page = c.page_of-page.ensures ∙ ap (λ u. page_at u.records.log.bits c.in-Some-loading_of.loading.wanted) c.self.view_is in
     absurd (none c.page_of-page.result (record { operation = c.in-Some.open; loading = c.in-Some-loading_of.loading; awaits = a; page_is = page }))
 
 pub returns-in-Ok-clause-unread : goal.returns-in-Ok-clause-unread
@@ -80,9 +80,9 @@ returns-in-Ok-clause-unread g c = λ none.
     let a : AwaitsPage c.args.self.now c.args.slot c.args.context c.in-Some.open c.in-Some-loading_of.loading = record {
       here = sym c.in-Some.ensures.value;
       loading = loading-is c.in-Some.open.phase c.in-Some-loading_of.loading (sym c.in-Some-loading_of.ensures);
-      begin = c.if-loading-begin.false ∙ c.begin-begin.ensures ∙ ap (λ u. u.records.begin) c.self.view_is;
+      begin = c.if-loading-begin.false ∙ c.begin-begin.ensures ∙ ap (λ u. u.records.log.begin) c.self.view_is;
     } in
-    let page = c.page_of-page.ensures ∙ ap (λ u. page_at u.records.page_bits c.in-Some-loading_of.loading.wanted) c.self.view_is in
+    let page = c.page_of-page.ensures ∙ ap (λ u. page_at u.records.log.bits c.in-Some-loading_of.loading.wanted) c.self.view_is in
     absurd (none c.page_of-page.result (record { operation = c.in-Some.open; loading = c.in-Some-loading_of.loading; awaits = a; page_is = page }))
 
 pub read-requires : goal.read-requires
@@ -93,21 +93,21 @@ read-requires g c =
     let a : AwaitsPage c.args.self.now c.args.slot c.args.context c.in-Some.open c.in-Some-loading_of.loading = record {
       here = sym c.in-Some.ensures.value;
       loading = loading-is c.in-Some.open.phase c.in-Some-loading_of.loading (sym c.in-Some-loading_of.ensures);
-      begin = c.if-loading-begin.false ∙ c.begin-begin.ensures ∙ ap (λ u. u.records.begin) c.self.view_is;
+      begin = c.if-loading-begin.false ∙ c.begin-begin.ensures ∙ ap (λ u. u.records.log.begin) c.self.view_is;
     } in
-    let page = c.page_of-page.ensures ∙ ap (λ u. page_at u.records.page_bits c.in-Some-loading_of.loading.wanted) c.self.view_is in
+    let page = c.page_of-page.ensures ∙ ap (λ u. page_at u.records.log.bits c.in-Some-loading_of.loading.wanted) c.self.view_is in
     record { flushed = rw page (wanted-flushed g.F.Key.Ord.cmp g.F.Mergeable.parts.joined g.F.Functions.code order c.args.self.now c.known.ensures c.args.slot c.args.context c.in-Some.open c.in-Some-loading_of.loading a) }
 
 pub resume_look_up-requires-clause-awaits : goal.resume_look_up-requires-clause-awaits
 resume_look_up-requires-clause-awaits g c = record {
   here = sym c.in-Some.ensures.value;
   loading = loading-is c.in-Some.open.phase c.in-Some-loading_of.loading (sym c.in-Some-loading_of.ensures);
-  begin = c.if-loading-begin.false ∙ c.begin-begin.ensures ∙ ap (λ u. u.records.begin) c.self.view_is;
+  begin = c.if-loading-begin.false ∙ c.begin-begin.ensures ∙ ap (λ u. u.records.log.begin) c.self.view_is;
 }
 
 pub resume_look_up-requires-clause-own : goal.resume_look_up-requires-clause-own
 resume_look_up-requires-clause-own g c =
-    let page = c.page_of-page.ensures ∙ ap (λ u. page_at u.records.page_bits c.in-Some-loading_of.loading.wanted) c.self.view_is in
+    let page = c.page_of-page.ensures ∙ ap (λ u. page_at u.records.log.bits c.in-Some-loading_of.loading.wanted) c.self.view_is in
     rw page at c.in-Ok.ensures.own
 
 pub returns-in-Ok-clause-within : goal.returns-in-Ok-clause-within
@@ -116,7 +116,7 @@ returns-in-Ok-clause-within g c = if-all c.resume_look_up.result (c.in-Some.ensu
 pub returns-then-loading-begin-clause-event : goal.returns-then-loading-begin-clause-event
 returns-then-loading-begin-clause-event g c = λ keeps.
     let l = c.in-Some-loading_of.loading in
-    let begins : c.begin-begin.result ≡ c.args.self.now.records.begin = c.begin-begin.ensures ∙ ap (λ u. u.records.begin) c.self.view_is in
+    let begins : c.begin-begin.result ≡ c.args.self.now.records.log.begin = c.begin-begin.ensures ∙ ap (λ u. u.records.log.begin) c.self.view_is in
     rw c.set_phase.ensures (load-moved g.F.Key.Ord.cmp c.args.self.now c.args.slot c.args.context c.args.now c.in-Some.open (sym c.in-Some.ensures.value) g.F.Functions.meaning l (loading-is c.in-Some.open.phase l (sym c.in-Some-loading_of.ensures)) (λ e. c.if-loading-begin.true (e ∙ sym begins)))
 
 pub returns-in_default-clause-moment : goal.returns-in_default-clause-moment

@@ -49,12 +49,12 @@ module _ {K V I O : Type 0} (cmp : K → K → Ordering) (join : V → V → V) 
 
   append-none : (w : Payload V) (a : Answer O) → d ≡ Append w a → ⊥
   append-none w a is =
-      let no : IsSome {T = ℕ} None = append-entry f op join None v.records.begin (seen_at v slot) (record { parts = None; position = Below 1 }) w a (decided-none (Append w a) is) in
+      let no : IsSome {T = ℕ} None = append-entry f op join None v.records.log.begin (seen_at v slot) (record { parts = None; position = Below 1 }) w a (decided-none (Append w a) is) in
       cc
 
   prepare-none : (s : Option V) (i : I) → d ≡ Prepare s i → ⊥
   prepare-none s i is =
-      let no : IsSome {T = ℕ} None = prepare-entry f op join None v.records.begin (seen_at v slot) (record { parts = None; position = Below 1 }) s i (decided-none (Prepare s i) is) in
+      let no : IsSome {T = ℕ} None = prepare-entry f op join None v.records.log.begin (seen_at v slot) (record { parts = None; position = Below 1 }) s i (decided-none (Prepare s i) is) in
       cc
 
   load-none : (b : ℕ) (parts : Option V) → d ≡ Load b parts → ⊥
@@ -67,7 +67,7 @@ found-stands code v key None e is stands = absurd (cc)
 
 -- what is changed in place is the record that was read first
 module _ {K V I O : Type 0} {keeps : Bool} (cmp : K → K → Ordering) (join : V → V → V) (f : Meanings K V I O) (code : K → ℕ) (v : CoreView K V I) (slot c : ℕ) (x : Context K V I) (key : K) (first : ChainPosition K V) (order : IsKeyOrder cmp) (s : IsSound keeps cmp join code v) (here : context_at v slot c ≡ Some x) (own : key ≡ key_of x.op) (read : first ≡ newest_in_memory cmp code v slot key (entry_for code v key))
-    (firsts : (keeps : Bool) (cmp : K → K → Ordering) (join : V → V → V) (code : K → ℕ) (v : RecordsView K V) (k : K) (low a : ℕ) → IsKeyOrder cmp → IsTraced keeps code v → IsStood cmp join v → entry_of v (class_in code v k) ≡ Some a → v.from ≤ low → StartsAt (newest_above cmp code v low k a) (looked_up cmp join code v low k a))
+    (firsts : (keeps : Bool) (cmp : K → K → Ordering) (join : V → V → V) (code : K → ℕ) (v : RecordsView K V) (k : K) (low a : ℕ) → IsKeyOrder cmp → IsTraced keeps code v → IsStood cmp join v → entry_of v (class_in code v k) ≡ Some a → v.log.from ≤ low → StartsAt (newest_above cmp code v low k a) (looked_up cmp join code v low k a))
     (value : Option V) (told : Answer O) (d : Decision V I O) (met : d ≡ decision f x.op (met_at cmp join code v slot (key_of x.op))) (is : d ≡ Replace value told) where
   inside-here : is_session (slots_of v) slot ≡ true
   inside-here = (key_at (slots_of v) v.contexts slot c x here).inside
@@ -75,8 +75,8 @@ module _ {K V I O : Type 0} {keeps : Bool} (cmp : K → K → Ordering) (join : 
   first-here : first ≡ newest_in_memory cmp code v slot (key_of x.op) (entry_for code v (key_of x.op))
   first-here = read ∙ ap (λ k. newest_in_memory cmp code v slot k (entry_for code v k)) own
 
-  tells-here : (a : ℕ) → entry_for code v (key_of x.op) ≡ Some a → StartsAt (newest_above cmp code v.records (low_of v.records.begin (seen_at v slot)) (key_of x.op) a) (looked_up cmp join code v.records (low_of v.records.begin (seen_at v slot)) (key_of x.op) a)
-  tells-here a entry = firsts keeps cmp join code v.records (key_of x.op) (low_of v.records.begin (seen_at v slot)) a order s.traced s.stood entry (seen-begun v slot s.traced inside-here)
+  tells-here : (a : ℕ) → entry_for code v (key_of x.op) ≡ Some a → StartsAt (newest_above cmp code v.records (low_of v.records.log.begin (seen_at v slot)) (key_of x.op) a) (looked_up cmp join code v.records (low_of v.records.log.begin (seen_at v slot)) (key_of x.op) a)
+  tells-here a entry = firsts keeps cmp join code v.records (key_of x.op) (low_of v.records.log.begin (seen_at v slot)) a order s.traced s.stood entry (seen-begun v slot s.traced inside-here)
 
   replace-found : (b : ℕ) → first ≡ Below b → ⊥
   replace-found b below =
@@ -85,7 +85,7 @@ module _ {K V I O : Type 0} {keeps : Bool} (cmp : K → K → Ordering) (join : 
       let no : Below b ≡ Found m.entry = sym below ∙ first-here ∙ m.is in
       cc
 
-  module _ (mutables : (keeps : Bool) (cmp : K → K → Ordering) (join : V → V → V) (code : K → ℕ) (v : RecordsView K V) (k : K) (slot : ℕ) (w : V) → IsKeyOrder cmp → IsTraced keeps code v → IsStood cmp join v → IsTrue (is_entered v.regions.epochs slot) → meeting.met_at cmp join code v (view_at v.regions.views slot) k ≡ Mutable w → IsMetAt cmp join code v (view_at v.regions.views slot) k w region.Mutable)
+  module _ (mutables : (keeps : Bool) (cmp : K → K → Ordering) (join : V → V → V) (code : K → ℕ) (v : RecordsView K V) (k : K) (slot : ℕ) (w : V) → IsKeyOrder cmp → IsTraced keeps code v → IsStood cmp join v → IsTrue (is_entered v.log.regions.epochs slot) → meeting.met_at cmp join code v (view_at v.log.regions.views slot) k ≡ Mutable w → IsMetAt cmp join code v (view_at v.log.regions.views slot) k w region.Mutable)
       (last : Entry K V) (found : first ≡ Found last) where
     mutable-here : (w : V) × IsMetAt cmp join code v.records (seen_at v slot) (key_of x.op) w region.Mutable
     mutable-here = replaced-at cmp join f code v slot x.op value told (λ w. mutables keeps cmp join code v.records (key_of x.op) slot w order s.traced s.stood inside-here) (sym met ∙ is)

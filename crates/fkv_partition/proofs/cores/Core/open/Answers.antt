@@ -19,7 +19,7 @@ operation_at-requires-clause-places g c = ap length c.deref.ensures.value ∙ c.
 
 pub returns-clause-value : goal.returns-clause-value
 returns-clause-value g c =
-    let slots = c.self.inside.records.regions.epochs.slots in
+    let slots = c.self.inside.records.log.regions.epochs.slots in
     let contexts = c.self.inside.contexts.items in
     let i = c.args.slot * 8 + c.args.context in
     c.operation_at.ensures.value

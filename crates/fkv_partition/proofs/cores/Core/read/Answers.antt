@@ -1,15 +1,15 @@
-use Rattle.std.proofs.Common.{◌<◌, length, sym, subst}
+use Rattle.std.proofs.Common.{sym, subst}
 use Rattle.std.proofs.lemmas.Result.{IfOk-weaker, IfErr-weaker}
 use Rattle.fkv_hybrid.specs.Loads.{HasReceipt, IsHeldBy}
 use Rattle.fkv_functions.proofs.CallLemmas.{with_six}
 use Rattle.fkv_partition.proofs.cores.Core.read.Goals as goal
 
 pub receipt-requires-whole : goal.receipt-requires-whole
-receipt-requires-whole g c κs = with_six (subst (λ v. HasReceipt v.records.receipts c.args.page) (sym c.self.view_is) c.requires.flushed)
+receipt-requires-whole g c κs = with_six (subst (λ v. HasReceipt v.records.log.receipts c.args.page) (sym c.self.view_is) c.requires.flushed)
 
 pub returns-clause-own : goal.returns-clause-own
 returns-clause-own g c =
-    let kept = subst (λ v. IsHeldBy v.records.receipts c.args.page (g.R.Receipt.stands c.in-Ok.receipt)) c.self.view_is c.in-Ok.ensures.stands in
+    let kept = subst (λ v. IsHeldBy v.records.log.receipts c.args.page (g.R.Receipt.stands c.in-Ok.receipt)) c.self.view_is c.in-Ok.ensures.stands in
     IfOk-weaker c.fetch.result _ _ (λ l is. rw (← is) at kept) c.fetch.ensures.receipt
 
 pub returns-clause-counted : goal.returns-clause-counted

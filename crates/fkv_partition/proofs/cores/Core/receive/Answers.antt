@@ -1,4 +1,4 @@
-use Rattle.std.proofs.Common.{◌<◌, Err, length, refl, sym, ap, subst}
+use Rattle.std.proofs.Common.{Err, refl, sym, ap, subst}
 use Rattle.std.proofs.Math.Nat.{le_of_lt}
 use Rattle.fkv_functions.proofs.KeyOrder.{key_order}
 use Rattle.fkv_functions.proofs.CallLemmas.{with_six}
@@ -22,7 +22,7 @@ is_own-requires-whole g c κs =
     let p = c.args.loaded in
     let there = wanted-flushed g.F.Key.Ord.cmp g.F.Mergeable.parts.joined g.F.Functions.code order v c.known.ensures c.args.slot c.args.context x l a in
     with_six (
-    rw c.page_of-page.ensures (subst (λ u. HasReceipt u.records.receipts (page_at u.records.page_bits l.wanted)) (sym c.self.view_is) there))
+    rw c.page_of-page.ensures (subst (λ u. HasReceipt u.records.log.receipts (page_at u.records.log.bits l.wanted)) (sym c.self.view_is) there))
 
 pub returns-in-Err-clause-effect : goal.returns-in-Err-clause-effect
 returns-in-Err-clause-effect g c =
@@ -43,7 +43,7 @@ returns-in-Err-clause-moment g c = le_of_lt c.requires.later
 
 pub resume_look_up-requires-clause-own : goal.resume_look_up-requires-clause-own
 resume_look_up-requires-clause-own g c =
-    subst (λ v. IsHeldBy v.records.receipts (page_at v.records.page_bits c.args.loading.wanted) (g.R.Receipt.stands c.args.loaded.receipt)) c.self.view_is
+    subst (λ v. IsHeldBy v.records.log.receipts (page_at v.records.log.bits c.args.loading.wanted) (g.R.Receipt.stands c.args.loaded.receipt)) c.self.view_is
     (rw c.page_of-page.ensures at (c.in_default.ensures.own.0 refl))
 
 pub resume_look_up-requires-clause-awaits : goal.resume_look_up-requires-clause-awaits

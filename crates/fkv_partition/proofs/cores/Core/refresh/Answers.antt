@@ -10,11 +10,11 @@ use Rattle.fkv_partition.proofs.cores.Core.refresh.Goals as goal
 pub returns-in-Err-clause-effect : goal.returns-in-Err-clause-effect
 returns-in-Err-clause-effect g c =
     let made = c.in-Err.ensures in
-    rw (made.refused.1, ← c.self.view_is) (unknown (not-entered c.self.inside.records.regions.epochs.slots c.args.slot (λ e. let bad = made.unknown.1 e in cc)) refl (ap Err made.refused.0))
+    rw (made.refused.1, ← c.self.view_is) (unknown (not-entered c.self.inside.records.log.regions.epochs.slots c.args.slot (λ e. let bad = made.unknown.1 e in cc)) refl (ap Err made.refused.0))
 
 pub invariant_of-self-2 : goal.invariant_of-self-2
 invariant_of-self-2 g c =
-    let was = c.self.inside.records.regions in
+    let was = c.self.inside.records.log.regions in
     let made = c.in-Ok.ensures in
     sound-moved c.self.invariant c.refresh.new.self _ c.args.now c.known.ensures.traced c.known.ensures.stood made.effect made.raised
     (λ t d x low here. slots-moved c.self.inside.records c.refresh.new.self _ t made.effect (renewed-stays was.epochs.slots c.args.slot t was.epochs.epoch (c.self.invariant.housed t d x low here)))

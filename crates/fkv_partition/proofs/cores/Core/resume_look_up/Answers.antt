@@ -5,7 +5,7 @@ use Rattle.fkv_records.specs.Places.{page_at, IsRecordStart}
 use Rattle.fkv_texts.specs.declared.entries.ChainPosition.TheVariants.{Found, Below}
 use Rattle.fkv_texts.specs.Deltas.{onto}
 use Rattle.fkv_hybrid.specs.Spelled.{IsEntryIn}
-use Rattle.fkv_hybrid.specs.Loads.{HasReceipt, IsHeldBy}
+use Rattle.fkv_hybrid.specs.Loads.{IsHeldBy}
 use Rattle.fkv_operations.specs.After.{key_of}
 use Rattle.fkv_hybrid.proofs.ReceiptLemmas.{receipt-within}
 use Rattle.fkv_partition.specs.CoreContexts.{claim_by}
@@ -31,11 +31,11 @@ first_of-low-requires-whole g c κs =
     let p = c.args.loaded in
     let there = wanted-flushed g.F.Key.Ord.cmp g.F.Mergeable.parts.joined g.F.Functions.code order v c.known.ensures c.args.slot c.args.context x l a in
     with_six (
-    rw c.page_of-page.ensures (subst (λ u. page_at u.records.page_bits l.wanted < length u.records.receipts) (sym c.self.view_is) (receipt-within _ _ there)))
+    rw c.page_of-page.ensures (subst (λ u. page_at u.records.log.bits l.wanted < length u.records.log.receipts) (sym c.self.view_is) (receipt-within _ _ there)))
 
 pub trace_in-requires-clause-own : goal.trace_in-requires-clause-own
 trace_in-requires-clause-own g c =
-    subst (λ v. IsHeldBy v.records.receipts (page_at v.records.page_bits c.args.loading.wanted) (g.R.Receipt.stands c.args.loaded.receipt)) (sym c.self.view_is) c.requires.own
+    subst (λ v. IsHeldBy v.records.log.receipts (page_at v.records.log.bits c.args.loading.wanted) (g.R.Receipt.stands c.args.loaded.receipt)) (sym c.self.view_is) c.requires.own
 
 pub trace_in-requires-clause-floor : goal.trace_in-requires-clause-floor
 trace_in-requires-clause-floor g c =
@@ -61,7 +61,7 @@ returns-in-Err-clause-effect g c =
     let a = c.requires.awaits in
     let p = c.args.loaded in
     let came = came-of g.R.Receipt.keeps (IsEntryIn g.F.Key.Fixed.codec g.F.Value.Fixed.codec) g.F.Key.Ord.cmp g.F.Mergeable.parts.joined g.F.Functions.code (view_of g.F.Mergeable.MERGES c.self.inside.number c.self.inside.count c.self.inside.records c.self.inside.contexts.items c.self.inside.moment) v c.key-key.result (key_of x.op) c.page_of-page.result c.first_of-low.result l.wanted l.parts (g.R.Receipt.stands p.receipt) p.bytes c.trace_in.result c.self.view_is c.key-key.ensures c.page_of-page.ensures c.first_of-low.ensures c.requires.own c.trace_in.ensures.read c.trace_in.ensures.kept in
-    let page : c.page_of-page.result ≡ page_at v.records.page_bits l.wanted = c.page_of-page.ensures ∙ ap (λ u. page_at u.records.page_bits l.wanted) c.self.view_is in
+    let page : c.page_of-page.result ≡ page_at v.records.log.bits l.wanted = c.page_of-page.ensures ∙ ap (λ u. page_at u.records.log.bits l.wanted) c.self.view_is in
     rw (c.free.ensures, page) (Loads.damaged x l p c.in-Err._damaged (reads-on g.F.Key.Ord.cmp g.F.Mergeable.parts.joined g.F.Functions.code order v c.known.ensures c.args.slot c.args.context x l a (IsEntryIn g.F.Key.Fixed.codec g.F.Value.Fixed.codec) (g.R.Receipt.stands p.receipt) p.bytes c.trace_in.result came (Err c.in-Err._damaged) c.in-Err.is) refl refl refl)
 
 pub tell-requires-clause-asks : goal.tell-requires-clause-asks
@@ -104,7 +104,7 @@ returns-in-Found-clause-effect g c =
     let came = came-of g.R.Receipt.keeps (IsEntryIn g.F.Key.Fixed.codec g.F.Value.Fixed.codec) g.F.Key.Ord.cmp g.F.Mergeable.parts.joined g.F.Functions.code (view_of g.F.Mergeable.MERGES c.self.inside.number c.self.inside.count c.self.inside.records c.self.inside.contexts.items c.self.inside.moment) v c.key-key.result (key_of x.op) c.page_of-page.result c.first_of-low.result l.wanted l.parts (g.R.Receipt.stands p.receipt) p.bytes c.trace_in.result c.self.view_is c.key-key.ensures c.page_of-page.ensures c.first_of-low.ensures c.requires.own c.trace_in.ensures.read c.trace_in.ensures.kept in
     let parts = c.in-Ok.came.parts in
     let is = c.in-Ok.is ∙ ap (λ q. Ok (record { parts = parts; position = q })) c.in-Found.is in
-    let tells : Tells g.F.Mergeable.parts.joined v.records.begin (record { parts = parts; position = Found c.in-Found.last }) c.onto-value.result = rw (c.onto-value.ensures, c.in-Found.last-is) (found c.in-Found.last parts) in
+    let tells : Tells g.F.Mergeable.parts.joined v.records.log.begin (record { parts = parts; position = Found c.in-Found.last }) c.onto-value.result = rw (c.onto-value.ensures, c.in-Found.last-is) (found c.in-Found.last parts) in
     told-done g.R.Receipt.stands (IsEntryIn g.F.Key.Fixed.codec g.F.Value.Fixed.codec) g.F.Key.Ord.cmp g.F.Mergeable.parts.joined g.F.Functions.meaning v c.tell.new.self c.args.slot c.args.context c.args.now x l p c.onto-value.result c.tell.result (may-load g.F.Key.Ord.cmp g.F.Mergeable.parts.joined g.F.Functions.code order v c.known.ensures c.args.slot c.args.context x l a)
     (record { reached = (record { parts = parts; position = Found c.in-Found.last }); reads = reads-on g.F.Key.Ord.cmp g.F.Mergeable.parts.joined g.F.Functions.code order v c.known.ensures c.args.slot c.args.context x l a (IsEntryIn g.F.Key.Fixed.codec g.F.Value.Fixed.codec) (g.R.Receipt.stands p.receipt) p.bytes c.trace_in.result came (Ok (record { parts = parts; position = Found c.in-Found.last })) is; tells = tells })
     c.tell.ensures.read c.tell.ensures.update
@@ -135,8 +135,8 @@ tell-requires-then-address-begin-clause-kept g c =
     let parts = c.in-Ok.came.parts in
     let b = c.in-Below.address in
     let is = c.in-Ok.is ∙ ap (λ q. Ok (record { parts = parts; position = q })) c.in-Below.is in
-    let begins : c.begin.result ≡ v.records.begin = c.begin.ensures ∙ ap (λ u. u.records.begin) c.self.view_is in
-    let under : b < v.records.begin = omega (arith, c.if-address-begin.true, begins) in
+    let begins : c.begin.result ≡ v.records.log.begin = c.begin.ensures ∙ ap (λ u. u.records.log.begin) c.self.view_is in
+    let under : b < v.records.log.begin = omega (arith, c.if-address-begin.true, begins) in
     kept-told g.F.Key.Ord.cmp g.F.Mergeable.parts.joined g.F.Functions.code order v c.known.ensures c.args.slot c.args.context x l a (IsEntryIn g.F.Key.Fixed.codec g.F.Value.Fixed.codec) (g.R.Receipt.stands p.receipt) p.bytes c.trace_in.result came (record { parts = parts; position = Below b }) parts is (ended b parts under)
 
 pub returns-then-address-begin-clause-effect : goal.returns-then-address-begin-clause-effect
@@ -153,8 +153,8 @@ returns-then-address-begin-clause-effect g c =
     let parts = c.in-Ok.came.parts in
     let b = c.in-Below.address in
     let is = c.in-Ok.is ∙ ap (λ q. Ok (record { parts = parts; position = q })) c.in-Below.is in
-    let begins : c.begin.result ≡ v.records.begin = c.begin.ensures ∙ ap (λ u. u.records.begin) c.self.view_is in
-    let under : b < v.records.begin = omega (arith, c.if-address-begin.true, begins) in
+    let begins : c.begin.result ≡ v.records.log.begin = c.begin.ensures ∙ ap (λ u. u.records.log.begin) c.self.view_is in
+    let under : b < v.records.log.begin = omega (arith, c.if-address-begin.true, begins) in
     told-done g.R.Receipt.stands (IsEntryIn g.F.Key.Fixed.codec g.F.Value.Fixed.codec) g.F.Key.Ord.cmp g.F.Mergeable.parts.joined g.F.Functions.meaning v c.tell-then-address-begin.new.self c.args.slot c.args.context c.args.now x l p parts c.tell-then-address-begin.result (may-load g.F.Key.Ord.cmp g.F.Mergeable.parts.joined g.F.Functions.code order v c.known.ensures c.args.slot c.args.context x l a)
     (record { reached = (record { parts = parts; position = Below b }); reads = reads-on g.F.Key.Ord.cmp g.F.Mergeable.parts.joined g.F.Functions.code order v c.known.ensures c.args.slot c.args.context x l a (IsEntryIn g.F.Key.Fixed.codec g.F.Value.Fixed.codec) (g.R.Receipt.stands p.receipt) p.bytes c.trace_in.result came (Ok (record { parts = parts; position = Below b })) is; tells = ended b parts under })
     c.tell-then-address-begin.ensures.read c.tell-then-address-begin.ensures.update
@@ -179,13 +179,13 @@ returns-then-not-is_record_start-clause-effect g c =
     let a = c.requires.awaits in
     let p = c.args.loaded in
     let came = came-of g.R.Receipt.keeps (IsEntryIn g.F.Key.Fixed.codec g.F.Value.Fixed.codec) g.F.Key.Ord.cmp g.F.Mergeable.parts.joined g.F.Functions.code (view_of g.F.Mergeable.MERGES c.self.inside.number c.self.inside.count c.self.inside.records c.self.inside.contexts.items c.self.inside.moment) v c.key-key.result (key_of x.op) c.page_of-page.result c.first_of-low.result l.wanted l.parts (g.R.Receipt.stands p.receipt) p.bytes c.trace_in.result c.self.view_is c.key-key.ensures c.page_of-page.ensures c.first_of-low.ensures c.requires.own c.trace_in.ensures.read c.trace_in.ensures.kept in
-    let page : c.page_of-page.result ≡ page_at v.records.page_bits l.wanted = c.page_of-page.ensures ∙ ap (λ u. page_at u.records.page_bits l.wanted) c.self.view_is in
+    let page : c.page_of-page.result ≡ page_at v.records.log.bits l.wanted = c.page_of-page.ensures ∙ ap (λ u. page_at u.records.log.bits l.wanted) c.self.view_is in
     let parts = c.in-Ok.came.parts in
     let b = c.in-Below.address in
     let is = c.in-Ok.is ∙ ap (λ q. Ok (record { parts = parts; position = q })) c.in-Below.is in
-    let begins : c.begin.result ≡ v.records.begin = c.begin.ensures ∙ ap (λ u. u.records.begin) c.self.view_is in
-    let high : v.records.begin ≤ b = omega (arith, c.if-address-begin.false, begins) in
-    let bad_link : ¬ IsRecordStart v.records.page_bits v.records.record_size b = (λ h. let yes_place = c.is_record_start.ensures.1 (subst (λ u. IsRecordStart u.records.page_bits u.records.record_size b) (sym c.self.view_is) h) in let bad : false ≡ true = sym c.if-not-is_record_start.true ∙ yes_place in cc) in
+    let begins : c.begin.result ≡ v.records.log.begin = c.begin.ensures ∙ ap (λ u. u.records.log.begin) c.self.view_is in
+    let high : v.records.log.begin ≤ b = omega (arith, c.if-address-begin.false, begins) in
+    let bad_link : ¬ IsRecordStart v.records.log.bits v.records.record_size b = (λ h. let yes_place = c.is_record_start.ensures.1 (subst (λ u. IsRecordStart u.records.log.bits u.records.record_size b) (sym c.self.view_is) h) in let bad : false ≡ true = sym c.if-not-is_record_start.true ∙ yes_place in cc) in
     rw (c.free-then-not-is_record_start.ensures, page) (Loads.bad_link x l p b parts (reads-on g.F.Key.Ord.cmp g.F.Mergeable.parts.joined g.F.Functions.code order v c.known.ensures c.args.slot c.args.context x l a (IsEntryIn g.F.Key.Fixed.codec g.F.Value.Fixed.codec) (g.R.Receipt.stands p.receipt) p.bytes c.trace_in.result came (Ok (record { parts = parts; position = Below b })) is) refl high bad_link refl refl)
 
 pub look_further-requires-clause-asks : goal.look_further-requires-clause-asks
@@ -214,8 +214,8 @@ look_further-requires-clause-flushed g c =
     let parts = c.in-Ok.came.parts in
     let b = c.in-Below.address in
     let is = c.in-Ok.is ∙ ap (λ q. Ok (record { parts = parts; position = q })) c.in-Below.is in
-    let begins : c.begin.result ≡ v.records.begin = c.begin.ensures ∙ ap (λ u. u.records.begin) c.self.view_is in
-    let high : v.records.begin ≤ b = omega (arith, c.if-address-begin.false, begins) in
+    let begins : c.begin.result ≡ v.records.log.begin = c.begin.ensures ∙ ap (λ u. u.records.log.begin) c.self.view_is in
+    let high : v.records.log.begin ≤ b = omega (arith, c.if-address-begin.false, begins) in
     further-flushed g.F.Key.Ord.cmp g.F.Mergeable.parts.joined g.F.Functions.code order v c.known.ensures c.args.slot c.args.context x l a (IsEntryIn g.F.Key.Fixed.codec g.F.Value.Fixed.codec) (g.R.Receipt.stands p.receipt) p.bytes c.trace_in.result came b parts is high
 
 pub look_further-requires-clause-stands : goal.look_further-requires-clause-stands
@@ -232,8 +232,8 @@ look_further-requires-clause-stands g c =
     let parts = c.in-Ok.came.parts in
     let b = c.in-Below.address in
     let is = c.in-Ok.is ∙ ap (λ q. Ok (record { parts = parts; position = q })) c.in-Below.is in
-    let begins : c.begin.result ≡ v.records.begin = c.begin.ensures ∙ ap (λ u. u.records.begin) c.self.view_is in
-    let high : v.records.begin ≤ b = omega (arith, c.if-address-begin.false, begins) in
+    let begins : c.begin.result ≡ v.records.log.begin = c.begin.ensures ∙ ap (λ u. u.records.log.begin) c.self.view_is in
+    let high : v.records.log.begin ≤ b = omega (arith, c.if-address-begin.false, begins) in
     further-stands g.F.Key.Ord.cmp g.F.Mergeable.parts.joined g.F.Functions.code order v c.known.ensures c.args.slot c.args.context x l a (IsEntryIn g.F.Key.Fixed.codec g.F.Value.Fixed.codec) (g.R.Receipt.stands p.receipt) p.bytes c.trace_in.result came b parts is high
 
 pub returns-clause-effect : goal.returns-clause-effect
@@ -250,9 +250,9 @@ returns-clause-effect g c =
     let parts = c.in-Ok.came.parts in
     let b = c.in-Below.address in
     let is = c.in-Ok.is ∙ ap (λ q. Ok (record { parts = parts; position = q })) c.in-Below.is in
-    let begins : c.begin.result ≡ v.records.begin = c.begin.ensures ∙ ap (λ u. u.records.begin) c.self.view_is in
-    let high : v.records.begin ≤ b = omega (arith, c.if-address-begin.false, begins) in
-    let place = subst (λ u. IsRecordStart u.records.page_bits u.records.record_size b) c.self.view_is (c.is_record_start.ensures.0 c.if-not-is_record_start.false) in
+    let begins : c.begin.result ≡ v.records.log.begin = c.begin.ensures ∙ ap (λ u. u.records.log.begin) c.self.view_is in
+    let high : v.records.log.begin ≤ b = omega (arith, c.if-address-begin.false, begins) in
+    let place = subst (λ u. IsRecordStart u.records.log.bits u.records.record_size b) c.self.view_is (c.is_record_start.ensures.0 c.if-not-is_record_start.false) in
     further-done g.R.Receipt.stands (IsEntryIn g.F.Key.Fixed.codec g.F.Value.Fixed.codec) g.F.Key.Ord.cmp g.F.Mergeable.parts.joined g.F.Functions.meaning v c.look_further.new.self c.args.slot c.args.context c.args.now x l p b parts (reads-on g.F.Key.Ord.cmp g.F.Mergeable.parts.joined g.F.Functions.code order v c.known.ensures c.args.slot c.args.context x l a (IsEntryIn g.F.Key.Fixed.codec g.F.Value.Fixed.codec) (g.R.Receipt.stands p.receipt) p.bytes c.trace_in.result came (Ok (record { parts = parts; position = Below b })) is) high place c.look_further.result c.look_further.ensures.asked c.look_further.ensures.effect c.look_further.ensures.only c.look_further.ensures.unchanged
 
 pub returns-in-Found-clause-event : goal.returns-in-Found-clause-event
@@ -268,7 +268,7 @@ returns-in-Found-clause-event g c = λ keeps.
     let came = came-of g.R.Receipt.keeps (IsEntryIn g.F.Key.Fixed.codec g.F.Value.Fixed.codec) g.F.Key.Ord.cmp g.F.Mergeable.parts.joined g.F.Functions.code (view_of g.F.Mergeable.MERGES c.self.inside.number c.self.inside.count c.self.inside.records c.self.inside.contexts.items c.self.inside.moment) v c.key-key.result (key_of x.op) c.page_of-page.result c.first_of-low.result l.wanted l.parts (g.R.Receipt.stands p.receipt) p.bytes c.trace_in.result c.self.view_is c.key-key.ensures c.page_of-page.ensures c.first_of-low.ensures c.requires.own c.trace_in.ensures.read c.trace_in.ensures.kept in
     let parts = c.in-Ok.came.parts in
     let is = c.in-Ok.is ∙ ap (λ q. Ok (record { parts = parts; position = q })) c.in-Found.is in
-    let tells : Tells g.F.Mergeable.parts.joined v.records.begin (record { parts = parts; position = Found c.in-Found.last }) c.onto-value.result = rw (c.onto-value.ensures, c.in-Found.last-is) (found c.in-Found.last parts) in
+    let tells : Tells g.F.Mergeable.parts.joined v.records.log.begin (record { parts = parts; position = Found c.in-Found.last }) c.onto-value.result = rw (c.onto-value.ensures, c.in-Found.last-is) (found c.in-Found.last parts) in
     load-told g.F.Key.Ord.cmp v c.args.slot c.args.context c.args.now x a.here g.F.Functions.meaning l a c.onto-value.result (newest-told g.F.Key.Ord.cmp g.F.Mergeable.parts.joined g.F.Functions.code order v c.known.ensures c.args.slot c.args.context x l a (IsEntryIn g.F.Key.Fixed.codec g.F.Value.Fixed.codec) (g.R.Receipt.stands p.receipt) p.bytes c.trace_in.result came keeps (record { parts = parts; position = Found c.in-Found.last }) c.onto-value.result is tells) (may-load g.F.Key.Ord.cmp g.F.Mergeable.parts.joined g.F.Functions.code order v c.known.ensures c.args.slot c.args.context x l a) c.tell.new.self c.tell.result c.tell.ensures.read c.tell.ensures.update
 
 pub returns-then-address-begin-clause-event : goal.returns-then-address-begin-clause-event
@@ -285,8 +285,8 @@ returns-then-address-begin-clause-event g c = λ keeps.
     let parts = c.in-Ok.came.parts in
     let b = c.in-Below.address in
     let is = c.in-Ok.is ∙ ap (λ q. Ok (record { parts = parts; position = q })) c.in-Below.is in
-    let begins : c.begin.result ≡ v.records.begin = c.begin.ensures ∙ ap (λ u. u.records.begin) c.self.view_is in
-    let under : b < v.records.begin = omega (arith, c.if-address-begin.true, begins) in
+    let begins : c.begin.result ≡ v.records.log.begin = c.begin.ensures ∙ ap (λ u. u.records.log.begin) c.self.view_is in
+    let under : b < v.records.log.begin = omega (arith, c.if-address-begin.true, begins) in
     load-told g.F.Key.Ord.cmp v c.args.slot c.args.context c.args.now x a.here g.F.Functions.meaning l a parts (newest-told g.F.Key.Ord.cmp g.F.Mergeable.parts.joined g.F.Functions.code order v c.known.ensures c.args.slot c.args.context x l a (IsEntryIn g.F.Key.Fixed.codec g.F.Value.Fixed.codec) (g.R.Receipt.stands p.receipt) p.bytes c.trace_in.result came keeps (record { parts = parts; position = Below b }) parts is (ended b parts under)) (may-load g.F.Key.Ord.cmp g.F.Mergeable.parts.joined g.F.Functions.code order v c.known.ensures c.args.slot c.args.context x l a) c.tell-then-address-begin.new.self c.tell-then-address-begin.result c.tell-then-address-begin.ensures.read c.tell-then-address-begin.ensures.update
 
 pub returns-clause-event : goal.returns-clause-event
@@ -390,10 +390,10 @@ returns-then-not-is_record_start-clause-undamaged g c = λ yes_keeps page told.
     let parts = c.in-Ok.came.parts in
     let b = c.in-Below.address in
     let is = c.in-Ok.is ∙ ap (λ q. Ok (record { parts = parts; position = q })) c.in-Below.is in
-    let begins : c.begin.result ≡ v.records.begin = c.begin.ensures ∙ ap (λ u. u.records.begin) c.self.view_is in
-    let high : v.records.begin ≤ b = omega (arith, c.if-address-begin.false, begins) in
+    let begins : c.begin.result ≡ v.records.log.begin = c.begin.ensures ∙ ap (λ u. u.records.log.begin) c.self.view_is in
+    let high : v.records.log.begin ≤ b = omega (arith, c.if-address-begin.false, begins) in
     let place = page-place g.F.Key.Ord.cmp g.F.Mergeable.parts.joined g.F.Functions.code order v c.known.ensures c.args.slot c.args.context x l a (IsEntryIn g.F.Key.Fixed.codec g.F.Value.Fixed.codec) (g.R.Receipt.stands p.receipt) p.bytes c.trace_in.result came yes_keeps b parts is high in
-    false≢true (sym c.if-not-is_record_start.true ∙ c.is_record_start.ensures.1 (subst (λ u. IsRecordStart u.records.page_bits u.records.record_size b) (sym c.self.view_is) place))
+    false≢true (sym c.if-not-is_record_start.true ∙ c.is_record_start.ensures.1 (subst (λ u. IsRecordStart u.records.log.bits u.records.record_size b) (sym c.self.view_is) place))
 
 pub returns-clause-undamaged : goal.returns-clause-undamaged
 returns-clause-undamaged g c = λ yes_keeps page is. memory-not c.look_further.result c.look_further.ensures.only is

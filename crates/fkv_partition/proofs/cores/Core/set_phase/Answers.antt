@@ -9,8 +9,8 @@ use Rattle.fkv_partition.proofs.cores.Core.set_phase.Goals as goal
 pub invariant_of-self : goal.invariant_of-self
 invariant_of-self g c =
     let x = c.args.operation.now in
-    let at : on_key (context_in c.self.inside.records.regions.epochs.slots c.self.inside.contexts.items c.args.slot c.args.context) ≡ Some x = rw (← c.self.view_is) at c.requires.here in
-    let here = key_at c.self.inside.records.regions.epochs.slots c.self.inside.contexts.items c.args.slot c.args.context x at in
+    let at : on_key (context_in c.self.inside.records.log.regions.epochs.slots c.self.inside.contexts.items c.args.slot c.args.context) ≡ Some x = rw (← c.self.view_is) at c.requires.here in
+    let here = key_at c.self.inside.records.log.regions.epochs.slots c.self.inside.contexts.items c.args.slot c.args.context x at in
     rw (c.move_on.ensures)
     (sound-context c.self.invariant c.args.slot c.args.context c.args.now (at_phase x c.args.phase)
     (claims-none (view_of g.F.Mergeable.MERGES c.self.inside.number c.self.inside.count c.self.inside.records c.self.inside.contexts.items c.self.inside.moment) c.args.slot c.args.context x at c.requires.unclaimed) c.requires.claims_nothing
@@ -23,5 +23,5 @@ invariant_of-self g c =
 
 pub move_on-requires-clause-here : goal.move_on-requires-clause-here
 move_on-requires-clause-here g c =
-    let at : on_key (context_in c.self.inside.records.regions.epochs.slots c.self.inside.contexts.items c.args.slot c.args.context) ≡ Some c.args.operation.now = rw (← c.self.view_is) at c.requires.here in
-    (key_at c.self.inside.records.regions.epochs.slots c.self.inside.contexts.items c.args.slot c.args.context c.args.operation.now at).here
+    let at : on_key (context_in c.self.inside.records.log.regions.epochs.slots c.self.inside.contexts.items c.args.slot c.args.context) ≡ Some c.args.operation.now = rw (← c.self.view_is) at c.requires.here in
+    (key_at c.self.inside.records.log.regions.epochs.slots c.self.inside.contexts.items c.args.slot c.args.context c.args.operation.now at).here

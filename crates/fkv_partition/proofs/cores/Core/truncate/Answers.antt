@@ -4,7 +4,8 @@ use Rattle.fkv_functions.specs.declared.refusals.Refused.{Refused}
 use Rattle.fkv_functions.specs.declared.refusals.Refused.TheVariants.{NotDue}
 use Rattle.fkv_functions.proofs.KeyOrder.{key_order}
 use Rattle.fkv_records.specs.Places.{start_at}
-use Rattle.fkv_lookups.specs.RecordsViews.{RecordsView, IsTruncationDue}
+use Rattle.fkv_lookups.specs.RecordsViews.{RecordsView}
+use Rattle.fkv_hybrid.specs.Views.{IsTruncationDue}
 use Rattle.fkv_lookups.specs.Traced.{IsTraced, IsStood}
 use Rattle.fkv_texts.specs.Deltas.{IsCleared}
 use Rattle.fkv_partition.specs.CoreInside.{view_of}
@@ -15,9 +16,9 @@ use Rattle.fkv_partition.specs.CoreViews.{CoreView}
 use Rattle.fkv_partition.proofs.CoreTruncateLemmas.{sound-truncated, event-truncated}
 use Rattle.fkv_partition.proofs.cores.Core.truncate.Goals as goal
 
-truncate-refused : {K V I : Type 0} (keeps : Bool) (inside v new : CoreView K V I) (page now : ℕ) (why : Refused) → inside ≡ v → new ≡ inside → (IsOk {T = Unit {0}} (Err why) ↔ IsTruncationDue inside.records page) → why ≡ NotDue → Truncates keeps v new page now (Err why)
+truncate-refused : {K V I : Type 0} (keeps : Bool) (inside v new : CoreView K V I) (page now : ℕ) (why : Refused) → inside ≡ v → new ≡ inside → (IsOk {T = Unit {0}} (Err why) ↔ IsTruncationDue inside.records.log page) → why ≡ NotDue → Truncates keeps v new page now (Err why)
 truncate-refused keeps inside v new page now why same stays ok only =
-    not_due (λ due. let bad = ok.1 (subst (λ (u : CoreView _ _ _). IsTruncationDue u.records page) (sym same) due) in cc) (stays ∙ same) (ap Err only)
+    not_due (λ due. let bad = ok.1 (subst (λ (u : CoreView _ _ _). IsTruncationDue u.records.log page) (sym same) due) in cc) (stays ∙ same) (ap Err only)
 
 pub invariant_of-self-2 : goal.invariant_of-self-2
 invariant_of-self-2 g c =
@@ -28,10 +29,10 @@ invariant_of-self-2 g c =
     let order = key_order g.F.Key.PartialEq.eq cmp ord.matches_eq known.exact ord.total in
     let r = c.self.inside.records in
     let v = view_of g.F.Mergeable.MERGES c.self.inside.number c.self.inside.count r c.self.inside.contexts.items c.self.inside.moment in
-    let low = start_at r.page_bits c.args.page in
+    let low = start_at r.log.bits c.args.page in
     let made = c.in-Ok.ensures in
-    let due : IsTruncationDue r c.args.page = made.ok.0 refl in
-    let cleared : IsTrue g.R.Receipt.keeps → IsTruncationDue r c.args.page → IsCleared cmp r.entries low = rw (← c.self.view_is) at c.requires.cleared in
+    let due : IsTruncationDue r.log c.args.page = made.ok.0 refl in
+    let cleared : IsTrue g.R.Receipt.keeps → IsTruncationDue r.log c.args.page → IsCleared cmp r.log.text low = rw (← c.self.view_is) at c.requires.cleared in
     subst (λ (w : RecordsView _ _). IsSound g.R.Receipt.keeps cmp join g.F.Functions.code (record v { records = w; moment = c.args.now })) (sym made.effect)
     (sound-truncated cmp join g.F.Functions.code order v c.self.invariant low c.args.now due.higher
     (λ yes_keeps. cleared yes_keeps due) c.truncate.new.self.text
@@ -54,10 +55,10 @@ returns-clause-event g c =
     let order = key_order g.F.Key.PartialEq.eq cmp ord.matches_eq known.exact ord.total in
     let r = c.self.inside.records in
     let v = view_of g.F.Mergeable.MERGES c.self.inside.number c.self.inside.count r c.self.inside.contexts.items c.self.inside.moment in
-    let low = start_at r.page_bits c.args.page in
+    let low = start_at r.log.bits c.args.page in
     let made = c.in-Ok.ensures in
-    let due : IsTruncationDue r c.args.page = made.ok.0 refl in
-    let cleared : IsTrue g.R.Receipt.keeps → IsTruncationDue r c.args.page → IsCleared cmp r.entries low = rw (← c.self.view_is) at c.requires.cleared in
+    let due : IsTruncationDue r.log c.args.page = made.ok.0 refl in
+    let cleared : IsTrue g.R.Receipt.keeps → IsTruncationDue r.log c.args.page → IsCleared cmp r.log.text low = rw (← c.self.view_is) at c.requires.cleared in
     rw (← c.self.view_is)
     (subst (λ (w : RecordsView _ _). IsTruncation g.R.Receipt.keeps cmp v (record v { records = w; moment = c.args.now }) c.args.page c.args.now) (sym made.effect)
     (event-truncated cmp join g.F.Functions.code order v c.self.invariant low c.args.now due.higher

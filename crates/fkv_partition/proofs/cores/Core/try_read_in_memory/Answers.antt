@@ -19,7 +19,7 @@ returns-in-Some-clause-done g c =
     let own = sym c.home.ensures ∙ c.if-home-self.false ∙ ap (λ u. u.number) c.self.view_is in
     let holds = c.meetings_tell.ensures.held g.R.Receipt.keeps g.F.Key.Ord.cmp g.F.Mergeable.parts.joined g.F.Functions.code v.records k c.args.slot order s.traced s.stood c.requires.entered in
     let last = c.in-Some.ensures in
-    let met = whole-first g.F.Key.Ord.cmp g.F.Mergeable.parts.joined g.F.Functions.code v c.args.slot k (λ a entry. c.lookups_tell.ensures.first g.R.Receipt.keeps g.F.Key.Ord.cmp g.F.Mergeable.parts.joined g.F.Functions.code v.records k (low_of v.records.begin (seen_at v c.args.slot)) a order s.traced s.stood entry up) last.0 (sym c.newest_in_memory-first.ensures ∙ last.1) last.2 in
+    let met = whole-first g.F.Key.Ord.cmp g.F.Mergeable.parts.joined g.F.Functions.code v c.args.slot k (λ a entry. c.lookups_tell.ensures.first g.R.Receipt.keeps g.F.Key.Ord.cmp g.F.Mergeable.parts.joined g.F.Functions.code v.records k (low_of v.records.log.begin (seen_at v c.args.slot)) a order s.traced s.stood entry up) last.0 (sym c.newest_in_memory-first.ensures ∙ last.1) last.2 in
     whole-read g.F.Key.Ord.cmp g.F.Mergeable.parts.joined g.F.Functions.meaning g.F.Functions.code v c.args.slot k c.args.input.now own holds (seen_at v c.args.slot) last.0.address last.0.value c.shown.result met
     (subst (λ o. c.shown.result ≡ shown_of g.F.Functions.meaning k c.args.input.now o) (sym last.3) c.shown.ensures)
 

@@ -17,7 +17,7 @@ revalue-requires-clause-last g c =
     let s = c.known.ensures in
     let up = seen-begun v c.args.slot s.traced c.requires.entered in
     let m = c.meetings_tell.ensures.mutable g.R.Receipt.keeps g.F.Key.Ord.cmp g.F.Mergeable.parts.joined g.F.Functions.code v.records k c.args.slot c.args.held order s.traced s.stood c.requires.entered c.requires.met in
-    let same = first-met g.F.Key.Ord.cmp g.F.Mergeable.parts.joined g.F.Functions.code v c.args.slot k (λ a entry. c.lookups_tell.ensures.first g.R.Receipt.keeps g.F.Key.Ord.cmp g.F.Mergeable.parts.joined g.F.Functions.code v.records k (low_of v.records.begin (seen_at v c.args.slot)) a order s.traced s.stood entry up) c.args.held m c.args.last c.requires.first in
+    let same = first-met g.F.Key.Ord.cmp g.F.Mergeable.parts.joined g.F.Functions.code v c.args.slot k (λ a entry. c.lookups_tell.ensures.first g.R.Receipt.keeps g.F.Key.Ord.cmp g.F.Mergeable.parts.joined g.F.Functions.code v.records k (low_of v.records.log.begin (seen_at v c.args.slot)) a order s.traced s.stood entry up) c.args.held m c.args.last c.requires.first in
     at_once-some g.F.Key.Ord.cmp g.F.Mergeable.parts.joined g.F.Functions.meaning g.F.Functions.code v c.args.slot k c.args.held c.args.last m same order
 
 pub revalue-requires-clause-mutable : goal.revalue-requires-clause-mutable
@@ -30,7 +30,7 @@ revalue-requires-clause-mutable g c =
     let s = c.known.ensures in
     let up = seen-begun v c.args.slot s.traced c.requires.entered in
     let m = c.meetings_tell.ensures.mutable g.R.Receipt.keeps g.F.Key.Ord.cmp g.F.Mergeable.parts.joined g.F.Functions.code v.records k c.args.slot c.args.held order s.traced s.stood c.requires.entered c.requires.met in
-    let same = first-met g.F.Key.Ord.cmp g.F.Mergeable.parts.joined g.F.Functions.code v c.args.slot k (λ a entry. c.lookups_tell.ensures.first g.R.Receipt.keeps g.F.Key.Ord.cmp g.F.Mergeable.parts.joined g.F.Functions.code v.records k (low_of v.records.begin (seen_at v c.args.slot)) a order s.traced s.stood entry up) c.args.held m c.args.last c.requires.first in
+    let same = first-met g.F.Key.Ord.cmp g.F.Mergeable.parts.joined g.F.Functions.code v c.args.slot k (λ a entry. c.lookups_tell.ensures.first g.R.Receipt.keeps g.F.Key.Ord.cmp g.F.Mergeable.parts.joined g.F.Functions.code v.records k (low_of v.records.log.begin (seen_at v c.args.slot)) a order s.traced s.stood entry up) c.args.held m c.args.last c.requires.first in
     at_once-high g.F.Key.Ord.cmp g.F.Mergeable.parts.joined g.F.Functions.meaning g.F.Functions.code v c.args.slot k c.args.held c.args.last m same
     (c.meetings_tell.ensures.unfrozen g.R.Receipt.keeps g.F.Key.Ord.cmp g.F.Mergeable.parts.joined g.F.Functions.code v.records k c.args.slot c.args.held s.traced s.stood c.requires.entered m)
 
@@ -44,7 +44,7 @@ returns-clause-done g c =
     let s = c.known.ensures in
     let up = seen-begun v c.args.slot s.traced c.requires.entered in
     let m = c.meetings_tell.ensures.mutable g.R.Receipt.keeps g.F.Key.Ord.cmp g.F.Mergeable.parts.joined g.F.Functions.code v.records k c.args.slot c.args.held order s.traced s.stood c.requires.entered c.requires.met in
-    let same = first-met g.F.Key.Ord.cmp g.F.Mergeable.parts.joined g.F.Functions.code v c.args.slot k (λ a entry. c.lookups_tell.ensures.first g.R.Receipt.keeps g.F.Key.Ord.cmp g.F.Mergeable.parts.joined g.F.Functions.code v.records k (low_of v.records.begin (seen_at v c.args.slot)) a order s.traced s.stood entry up) c.args.held m c.args.last c.requires.first in
+    let same = first-met g.F.Key.Ord.cmp g.F.Mergeable.parts.joined g.F.Functions.code v c.args.slot k (λ a entry. c.lookups_tell.ensures.first g.R.Receipt.keeps g.F.Key.Ord.cmp g.F.Mergeable.parts.joined g.F.Functions.code v.records k (low_of v.records.log.begin (seen_at v c.args.slot)) a order s.traced s.stood entry up) c.args.held m c.args.last c.requires.first in
     let value = c.in_place.new.value in
     let last = at_once-last g.F.Key.Ord.cmp g.F.Mergeable.parts.joined g.F.Functions.meaning g.F.Functions.code v c.args.slot k c.args.held c.args.last m same in
     rw (c.revalue.ensures, c.read-shown.ensures)

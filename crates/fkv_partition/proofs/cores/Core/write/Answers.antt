@@ -9,7 +9,8 @@ use Rattle.fkv_operations.specs.declared.entries.IndexEntry.{IndexEntry}
 use Rattle.fkv_operations.specs.declared.operations.Answer.{Answer}
 use Rattle.fkv_texts.specs.Text.{live}
 use Rattle.fkv_lookups.specs.Payloads.{standing}
-use Rattle.fkv_lookups.specs.RecordsViews.{with_written, IsFull}
+use Rattle.fkv_lookups.specs.RecordsViews.{with_written}
+use Rattle.fkv_hybrid.specs.Views.{IsFull}
 use Rattle.fkv_lookups.specs.declared.decisions.Decision.TheVariants.{Append}
 use Rattle.fkv_lookups.specs.declared.payloads.Payload.{Payload}
 use Rattle.fkv_partition.specs.declared.contexts.Context.{Context}
@@ -28,7 +29,7 @@ module _ {K V I O : Type 0} (cmp : K → K → Ordering) (join : V → V → V) 
   made-here : new ≡ with_payload v slot c e (key_of x.op) payload (standing join (live_of cmp v (key_of x.op)) payload) now
   made-here = made ∙ ap (λ k. with_payload v slot c e k payload (standing join (live_of cmp v k) payload) now) (sym own)
 
-  write-goes : {R : Type 0} (stands : R → Standing) → found_for code v key ≡ Some e → (v.records.tail ≡ 2 ^ 48 → ⊥) → (IsFull v.records → ⊥) → Goes stands cmp join f code v new slot c now (Ok (Done a now))
+  write-goes : {R : Type 0} (stands : R → Standing) → found_for code v key ≡ Some e → (v.records.log.tail ≡ 2 ^ 48 → ⊥) → (IsFull v.records.log → ⊥) → Goes stands cmp join f code v new slot c now (Ok (Done a now))
   write-goes stands found low room = appends x payload a e d (ap (found_for code v) own ∙ found) low room made-here refl
 
   write-event : {R : Type 0} (p : Parts K V I) → (p.joined ≡ join) → (is_merge x.op ≡ true → Merges f p)

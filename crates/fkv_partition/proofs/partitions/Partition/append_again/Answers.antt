@@ -3,7 +3,7 @@ use Rattle.std.proofs.lemmas.Bool.{false≢true}
 use Rattle.fkv_functions.proofs.KeyOrder.{key_order}
 use Rattle.fkv_index.specs.Places.{word_at}
 use Rattle.fkv_lookups.specs.declared.payloads.Payload.TheVariants.{Whole}
-use Rattle.fkv_lookups.specs.RecordsViews.{IsFull}
+use Rattle.fkv_hybrid.specs.Views.{IsFull}
 use Rattle.fkv_lookups.specs.Traced.{IsTraced, IsStood}
 use Rattle.fkv_partition.specs.CoreContexts.{claim_at}
 use Rattle.fkv_partition.specs.Writes.{IsWrite}
@@ -108,7 +108,7 @@ returns-in-Err-clause-effect g c =
     let words = ap (λ r. word_at r.words kept.place) c.records.ensures ∙ ap (λ u. word_at u.core.records.words kept.place) c.self.view_is in
     let holds = sym words ∙ c.holds.ensures.0 c.if-not-holds.false in
     let is = c.in-Err.ensures.only in
-    let tail = ap (λ u. u.core.records.tail) (sym c.self.view_is) ∙ c.in-Err.ensures.worn.0 (ap Err is) in
+    let tail = ap (λ u. u.core.records.log.tail) (sym c.self.view_is) ∙ c.in-Err.ensures.worn.0 (ap Err is) in
     Ends.worn holds tail (ap (λ q. view_of q c.self.inside.cleared) c.in-Err.ensures.unchanged ∙ c.self.view_is) (ap Err is)
 
 pub returns-in-Err-clause-cleared : goal.returns-in-Err-clause-cleared
@@ -131,7 +131,7 @@ returns-in-Ok-None-clause-effect g c =
     let new = c.set_stage-in-Ok-None.ensures
     ∙ ap (λ q. with_relocation (view_of q c.self.inside.cleared) c.args.slot c.args.context y c.args.now) same
     ∙ ap (λ u. with_relocation u c.args.slot c.args.context y c.args.now) c.self.view_is in
-    let full = subst (λ u. IsFull u.core.records) c.self.view_is (c.in-Ok-None.ensures.room.0 (ap Ok c.in-Ok-None.field-0-is)) in
+    let full = subst (λ u. IsFull u.core.records.log) c.self.view_is (c.in-Ok-None.ensures.room.0 (ap Ok c.in-Ok-None.field-0-is)) in
     Ends.full holds full new refl
 
 pub returns-in-Ok-None-clause-event : goal.returns-in-Ok-None-clause-event
@@ -161,8 +161,8 @@ returns-in-Ok-Some-clause-effect g c =
     ∙ ap (view_of (with_appended c.self.inside.core c.args.slot c.args.context c.args.kept c.args.entry.key c.args.entry.value c.args.now)) (c.past-cleared.ensures ∙ ap (λ u. cleared_past u x.target) back)
     ∙ ap (λ u. again_at u c.args.slot c.args.context x.target kept c.args.entry c.args.now) c.self.view_is in
     Ends.appends holds
-    (λ h. err-ok (sym (c.in-Ok-Some.ensures.worn.1 (ap (λ u. u.core.records.tail) c.self.view_is ∙ h))))
-    (λ f. none-some (sym (c.in-Ok-Some.ensures.room.1 (subst (λ u. IsFull u.core.records) (sym c.self.view_is) f)) ∙ ap Ok c.in-Ok-Some.field-0-is))
+    (λ h. err-ok (sym (c.in-Ok-Some.ensures.worn.1 (ap (λ u. u.core.records.log.tail) c.self.view_is ∙ h))))
+    (λ f. none-some (sym (c.in-Ok-Some.ensures.room.1 (subst (λ u. IsFull u.core.records.log) (sym c.self.view_is) f)) ∙ ap Ok c.in-Ok-Some.field-0-is))
     new refl
 
 pub returns-in-Ok-Some-clause-event : goal.returns-in-Ok-Some-clause-event

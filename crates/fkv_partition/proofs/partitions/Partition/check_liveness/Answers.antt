@@ -68,7 +68,7 @@ finish-requires-then-home-number-clause-superseded g c =
     let x = c.args.relocation.now in
     let e = c.args.entry in
     let other = subst (λ u. partition_of u.core.count (g.F.Functions.code e.key) ≢ u.core.number) c.self.view_is (λ q. c.if-home-number.true (c.home-home.ensures ∙ q ∙ sym c.number.ensures)) in
-    superseded-one g.F.Key.Ord.cmp v.core.records.entries x.target e c.requires.is (superseded-foreign g.F.Key.Ord.cmp g.F.Mergeable.parts.joined g.F.Functions.code order v.core c.known.ensures.core c.args.slot (open-here v c.args.slot c.args.context x c.requires.here).inside x.target e c.requires.stands c.requires.is other)
+    superseded-one g.F.Key.Ord.cmp v.core.records.log.text x.target e c.requires.is (superseded-foreign g.F.Key.Ord.cmp g.F.Mergeable.parts.joined g.F.Functions.code order v.core c.known.ensures.core c.args.slot (open-here v c.args.slot c.args.context x c.requires.here).inside x.target e c.requires.stands c.requires.is other)
 
 pub returns-then-home-number-clause-event : goal.returns-then-home-number-clause-event
 returns-then-home-number-clause-event g c =
@@ -109,7 +109,7 @@ finish-requires-in-None-clause-superseded g c =
     let x = c.args.relocation.now in
     let e = c.args.entry in
     let none = subst (λ u. entry_for g.F.Functions.code u.core e.key ≡ None) c.self.view_is (sym c.find-found.ensures.address ∙ ap (option_map (λ (q : IndexEntry). address_of q.word)) c.in-None.is) in
-    superseded-one g.F.Key.Ord.cmp v.core.records.entries x.target e c.requires.is (superseded-nowhere g.F.Key.Ord.cmp g.F.Mergeable.parts.joined g.F.Functions.code order v.core c.known.ensures.core c.args.slot (open-here v c.args.slot c.args.context x c.requires.here).inside x.target e c.requires.stands c.requires.is none)
+    superseded-one g.F.Key.Ord.cmp v.core.records.log.text x.target e c.requires.is (superseded-nowhere g.F.Key.Ord.cmp g.F.Mergeable.parts.joined g.F.Functions.code order v.core c.known.ensures.core c.args.slot (open-here v c.args.slot c.args.context x c.requires.here).inside x.target e c.requires.stands c.requires.is none)
 
 pub returns-in-None-clause-event : goal.returns-in-None-clause-event
 returns-in-None-clause-event g c =
@@ -125,7 +125,7 @@ returns-in-None-clause-cleared g c =
 
 pub finish-requires-clause-superseded : goal.finish-requires-clause-superseded
 finish-requires-clause-superseded g c =
-    superseded-one g.F.Key.Ord.cmp c.args.self.now.core.records.entries c.args.relocation.now.target c.args.entry c.requires.is (λ _. inl (none-by c.args.entry.value c.is_none.ensures c.if-is_none.true))
+    superseded-one g.F.Key.Ord.cmp c.args.self.now.core.records.log.text c.args.relocation.now.target c.args.entry c.requires.is (λ _. inl (none-by c.args.entry.value c.is_none.ensures c.if-is_none.true))
 
 pub returns-then-is_none-clause-effect : goal.returns-then-is_none-clause-effect
 returns-then-is_none-clause-effect g c = ChecksLiveness.superseded (NeedsNoCopy.tombstone (none-by c.args.entry.value c.is_none.ensures c.if-is_none.true)) c.finish.ensures refl

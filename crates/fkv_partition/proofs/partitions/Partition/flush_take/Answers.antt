@@ -22,10 +22,10 @@ pub returns-in-Err-clause-moment : goal.returns-in-Err-clause-moment
 returns-in-Err-clause-moment g c = no-later c.requires.later
 
 pub returns-clause-page : goal.returns-clause-page
-returns-clause-page g c = (rw (c.log.ensures, c.records.ensures) at c.in-Ok.ensures.page) ∙ ap (λ u. length u.core.records.receipts) c.self.view_is
+returns-clause-page g c = (rw (c.log.ensures, c.records.ensures) at c.in-Ok.ensures.page) ∙ ap (λ u. length u.core.records.log.receipts) c.self.view_is
 
 pub returns-clause-bytes : goal.returns-clause-bytes
-returns-clause-bytes g c = subst (λ u. slice_get u.core.records.waiting 0 ≡ Some c.in-Ok.job.bytes) c.self.view_is (rw (c.log.ensures, c.records.ensures) at c.in-Ok.ensures.bytes)
+returns-clause-bytes g c = subst (λ u. slice_get u.core.records.log.waiting 0 ≡ Some c.in-Ok.job.bytes) c.self.view_is (rw (c.log.ensures, c.records.ensures) at c.in-Ok.ensures.bytes)
 
 pub returns-clause-due : goal.returns-clause-due
 returns-clause-due g c = due-same c.self.view_is (rw (c.log.ensures, c.records.ensures) at c.in-Ok.ensures.due)

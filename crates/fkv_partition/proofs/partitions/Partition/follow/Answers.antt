@@ -59,7 +59,7 @@ finish-requires-clause-superseded g c =
     let x = c.args.relocation.now in
     let e = c.args.entry in
     let so = told-so g.F.Key.Ord.cmp g.F.Mergeable.parts.joined g.F.Functions.code c.self.view_is c.args.slot x.target e.key c.lowest.ensures.value c.higher_of-low.ensures.value c.reach-came.ensures c.liveness_of.ensures c.in-Superseded.is in
-    superseded-one g.F.Key.Ord.cmp v.core.records.entries x.target e c.requires.is (superseded-newer g.F.Key.Ord.cmp g.F.Mergeable.parts.joined g.F.Functions.code order v.core c.known.ensures.core c.args.slot (open-here v c.args.slot c.args.context x c.requires.here).inside x.target e c.requires.stands c.requires.is c.args.kept c.requires.entry_stands c.requires.leads so)
+    superseded-one g.F.Key.Ord.cmp v.core.records.log.text x.target e c.requires.is (superseded-newer g.F.Key.Ord.cmp g.F.Mergeable.parts.joined g.F.Functions.code order v.core c.known.ensures.core c.args.slot (open-here v c.args.slot c.args.context x c.requires.here).inside x.target e c.requires.stands c.requires.is c.args.kept c.requires.entry_stands c.requires.leads so)
 
 pub append_again-requires-clause-stands : goal.append_again-requires-clause-stands
 append_again-requires-clause-stands g c =
@@ -70,7 +70,7 @@ append_again-requires-clause-stands g c =
     let x = c.args.relocation.now in
     let e = c.args.entry in
     let so = told-so g.F.Key.Ord.cmp g.F.Mergeable.parts.joined g.F.Functions.code c.self.view_is c.args.slot x.target e.key c.lowest.ensures.value c.higher_of-low.ensures.value c.reach-came.ensures c.liveness_of.ensures c.in-Last.is in
-    rw c.renewed-whole.ensures (c.requires.own, ready g.F.Key.Ord.cmp g.F.Mergeable.parts.joined g.F.Functions.code order v.core c.known.ensures.core c.args.slot (open-here v c.args.slot c.args.context x c.requires.here).inside x.target e c.requires.stands c.requires.is c.args.kept c.requires.entry_stands c.requires.leads c.in-Last.parts so c.requires.begun (stands-here v c.args.slot c.args.context x c.requires.here c.known.ensures.compacting).frozen c.requires.some (λ yes_keeps. cleared-lower g.F.Key.Ord.cmp v.core.records.entries x.target v.cleared (stands-here v c.args.slot c.args.context x c.requires.here c.known.ensures.compacting).issued (c.known.ensures.compacting.cleared yes_keeps)))
+    rw c.renewed-whole.ensures (c.requires.own, ready g.F.Key.Ord.cmp g.F.Mergeable.parts.joined g.F.Functions.code order v.core c.known.ensures.core c.args.slot (open-here v c.args.slot c.args.context x c.requires.here).inside x.target e c.requires.stands c.requires.is c.args.kept c.requires.entry_stands c.requires.leads c.in-Last.parts so c.requires.begun (stands-here v c.args.slot c.args.context x c.requires.here c.known.ensures.compacting).frozen c.requires.some (λ yes_keeps. cleared-lower g.F.Key.Ord.cmp v.core.records.log.text x.target v.cleared (stands-here v c.args.slot c.args.context x c.requires.here c.known.ensures.compacting).issued (c.known.ensures.compacting.cleared yes_keeps)))
 
 pub ask-requires-clause-flushed : goal.ask-requires-clause-flushed
 ask-requires-clause-flushed g c =
@@ -93,7 +93,7 @@ ask-requires-clause-stands g c =
     let x = c.args.relocation.now in
     let e = c.args.entry in
     let so = told-so g.F.Key.Ord.cmp g.F.Mergeable.parts.joined g.F.Functions.code c.self.view_is c.args.slot x.target e.key c.lowest.ensures.value c.higher_of-low.ensures.value c.reach-came.ensures c.liveness_of.ensures c.in-Further.is in
-    let begins = c.begin.ensures ∙ ap (λ r. r.begin) c.records.ensures ∙ ap (λ u. u.core.records.begin) c.self.view_is in
+    let begins = c.begin.ensures ∙ ap (λ r. r.log.begin) c.records.ensures ∙ ap (λ u. u.core.records.log.begin) c.self.view_is in
     rw begins (c.requires.own, tracing g.F.Key.Ord.cmp g.F.Mergeable.parts.joined g.F.Functions.code order v.core c.known.ensures.core c.args.slot (open-here v c.args.slot c.args.context x c.requires.here).inside x.target e c.requires.stands c.requires.is c.args.kept c.requires.entry_stands c.requires.leads c.in-Further.wanted c.in-Further.parts c.requires.begun so c.args.now c.requires.some)
 
 pub returns-in-Superseded-clause-event : goal.returns-in-Superseded-clause-event
@@ -124,7 +124,7 @@ returns-in-Further-clause-effect g c =
     let x = c.args.relocation.now in
     let e = c.args.entry in
     let so = told-so g.F.Key.Ord.cmp g.F.Mergeable.parts.joined g.F.Functions.code c.self.view_is c.args.slot x.target e.key c.lowest.ensures.value c.higher_of-low.ensures.value c.reach-came.ensures c.liveness_of.ensures c.in-Further.is in
-    let begins = c.begin.ensures ∙ ap (λ r. r.begin) c.records.ensures ∙ ap (λ u. u.core.records.begin) c.self.view_is in
+    let begins = c.begin.ensures ∙ ap (λ r. r.log.begin) c.records.ensures ∙ ap (λ u. u.core.records.log.begin) c.self.view_is in
     ChecksLiveness.further c.args.kept c.in-Further.wanted c.in-Further.parts (record { some = c.requires.some; own = c.requires.own; leads = c.requires.found; outcome_is = so }) (rw begins at c.ask.ensures.effect)
 
 pub overflow_add-target : goal.overflow_add-target

@@ -21,8 +21,8 @@ ask-requires-clause-flushed g c =
     let v = c.args.self.now in
     let x = c.args.relocation.now in
     let low = c.low_of.ensures
-    ∙ ap (λ b. low_of b c.view-view.result) (c.begin-begin.ensures ∙ ap (λ r. r.begin) c.records-2.ensures)
-    ∙ ap (λ w. low_of c.self.inside.core.records.begin w) (c.view-view.ensures.value ∙ ap (λ r. view_at r.regions.views c.args.slot) c.records.ensures)
+    ∙ ap (λ b. low_of b c.view-view.result) (c.begin-begin.ensures ∙ ap (λ r. r.log.begin) c.records-2.ensures)
+    ∙ ap (λ w. low_of c.self.inside.core.records.log.begin w) (c.view-view.ensures.value ∙ ap (λ r. view_at r.log.regions.views c.args.slot) c.records.ensures)
     ∙ ap (λ u. low_at u c.args.slot) c.self.view_is in
     let under = subst (λ n. x.target < n) low c.if-target-low_of.true in
     place-flushed g.F.Key.Ord.cmp g.F.Mergeable.parts.joined g.F.Functions.code v c.known.ensures.compacting c.known.ensures.core c.args.slot c.args.context x c.requires.here c.requires.uncleared under
@@ -32,11 +32,11 @@ ask-requires-clause-stands g c =
     let v = c.args.self.now in
     let x = c.args.relocation.now in
     let low = c.low_of.ensures
-    ∙ ap (λ b. low_of b c.view-view.result) (c.begin-begin.ensures ∙ ap (λ r. r.begin) c.records-2.ensures)
-    ∙ ap (λ w. low_of c.self.inside.core.records.begin w) (c.view-view.ensures.value ∙ ap (λ r. view_at r.regions.views c.args.slot) c.records.ensures)
+    ∙ ap (λ b. low_of b c.view-view.result) (c.begin-begin.ensures ∙ ap (λ r. r.log.begin) c.records-2.ensures)
+    ∙ ap (λ w. low_of c.self.inside.core.records.log.begin w) (c.view-view.ensures.value ∙ ap (λ r. view_at r.log.regions.views c.args.slot) c.records.ensures)
     ∙ ap (λ u. low_at u c.args.slot) c.self.view_is in
     let under = subst (λ n. x.target < n) low c.if-target-low_of.true in
-    let begins = c.begin-begin.ensures ∙ ap (λ r. r.begin) c.records-2.ensures ∙ ap (λ u. u.core.records.begin) c.self.view_is in
+    let begins = c.begin-begin.ensures ∙ ap (λ r. r.log.begin) c.records-2.ensures ∙ ap (λ u. u.core.records.log.begin) c.self.view_is in
     rw begins (place-reading g.F.Key.Ord.cmp g.F.Mergeable.parts.joined g.F.Functions.code v c.known.ensures.compacting c.known.ensures.core c.args.slot c.args.context x c.requires.here c.requires.uncleared under)
 
 pub returns-then-target-low_of-clause-effect : goal.returns-then-target-low_of-clause-effect
@@ -44,11 +44,11 @@ returns-then-target-low_of-clause-effect g c =
     let v = c.args.self.now in
     let x = c.args.relocation.now in
     let low = c.low_of.ensures
-    ∙ ap (λ b. low_of b c.view-view.result) (c.begin-begin.ensures ∙ ap (λ r. r.begin) c.records-2.ensures)
-    ∙ ap (λ w. low_of c.self.inside.core.records.begin w) (c.view-view.ensures.value ∙ ap (λ r. view_at r.regions.views c.args.slot) c.records.ensures)
+    ∙ ap (λ b. low_of b c.view-view.result) (c.begin-begin.ensures ∙ ap (λ r. r.log.begin) c.records-2.ensures)
+    ∙ ap (λ w. low_of c.self.inside.core.records.log.begin w) (c.view-view.ensures.value ∙ ap (λ r. view_at r.log.regions.views c.args.slot) c.records.ensures)
     ∙ ap (λ u. low_at u c.args.slot) c.self.view_is in
     let under = subst (λ n. x.target < n) low c.if-target-low_of.true in
-    let begins = c.begin-begin.ensures ∙ ap (λ r. r.begin) c.records-2.ensures ∙ ap (λ u. u.core.records.begin) c.self.view_is in
+    let begins = c.begin-begin.ensures ∙ ap (λ r. r.log.begin) c.records-2.ensures ∙ ap (λ u. u.core.records.log.begin) c.self.view_is in
     GoesOn.reads x c.requires.here c.requires.fresh c.requires.uncleared under (rw begins at c.ask.ensures.effect)
 
 pub record_at-entry-requires-clause-there : goal.record_at-entry-requires-clause-there
@@ -56,37 +56,37 @@ record_at-entry-requires-clause-there g c =
     let v = c.args.self.now in
     let x = c.args.relocation.now in
     let low = c.low_of.ensures
-    ∙ ap (λ b. low_of b c.view-view.result) (c.begin-begin.ensures ∙ ap (λ r. r.begin) c.records-2.ensures)
-    ∙ ap (λ w. low_of c.self.inside.core.records.begin w) (c.view-view.ensures.value ∙ ap (λ r. view_at r.regions.views c.args.slot) c.records.ensures)
+    ∙ ap (λ b. low_of b c.view-view.result) (c.begin-begin.ensures ∙ ap (λ r. r.log.begin) c.records-2.ensures)
+    ∙ ap (λ w. low_of c.self.inside.core.records.log.begin w) (c.view-view.ensures.value ∙ ap (λ r. view_at r.log.regions.views c.args.slot) c.records.ensures)
     ∙ ap (λ u. low_at u c.args.slot) c.self.view_is in
     let over = subst (λ n. n ≤ x.target) low c.if-target-low_of.false in
-    rw c.records-3.ensures (subst (λ u. IsSome (entry_at u.core.records.entries x.target)) (sym c.self.view_is) (place-there g.F.Key.Ord.cmp g.F.Mergeable.parts.joined g.F.Functions.code v c.known.ensures.compacting c.known.ensures.core c.args.slot c.args.context x c.requires.here c.requires.uncleared over))
+    rw c.records-3.ensures (subst (λ u. IsSome (entry_at u.core.records.log.text x.target)) (sym c.self.view_is) (place-there g.F.Key.Ord.cmp g.F.Mergeable.parts.joined g.F.Functions.code v c.known.ensures.compacting c.known.ensures.core c.args.slot c.args.context x c.requires.here c.requires.uncleared over))
 
 pub record_at-entry-requires-clause-in_frame : goal.record_at-entry-requires-clause-in_frame
 record_at-entry-requires-clause-in_frame g c =
     let v = c.args.self.now in
     let x = c.args.relocation.now in
     let low = c.low_of.ensures
-    ∙ ap (λ b. low_of b c.view-view.result) (c.begin-begin.ensures ∙ ap (λ r. r.begin) c.records-2.ensures)
-    ∙ ap (λ w. low_of c.self.inside.core.records.begin w) (c.view-view.ensures.value ∙ ap (λ r. view_at r.regions.views c.args.slot) c.records.ensures)
+    ∙ ap (λ b. low_of b c.view-view.result) (c.begin-begin.ensures ∙ ap (λ r. r.log.begin) c.records-2.ensures)
+    ∙ ap (λ w. low_of c.self.inside.core.records.log.begin w) (c.view-view.ensures.value ∙ ap (λ r. view_at r.log.regions.views c.args.slot) c.records.ensures)
     ∙ ap (λ u. low_at u c.args.slot) c.self.view_is in
     let over = subst (λ n. n ≤ x.target) low c.if-target-low_of.false in
-    rw c.records-3.ensures (subst (λ u. u.core.records.regions.offsets.closed ≤ x.target) (sym c.self.view_is) (place-open g.F.Key.Ord.cmp g.F.Mergeable.parts.joined g.F.Functions.code v c.known.ensures.compacting c.known.ensures.core c.args.slot c.args.context x c.requires.here c.requires.uncleared over))
+    rw c.records-3.ensures (subst (λ u. u.core.records.log.regions.offsets.closed ≤ x.target) (sym c.self.view_is) (place-open g.F.Key.Ord.cmp g.F.Mergeable.parts.joined g.F.Functions.code v c.known.ensures.compacting c.known.ensures.core c.args.slot c.args.context x c.requires.here c.requires.uncleared over))
 
 pub check_liveness-requires-clause-stands : goal.check_liveness-requires-clause-stands
 check_liveness-requires-clause-stands g c =
-    address-at c.records-3.result.now.entries c.args.relocation.now.target c.record_at-entry.result c.record_at-entry.ensures.entry
+    address-at c.records-3.result.now.log.text c.args.relocation.now.target c.record_at-entry.result c.record_at-entry.ensures.entry
 
 pub returns-clause-effect : goal.returns-clause-effect
 returns-clause-effect g c =
     let v = c.args.self.now in
     let x = c.args.relocation.now in
     let low = c.low_of.ensures
-    ∙ ap (λ b. low_of b c.view-view.result) (c.begin-begin.ensures ∙ ap (λ r. r.begin) c.records-2.ensures)
-    ∙ ap (λ w. low_of c.self.inside.core.records.begin w) (c.view-view.ensures.value ∙ ap (λ r. view_at r.regions.views c.args.slot) c.records.ensures)
+    ∙ ap (λ b. low_of b c.view-view.result) (c.begin-begin.ensures ∙ ap (λ r. r.log.begin) c.records-2.ensures)
+    ∙ ap (λ w. low_of c.self.inside.core.records.log.begin w) (c.view-view.ensures.value ∙ ap (λ r. view_at r.log.regions.views c.args.slot) c.records.ensures)
     ∙ ap (λ u. low_at u c.args.slot) c.self.view_is in
     let over = subst (λ n. n ≤ x.target) low c.if-target-low_of.false in
-    let there = subst (λ u. entry_at u.core.records.entries x.target ≡ Some c.record_at-entry.result) c.self.view_is (subst (λ r. entry_at r.entries x.target ≡ Some c.record_at-entry.result) c.records-3.ensures c.record_at-entry.ensures.entry) in
+    let there = subst (λ u. entry_at u.core.records.log.text x.target ≡ Some c.record_at-entry.result) c.self.view_is (subst (λ r. entry_at r.log.text x.target ≡ Some c.record_at-entry.result) c.records-3.ensures c.record_at-entry.ensures.entry) in
     GoesOn.checks x c.record_at-entry.result c.requires.here c.requires.fresh c.requires.uncleared over there c.check_liveness.ensures.effect
 
 pub returns-then-target-low_of-clause-cleared : goal.returns-then-target-low_of-clause-cleared
@@ -97,7 +97,7 @@ check_liveness-requires-clause-begun g c = begun-here g.F.Key.Ord.cmp g.F.Mergea
 
 pub check_liveness-requires-clause-is : goal.check_liveness-requires-clause-is
 check_liveness-requires-clause-is g c =
-    let there = subst (λ r. entry_at r.entries c.args.relocation.now.target ≡ Some c.record_at-entry.result) (c.records-3.ensures ∙ ap (λ u. u.core.records) c.self.view_is) c.record_at-entry.ensures.entry in
+    let there = subst (λ r. entry_at r.log.text c.args.relocation.now.target ≡ Some c.record_at-entry.result) (c.records-3.ensures ∙ ap (λ u. u.core.records) c.self.view_is) c.record_at-entry.ensures.entry in
     λ _. there
 
 pub returns-then-target-low_of-clause-event : goal.returns-then-target-low_of-clause-event

@@ -31,7 +31,7 @@ returns-in-Err-clause-effect g c =
     let p = c.args.loaded in
     let there = awaited-flushed g.F.Key.Ord.cmp g.F.Mergeable.parts.joined g.F.Functions.code order v c.known.ensures.core c.known.ensures.compacting c.args.slot c.args.context x c.args.wanted a in
     let moved = ap (λ u. u.core.records) c.self.view_is in
-    let page = c.page_of-page.ensures ∙ ap (λ r. page_at r.page_bits c.args.wanted) (c.records.ensures ∙ sym c.records-2.ensures) in
+    let page = c.page_of-page.ensures ∙ ap (λ r. page_at r.log.bits c.args.wanted) (c.records.ensures ∙ sym c.records-2.ensures) in
     let z = stranger-held c.records-2.result.now v.core.records c.page_of-page.result c.args.wanted (g.R.Receipt.stands p.receipt) c.in-Err.refused (c.records-2.ensures ∙ moved) page there c.in-Err.ensures.stranger in
     LoadsOn.stranger x c.args.wanted p z.0 a refl z.1 z.2 refl (ap Err z.3)
 
@@ -44,9 +44,9 @@ returns-in-Err-clause-moment g c = no-later c.requires.later
 pub read_on-requires-clause-has : goal.read_on-requires-clause-has
 read_on-requires-clause-has g c =
     let moved = ap (λ u. u.core.records) c.self.view_is in
-    let page = c.page_of-page.ensures ∙ ap (λ r. page_at r.page_bits c.args.wanted) (c.records.ensures ∙ moved) in
+    let page = c.page_of-page.ensures ∙ ap (λ r. page_at r.log.bits c.args.wanted) (c.records.ensures ∙ moved) in
     let st = g.R.Receipt.stands c.args.loaded.receipt in
-    let own = subst (λ n. IsHeldBy c.args.self.now.core.records.receipts n st) page (subst (λ r. IsHeldBy r.receipts c.page_of-page.result st) (c.records-2.ensures ∙ moved) (c.in_default.ensures.own.0 refl)) in
+    let own = subst (λ n. IsHeldBy c.args.self.now.core.records.log.receipts n st) page (subst (λ r. IsHeldBy r.log.receipts c.page_of-page.result st) (c.records-2.ensures ∙ moved) (c.in_default.ensures.own.0 refl)) in
     (c.args.wanted, record { awaits = c.requires.awaits; own = own })
 
 pub read_on-requires-clause-later : goal.read_on-requires-clause-later
@@ -78,7 +78,7 @@ returns-in-Err-clause-undamaged g c = λ yes_keeps page is.
     let v = c.args.self.now in
     let there = awaited-flushed g.F.Key.Ord.cmp g.F.Mergeable.parts.joined g.F.Functions.code order v c.known.ensures.core c.known.ensures.compacting c.args.slot c.args.context c.args.relocation.now c.args.wanted c.requires.awaits in
     let moved = ap (λ u. u.core.records) c.self.view_is in
-    let at = c.page_of-page.ensures ∙ ap (λ r. page_at r.page_bits c.args.wanted) (c.records.ensures ∙ sym c.records-2.ensures) in
+    let at = c.page_of-page.ensures ∙ ap (λ r. page_at r.log.bits c.args.wanted) (c.records.ensures ∙ sym c.records-2.ensures) in
     let z = stranger-held c.records-2.result.now v.core.records c.page_of-page.result c.args.wanted (g.R.Receipt.stands c.args.loaded.receipt) c.in-Err.refused (c.records-2.ensures ∙ moved) at there c.in-Err.ensures.stranger in
     stranger-not z.3 is
 

@@ -25,7 +25,7 @@ returns-then-begin-clause-effect g c =
     let here = sym c.in-Some.ensures.value in
     let wanted = c.in-Some-awaited.wanted in
     let told = sym c.in-Some-awaited.is ∙ c.awaited.ensures in
-    let begins = c.begin.ensures ∙ ap (λ r. r.begin) c.records.ensures ∙ ap (λ u. u.core.records.begin) c.self.view_is in
+    let begins = c.begin.ensures ∙ ap (λ r. r.log.begin) c.records.ensures ∙ ap (λ u. u.core.records.log.begin) c.self.view_is in
     LoadsOn.moved x (record { begin = c.in-Some-awaited.begin; wanted = wanted }) here (awaits-some v c.args.slot c.args.context x c.in-Some-awaited.begin wanted told) (λ e. c.if-begin.true (e ∙ sym begins)) c.set_stage.ensures refl
 
 pub returns-then-begin-clause-event : goal.returns-then-begin-clause-event
@@ -39,7 +39,7 @@ returns-then-is_no_memory-clause-effect g c =
     let here = sym c.in-Some.ensures.value in
     let wanted = c.in-Some-awaited.wanted in
     let told = sym c.in-Some-awaited.is ∙ c.awaited.ensures in
-    let begins = c.begin.ensures ∙ ap (λ r. r.begin) c.records.ensures ∙ ap (λ u. u.core.records.begin) c.self.view_is in
+    let begins = c.begin.ensures ∙ ap (λ r. r.log.begin) c.records.ensures ∙ ap (λ u. u.core.records.log.begin) c.self.view_is in
     let a = awaits-page v c.args.slot c.args.context x c.in-Some-awaited.begin wanted here told (c.if-begin.false ∙ begins) in
     let is = c.is_no_memory.ensures.0 c.if-is_no_memory.true in
     LoadsOn.unread x wanted a (c.in-Err.is ∙ ap Err is) refl (ap Err is)
@@ -51,7 +51,7 @@ receive-requires-clause-awaits g c =
     let here = sym c.in-Some.ensures.value in
     let wanted = c.in-Some-awaited.wanted in
     let told = sym c.in-Some-awaited.is ∙ c.awaited.ensures in
-    let begins = c.begin.ensures ∙ ap (λ r. r.begin) c.records.ensures ∙ ap (λ u. u.core.records.begin) c.self.view_is in
+    let begins = c.begin.ensures ∙ ap (λ r. r.log.begin) c.records.ensures ∙ ap (λ u. u.core.records.log.begin) c.self.view_is in
     let a = awaits-page v c.args.slot c.args.context x c.in-Some-awaited.begin wanted here told (c.if-begin.false ∙ begins) in
     a
 
@@ -62,7 +62,7 @@ returns-else-is_no_memory-clause-effect g c =
     let here = sym c.in-Some.ensures.value in
     let wanted = c.in-Some-awaited.wanted in
     let told = sym c.in-Some-awaited.is ∙ c.awaited.ensures in
-    let begins = c.begin.ensures ∙ ap (λ r. r.begin) c.records.ensures ∙ ap (λ u. u.core.records.begin) c.self.view_is in
+    let begins = c.begin.ensures ∙ ap (λ r. r.log.begin) c.records.ensures ∙ ap (λ u. u.core.records.log.begin) c.self.view_is in
     let a = awaits-page v c.args.slot c.args.context x c.in-Some-awaited.begin wanted here told (c.if-begin.false ∙ begins) in
     LoadsOn.failed x wanted c.in-Err.refused a c.in-Err.is (λ e. false≢true (sym c.if-is_no_memory.false ∙ c.is_no_memory.ensures.1 e)) c.end.ensures refl
 

@@ -40,12 +40,12 @@ first_of-requires-whole g c κs =
 pub trace_in-requires-clause-own : goal.trace_in-requires-clause-own
 trace_in-requires-clause-own g c =
     let moved = ap (λ u. u.core.records) c.self.view_is in
-    subst (λ r. IsHeldBy r.receipts (page_at r.page_bits c.args.loading.wanted) (g.R.Receipt.stands c.args.loaded.now.receipt)) (sym (c.records-3.ensures ∙ moved)) c.requires.has.own
+    subst (λ r. IsHeldBy r.log.receipts (page_at r.log.bits c.args.loading.wanted) (g.R.Receipt.stands c.args.loaded.now.receipt)) (sym (c.records-3.ensures ∙ moved)) c.requires.has.own
 
 pub trace_in-requires-clause-floor : goal.trace_in-requires-clause-floor
 trace_in-requires-clause-floor g c =
-    let page = c.page_of-page.ensures ∙ ap (λ r. page_at r.page_bits c.args.loading.wanted) (c.records.ensures ∙ sym c.records-3.ensures) in
-    let first = c.first_of.ensures ∙ ap (λ r. first_place r.page_bits c.page_of-page.result) (c.records-2.ensures ∙ sym c.records-3.ensures) ∙ ap (first_place c.records-3.result.now.page_bits) page in
+    let page = c.page_of-page.ensures ∙ ap (λ r. page_at r.log.bits c.args.loading.wanted) (c.records.ensures ∙ sym c.records-3.ensures) in
+    let first = c.first_of.ensures ∙ ap (λ r. first_place r.log.bits c.page_of-page.result) (c.records-2.ensures ∙ sym c.records-3.ensures) ∙ ap (first_place c.records-3.result.now.log.bits) page in
     subst (λ n. n ≤ c.higher_of-low.result) first c.higher_of-low.ensures.right
 
 pub returns-in-Err-clause-effect : goal.returns-in-Err-clause-effect
@@ -64,7 +64,7 @@ returns-in-Err-clause-effect g c =
     let at = c.requires.traces in
     let moved = ap (λ u. u.core.records) c.self.view_is in
     let came = page-came g.R.Receipt.keeps (IsEntryIn g.F.Key.Fixed.codec g.F.Value.Fixed.codec) g.F.Key.Ord.cmp g.F.Mergeable.parts.joined g.F.Functions.code c.records.result.now c.records-2.result.now c.records-3.result.now v.core.records x.target e.key c.page_of-page.result c.higher_of-low.result l (g.R.Receipt.stands p.receipt) p.bytes c.trace_in.result (c.records.ensures ∙ moved) (c.records-2.ensures ∙ moved) (c.records-3.ensures ∙ moved) c.page_of-page.ensures (c.higher_of-low.ensures.value ∙ ap (higher_of (x.target + 1)) c.first_of.ensures) c.requires.has.own c.trace_in.ensures.read c.trace_in.ensures.kept in
-    let page = c.page_of-page.ensures ∙ ap (λ r. page_at r.page_bits l.wanted) (c.records.ensures ∙ moved) in
+    let page = c.page_of-page.ensures ∙ ap (λ r. page_at r.log.bits l.wanted) (c.records.ensures ∙ moved) in
     let is = c.in-Err.is in
     LoadsOn.bad_record x e l p c.in-Err._damaged at (has-page g.F.Key.Ord.cmp g.F.Mergeable.parts.joined g.F.Functions.code order v sound s c.args.slot c.args.context x e l a at (IsEntryIn g.F.Key.Fixed.codec g.F.Value.Fixed.codec) (g.R.Receipt.stands p.receipt) p.bytes c.trace_in.result came) refl (traces-to g.F.Key.Ord.cmp g.F.Mergeable.parts.joined g.F.Functions.code order v sound s c.args.slot c.args.context x e l a at (IsEntryIn g.F.Key.Fixed.codec g.F.Value.Fixed.codec) (g.R.Receipt.stands p.receipt) p.bytes c.trace_in.result came (Err c.in-Err._damaged) is) c.end.ensures (ap (λ n. Err (Damaged n)) page)
 
@@ -156,13 +156,13 @@ returns-then-not-is_record_start-clause-effect g c =
     let at = c.requires.traces in
     let moved = ap (λ u. u.core.records) c.self.view_is in
     let came = page-came g.R.Receipt.keeps (IsEntryIn g.F.Key.Fixed.codec g.F.Value.Fixed.codec) g.F.Key.Ord.cmp g.F.Mergeable.parts.joined g.F.Functions.code c.records.result.now c.records-2.result.now c.records-3.result.now v.core.records x.target e.key c.page_of-page.result c.higher_of-low.result l (g.R.Receipt.stands p.receipt) p.bytes c.trace_in.result (c.records.ensures ∙ moved) (c.records-2.ensures ∙ moved) (c.records-3.ensures ∙ moved) c.page_of-page.ensures (c.higher_of-low.ensures.value ∙ ap (higher_of (x.target + 1)) c.first_of.ensures) c.requires.has.own c.trace_in.ensures.read c.trace_in.ensures.kept in
-    let page = c.page_of-page.ensures ∙ ap (λ r. page_at r.page_bits l.wanted) (c.records.ensures ∙ moved) in
+    let page = c.page_of-page.ensures ∙ ap (λ r. page_at r.log.bits l.wanted) (c.records.ensures ∙ moved) in
     let r = c.in-Ok.came in
     let is = c.in-Ok.is in
     let b = c.in-Further.address in
     let j = sym c.liveness_of.ensures ∙ c.in-Further.is in
     LoadsOn.bad_link x e l p b c.in-Further.parts at (has-page g.F.Key.Ord.cmp g.F.Mergeable.parts.joined g.F.Functions.code order v sound s c.args.slot c.args.context x e l a at (IsEntryIn g.F.Key.Fixed.codec g.F.Value.Fixed.codec) (g.R.Receipt.stands p.receipt) p.bytes c.trace_in.result came) refl (way-below g.F.Key.Ord.cmp g.F.Mergeable.parts.joined g.F.Functions.code order v sound s c.args.slot c.args.context x e l a at (IsEntryIn g.F.Key.Fixed.codec g.F.Value.Fixed.codec) (g.R.Receipt.stands p.receipt) p.bytes c.trace_in.result came r b c.in-Further.parts is j) (above-place g.F.Key.Ord.cmp g.F.Mergeable.parts.joined g.F.Functions.code order v sound s c.args.slot c.args.context x e l a at (IsEntryIn g.F.Key.Fixed.codec g.F.Value.Fixed.codec) (g.R.Receipt.stands p.receipt) p.bytes c.trace_in.result came r b c.in-Further.parts is j)
-    (λ place. false≢true (sym c.if-not-is_record_start.true ∙ c.is_record_start.ensures.1 (subst (λ r. IsRecordStart r.page_bits r.record_size b) (sym (c.records-in-Further.ensures ∙ moved)) place))) c.end-then-not-is_record_start.ensures (ap (λ n. Err (Damaged n)) page)
+    (λ place. false≢true (sym c.if-not-is_record_start.true ∙ c.is_record_start.ensures.1 (subst (λ r. IsRecordStart r.log.bits r.record_size b) (sym (c.records-in-Further.ensures ∙ moved)) place))) c.end-then-not-is_record_start.ensures (ap (λ n. Err (Damaged n)) page)
 
 pub ask-requires-clause-flushed : goal.ask-requires-clause-flushed
 ask-requires-clause-flushed g c =
@@ -298,7 +298,7 @@ returns-else-not-is_record_start-clause-effect g c =
     let is = c.in-Ok.is in
     let b = c.in-Further.address in
     let j = sym c.liveness_of.ensures ∙ c.in-Further.is in
-    let place = subst (λ r. IsRecordStart r.page_bits r.record_size b) (c.records-in-Further.ensures ∙ moved) (c.is_record_start.ensures.0 c.if-not-is_record_start.false) in
+    let place = subst (λ r. IsRecordStart r.log.bits r.record_size b) (c.records-in-Further.ensures ∙ moved) (c.is_record_start.ensures.0 c.if-not-is_record_start.false) in
     LoadsOn.further x e l p b c.in-Further.parts at (has-page g.F.Key.Ord.cmp g.F.Mergeable.parts.joined g.F.Functions.code order v sound s c.args.slot c.args.context x e l a at (IsEntryIn g.F.Key.Fixed.codec g.F.Value.Fixed.codec) (g.R.Receipt.stands p.receipt) p.bytes c.trace_in.result came) refl (way-below g.F.Key.Ord.cmp g.F.Mergeable.parts.joined g.F.Functions.code order v sound s c.args.slot c.args.context x e l a at (IsEntryIn g.F.Key.Fixed.codec g.F.Value.Fixed.codec) (g.R.Receipt.stands p.receipt) p.bytes c.trace_in.result came r b c.in-Further.parts is j) (above-place g.F.Key.Ord.cmp g.F.Mergeable.parts.joined g.F.Functions.code order v sound s c.args.slot c.args.context x e l a at (IsEntryIn g.F.Key.Fixed.codec g.F.Value.Fixed.codec) (g.R.Receipt.stands p.receipt) p.bytes c.trace_in.result came r b c.in-Further.parts is j) place c.ask.ensures.effect
 
 pub overflow_add-target : goal.overflow_add-target
@@ -420,7 +420,7 @@ returns-then-not-is_record_start-clause-undamaged g c = λ yes_keeps page told.
     let came = page-came g.R.Receipt.keeps (IsEntryIn g.F.Key.Fixed.codec g.F.Value.Fixed.codec) g.F.Key.Ord.cmp g.F.Mergeable.parts.joined g.F.Functions.code c.records.result.now c.records-2.result.now c.records-3.result.now v.core.records x.target e.key c.page_of-page.result c.higher_of-low.result l (g.R.Receipt.stands p.receipt) p.bytes c.trace_in.result (c.records.ensures ∙ moved) (c.records-2.ensures ∙ moved) (c.records-3.ensures ∙ moved) c.page_of-page.ensures (c.higher_of-low.ensures.value ∙ ap (higher_of (x.target + 1)) c.first_of.ensures) c.requires.has.own c.trace_in.ensures.read c.trace_in.ensures.kept in
     let b = c.in-Further.address in
     let place = way-place g.F.Key.Ord.cmp g.F.Mergeable.parts.joined g.F.Functions.code order v sound s c.args.slot c.args.context x e l a at (IsEntryIn g.F.Key.Fixed.codec g.F.Value.Fixed.codec) (g.R.Receipt.stands p.receipt) p.bytes c.trace_in.result came c.in-Ok.came b c.in-Further.parts c.in-Ok.is (sym c.liveness_of.ensures ∙ c.in-Further.is) yes_keeps in
-    false≢true (sym c.if-not-is_record_start.true ∙ c.is_record_start.ensures.1 (subst (λ r. IsRecordStart r.page_bits r.record_size b) (sym (c.records-in-Further.ensures ∙ moved)) place))
+    false≢true (sym c.if-not-is_record_start.true ∙ c.is_record_start.ensures.1 (subst (λ r. IsRecordStart r.log.bits r.record_size b) (sym (c.records-in-Further.ensures ∙ moved)) place))
 
 pub returns-in-Superseded-clause-undamaged : goal.returns-in-Superseded-clause-undamaged
 returns-in-Superseded-clause-undamaged g c = λ yes_keeps page is. answer-not is

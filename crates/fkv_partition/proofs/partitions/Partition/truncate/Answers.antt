@@ -11,13 +11,13 @@ use Rattle.fkv_partition.proofs.partitions.Partition.truncate.Goals as goal
 pub returns-then-page-page_of-clause-effect : goal.returns-then-page-page_of-clause-effect
 returns-then-page-page_of-clause-effect g c =
     let high = rw (c.page_of.ensures, c.records.ensures) at c.if-page-page_of.true in
-    rw (← c.self.view_is) (Truncates.not_due (λ d. page-high c.self.inside.core.records.page_bits c.args.page c.self.inside.cleared high d.cleared) refl refl)
+    rw (← c.self.view_is) (Truncates.not_due (λ d. page-high c.self.inside.core.records.log.bits c.args.page c.self.inside.cleared high d.cleared) refl refl)
 
 pub truncate-truncated-requires-clause-cleared : goal.truncate-truncated-requires-clause-cleared
 truncate-truncated-requires-clause-cleared g c =
     let r = c.self.inside.core.records in
-    let low = page-low r.page_bits c.args.page c.self.inside.cleared (rw (c.page_of.ensures, c.records.ensures) at c.if-page-page_of.false) in
-    λ yes_keeps due. cleared-below g.F.Key.Ord.cmp r.entries (start_at r.page_bits c.args.page) c.self.inside.cleared low (c.self.invariant.cleared yes_keeps)
+    let low = page-low r.log.bits c.args.page c.self.inside.cleared (rw (c.page_of.ensures, c.records.ensures) at c.if-page-page_of.false) in
+    λ yes_keeps due. cleared-below g.F.Key.Ord.cmp r.log.text (start_at r.log.bits c.args.page) c.self.inside.cleared low (c.self.invariant.cleared yes_keeps)
 
 pub invariant_of-self : goal.invariant_of-self
 invariant_of-self g c =
@@ -25,7 +25,7 @@ invariant_of-self g c =
     let known = g.met.F.Key.FixedKey in
     let order = key_order g.F.Key.PartialEq.eq g.F.Key.Ord.cmp ord.matches_eq known.exact ord.total in
     let r = c.self.inside.core.records in
-    let low = page-low r.page_bits c.args.page c.self.inside.cleared (rw (c.page_of.ensures, c.records.ensures) at c.if-page-page_of.false) in
+    let low = page-low r.log.bits c.args.page c.self.inside.cleared (rw (c.page_of.ensures, c.records.ensures) at c.if-page-page_of.false) in
     let v = view_of c.self.inside.core c.self.inside.cleared in
     let new = c.truncate-truncated.new.self in
     let does = c.truncate-truncated.ensures.effect in
@@ -33,13 +33,13 @@ invariant_of-self g c =
     let seats = c.sessions_preserved.ensures.truncates g.R.Receipt.keeps v.core new c.args.page c.args.now c.truncate-truncated.result does in
     keep-event g.R.Receipt.keeps g.F.Key.Ord.cmp g.F.Mergeable.parts.joined g.F.Functions.code v new c.self.invariant c.known-2.ensures.traced c.known-2.ensures.stood
     (c.events_preserve.ensures.truncates g.R.Receipt.keeps g.F.Key.Ord.cmp g.F.Mergeable.parts.joined g.F.Functions.code v.core new c.args.page c.args.now c.truncate-truncated.result order c.known.ensures
-    (λ yes_keeps due. cleared-below g.F.Key.Ord.cmp r.entries (start_at r.page_bits c.args.page) c.self.inside.cleared low (c.self.invariant.cleared yes_keeps)) does c.known-2.ensures)
+    (λ yes_keeps due. cleared-below g.F.Key.Ord.cmp r.log.text (start_at r.log.bits c.args.page) c.self.inside.cleared low (c.self.invariant.cleared yes_keeps)) does c.known-2.ensures)
     cut.number cut.count cut.begun (stood-before v.core new seats.0)
 
 pub returns-clause-effect : goal.returns-clause-effect
 returns-clause-effect g c =
     let r = c.self.inside.core.records in
-    let low = page-low r.page_bits c.args.page c.self.inside.cleared (rw (c.page_of.ensures, c.records.ensures) at c.if-page-page_of.false) in
+    let low = page-low r.log.bits c.args.page c.self.inside.cleared (rw (c.page_of.ensures, c.records.ensures) at c.if-page-page_of.false) in
     let v = view_of c.self.inside.core c.self.inside.cleared in
     rw (← c.self.view_is) (truncates-told g.R.Receipt.keeps v c.truncate-truncated.new.self c.args.page c.args.now c.truncate-truncated.result low c.truncate-truncated.ensures.effect)
 
