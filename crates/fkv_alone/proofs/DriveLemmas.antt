@@ -13,7 +13,7 @@ use Rattle.fkv_partition.specs.declared.contexts.Phase.TheVariants.{Fresh, Confi
 use Rattle.fkv_partition.specs.declared.contexts.Progress.{Progress}
 use Rattle.fkv_partition.specs.declared.contexts.Progress.TheVariants.{Done, Next, NeedsBuild, NeedsLoad, Waits}
 use Rattle.fkv_partition.specs.CoreEnding.{GivesUp}
-use Rattle.fkv_partition.specs.CoreViews.{CoreView, slots_of}
+use Rattle.fkv_partition.specs.CoreViews.{CoreView}
 use Rattle.fkv_partition.specs.Pending.{OthersPend, AllPend, pending, pending_of, pending_by}
 use Rattle.fkv_partition.specs.Beginning.{IsFirstFree}
 use Rattle.fkv_partition.specs.Views.{PartitionView}

@@ -1,5 +1,5 @@
 -- What each event makes of an operation that is driven alone.
-use Rattle.std.proofs.Common.{◌≡◌, ◌≢◌, ◌+◌, ◌<◌, ◌^◌, ◌⊎◌, ◌==◌, inl, inr, ℕ, List, Bool, true, false, cond, IsTrue, Option, Some, None, option_map, Result, Ok, Err, IfOk, IfErr, OnOk, OnErr, slice_get, refl, sym, ◌∙◌, ap, subst, arith}
+use Rattle.std.proofs.Common.{◌≡◌, ◌≢◌, ◌+◌, ◌<◌, ◌^◌, ◌⊎◌, ◌==◌, inl, inr, ℕ, List, Bool, true, false, cond, IsTrue, Option, Some, None, option_map, Result, Ok, Err, IfOk, IfErr, OnOk, OnErr, refl, sym, ◌∙◌, ap, subst, arith}
 use Rattle.std.specs.declared.cmp.Ordering.{Ordering}
 use Rattle.fkv_functions.specs.Meanings.{Meanings}
 use Rattle.fkv_functions.specs.Plain.{Same, PlainMap}
