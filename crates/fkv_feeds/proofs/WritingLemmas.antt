@@ -1,6 +1,7 @@
 -- The text of a table, row by row.
-use Rattle.std.proofs.Common.{arith, ◌≡◌, ◌<◌, ◌≤◌, ◌+◌, ◌-◌, zero, suc, true, false, ℕ, List, [], ◌∷◌, ◌++◌, Option, Some, None, Result, take, drop, get_or, length, refl, sym, ap, subst, ◌∙◌, append_assoc}
-use Rattle.std.specs.Prelude.{OnOk, OnErr}
+use Rattle.std.proofs.Common.{arith, ◌≡◌, ◌<◌, ◌≤◌, ◌+◌, ◌-◌, zero, suc, true, false, ℕ, List, [], ◌∷◌, ◌++◌, ◌⊎◌, inl, inr, Option, Some, None, Ok, Err, Result, take, drop, get_or, length, refl, sym, ap, subst, ◌∙◌, append_assoc}
+use Rattle.std.specs.Prelude.{IfErr, OnOk, OnErr}
+use Rattle.std.proofs.KnownBytes.{Appends-nil}
 use Rattle.std.specs.Io.KnownBytes.{Appends}
 use Rattle.std.proofs.lemmas.List.{append-nil, take_more, take_all, take-append-drop}
 use Rattle.csv.specs.Writing.{default_writer, escaped, field_text, fields_text, is_blank, needs_quotes, row_text}
@@ -8,7 +9,10 @@ use Rattle.csv.proofs.WriteFacts.{escaped-append, fields-snoc}
 use Rattle.std.proofs.lemmas.List.FromFn.{length-map-range_with_len, map-range_with_len_more}
 use Rattle.fkv_functions.specs.declared.names.Name.{Name}
 use Rattle.fkv_runs.specs.Merging.{first_pair}
-use Rattle.fkv_feeds.specs.Writing.{fields_of, pair_text, table_text}
+use Rattle.fkv_functions.specs.declared.refusals.Refused.{Refused}
+use Rattle.fkv_functions.specs.declared.refusals.Refused.TheVariants.{Unwritable}
+use Rattle.fkv_streams.specs.Counting.{CountsOnly, one_more}
+use Rattle.fkv_feeds.specs.Writing.{IsUnwritten, fields_of, pair_text, table_text}
 use Rattle.fkv_streams.specs.Streams.{AppendsPrefix, PassesOn}
 use Rattle.fkv_streams.proofs.BufferLemmas.{prefix-more, prefix-longer, passes-behind, passes-front, passes-out, front-out, passes-none}
 
@@ -116,6 +120,10 @@ module _ {A : Type 0} where
   first-cons [] x e = absurd (cc)
   first-cons (y ∷ ys) x e = (let s : y ≡ x = cc in ap (λ z. z ∷ ys) s)
 
+  pub none-first : (xs : List A) → None ≡ first_pair xs → xs ≡ []
+  none-first [] e = refl
+  none-first (y ∷ ys) e = absurd (cc)
+
 module _ {V : Type 0} (value : V → List (List ℕ)) where
   -- the rows so far were put, and with those of the pairs that are left they are the table's text
   abbrev pub Written : Option (List ℕ) → Option (List ℕ) → List ℕ → List (Name × V) → List (Name × V) → Type 0
@@ -148,3 +156,58 @@ module _ {V : Type 0} (value : V → List (List ℕ)) where
   pub written-out : {T E : Type 0} (a b c : Option (List ℕ)) (held : List ℕ) (left all : List (Name × V)) (r : Result T E) → first_pair left ≡ None
       → Written a b held left all → OnErr r (AppendsPrefix b c held) → OnErr r (AppendsPrefix a c (table_text value all))
   written-out a b c held left all r e w p = front-out a b c held (table_text value all) r (whole a b held left all e w) p
+
+  -- ---- rows that are put some at a time
+  pub written-none : (a : Option (List ℕ)) (held : List ℕ) (all : List (Name × V)) → held ≡ [] → Written a a held all all
+  written-none a held all e = ([], ([], Appends-nil a, e), refl)
+
+  pub written-put : (a b c : Option (List ℕ)) (held after : List ℕ) (left rest all : List (Name × V)) → Written a b held left all
+      → (text : List ℕ) × PassesOn b c after (held ++ text) × (text ++ table_text value rest ≡ table_text value left)
+      → Written a c after rest all
+  written-put a b c held after left rest all w p =
+      (w.0 ++ p.0, passes-behind a b c [] held after w.0 p.0 w.1 p.1, append_assoc w.0 p.0 (table_text value rest) ∙ ap (λ t. w.0 ++ t) p.2 ∙ w.2)
+
+  pub written-prefix : (a b c : Option (List ℕ)) (held : List ℕ) (left all : List (Name × V)) → Written a b held left all
+      → AppendsPrefix b c (held ++ table_text value left) → AppendsPrefix a c (table_text value all)
+  written-prefix a b c held left all w p = subst (AppendsPrefix a c) w.2 (passes-front a b c [] held w.0 (table_text value left) w.1 p)
+
+module _ {V : Type 0} (value : V → List (List ℕ)) where
+  -- ---- rows of any pairs
+  pub one-row : (x : Name × V) → table_text value (x ∷ []) ≡ pair_text value x
+  one-row x = append-nil (pair_text value x)
+
+  text-append : (xs ys : List (Name × V)) → table_text value (xs ++ ys) ≡ table_text value xs ++ table_text value ys
+  text-append [] ys = refl
+  text-append (x ∷ xs) ys = ap (λ t. pair_text value x ++ t) (text-append xs ys) ∙ sym (append_assoc (pair_text value x) (table_text value xs) (table_text value ys))
+
+  pub as-written : (a b : Option (List ℕ)) (held : List ℕ) (done : List (Name × V)) → PassesOn a b held (table_text value done) → Written value a b held [] done
+  as-written a b held done p = (table_text value done, p, append-nil (table_text value done))
+
+  pub rows-put : (a b c : Option (List ℕ)) (held after : List ℕ)
+      → (done : List (Name × V)) × PassesOn a b held (table_text value done)
+      → (some : List (Name × V)) × PassesOn b c after (held ++ table_text value some)
+      → (all : List (Name × V)) × PassesOn a c after (table_text value all)
+  rows-put a b c held after p q =
+      (p.0 ++ q.0, subst (PassesOn a c after) (sym (text-append p.0 q.0)) (passes-behind a b c [] held after (table_text value p.0) (table_text value q.0) p.1 q.1))
+
+  pub rows-front : (a b c : Option (List ℕ)) (held : List ℕ) (done some : List (Name × V)) → PassesOn a b held (table_text value done)
+      → AppendsPrefix b c (held ++ table_text value some) → AppendsPrefix a c (table_text value (done ++ some))
+  rows-front a b c held done some p q =
+      subst (AppendsPrefix a c) (sym (text-append done some)) (passes-front a b c [] held (table_text value done) (table_text value some) p q)
+
+-- ---- why they were not all put
+module _ {P : Type 0} (refuses : P → P → Refused → Type 0) where
+  pub unwritten-more : (a c : Option (List ℕ)) (first old new : ℕ) (e : Refused) → old ≡ first
+      → ((e ≡ Unwritable) × (new ≡ one_more old)) ⊎ ((was : P) × (is : P) × refuses was is e × (new ≡ old))
+      → IsUnwritten refuses a c first new e
+  unwritten-more a c first old new e same (inl h) = inr (inl (h.0, h.1 ∙ ap one_more same))
+  unwritten-more a c first old new e same (inr h) = inr (inr (inr (h.0, h.1, h.2, h.3 ∙ same)))
+
+  pub unwritten-last : {T : Type 0} (a c : Option (List ℕ)) (first old new : ℕ) (r : Result T Refused) → old ≡ first
+      → IfErr r (λ e. e ≡ Unwritable) → CountsOnly Unwritable r old new → IfErr r (IsUnwritten refuses a c first new)
+  unwritten-last a c first old new (Ok x) same only counted = tt
+  unwritten-last a c first old new (Err e) same only counted = inr (inl (only, counted.counted (ap (λ f. Err f) only) ∙ ap one_more same))
+
+pub steady-last : {T : Type 0} (first old new : ℕ) (r : Result T Refused) → old ≡ first → CountsOnly Unwritable r old new → OnOk r (new ≡ first)
+steady-last first old new (Ok x) same counted = counted.steady (λ e. absurd (cc)) ∙ same
+steady-last first old new (Err e) same counted = tt

@@ -14,4 +14,4 @@ pub use fkv_runs::{Pairs, Table};
 pub use modes::RowMode;
 pub use running::{LIMIT, run_alone, run_alone_by, run_one, run_one_by};
 pub use shown::Shown;
-pub use writing::write_table;
+pub use writing::{write_pairs, write_table};

@@ -1,15 +1,17 @@
 //! Writing a table out.
-ghost use Rattle.std.specs.Prelude.{◌≡◌, ◌⊎◌, ◌∷◌, ◌++◌, [], true, Err, IfErr, OnOk, OnErr};
+ghost use Rattle.std.specs.Prelude.{◌≡◌, ◌⊎◌, ◌∷◌, ◌++◌, [], ℕ, List, true, false, Err, IfOk, IfErr, OnOk, OnErr};
+ghost use Rattle.fkv_functions.specs.declared.names.Name.{Name};
 ghost use Rattle.std.specs.Io.KnownBytes.{Appends};
 ghost use Rattle.csv.specs.Quoting.{needs_byte};
 ghost use Rattle.csv.specs.Writing.{default_writer, escaped, field_text, fields_text, needs_quotes, quoted};
-ghost use Rattle.fkv_streams.specs.Counting.{CountsOnly};
+ghost use Rattle.fkv_streams.specs.Counting.{CountsOnly, one_more};
 ghost use Rattle.fkv_streams.specs.Streams.{AppendsPrefix, PassesOn};
-ghost use Rattle.fkv_feeds.specs.Writing.{fields_of, pair_text, table_text};
+ghost use Rattle.fkv_feeds.specs.Writing.{IsUnwritten, fields_of, pair_text, table_text};
 
 use crate::shown::Shown;
 use fkv_functions::{Name, Refused};
 use fkv_runs::{Pairs, Table};
+use fkv_spills::ReadPairs;
 use fkv_streams::{Sink, WriteBuffer};
 use itoa::Buffer;
 use std::alloc::Global;
@@ -196,6 +198,83 @@ pub fn write_table<V: Shown + Copy, W: Sink>(
             Ok(()) => {}
             Err(refused) => return Err(refused),
         }
+    }
+    buffer.finish(writer)
+}
+
+/// Puts the row of the next pair, and says whether there was one. Refused as [`WriteBuffer::put`], and as a pair is.
+fn put_more<V: Shown + Copy, P: ReadPairs<Value = V>, W: Sink>(
+    buffer: &mut WriteBuffer,
+    pairs: &mut P,
+    sink: &mut W,
+) -> Result<bool, Refused>
+    ensures ok { (xs : List (Name × V)) → P.holds pairs.old xs → IfOk result (λ more. (left : List (Name × V)) × P.holds pairs.new left
+        × ((text : List ℕ) × PassesOn (W.contents sink.old) (W.contents sink.new) buffer.new (buffer.old ++ text)
+        × (text ++ table_text (fields_of V.FIELDS V.field_at) left ≡ table_text (fields_of V.FIELDS V.field_at) xs))
+        × (more ≡ false → left ≡ [])) }
+    ensures front { (xs : List (Name × V)) → P.holds pairs.old xs → OnErr result (AppendsPrefix (W.contents sink.old)
+        (W.contents sink.new) (buffer.old ++ table_text (fields_of V.FIELDS V.field_at) xs)) }
+    ensures rows { (some : List (Name × V))
+        × OnOk result (PassesOn (W.contents sink.old) (W.contents sink.new) buffer.new
+        (buffer.old ++ table_text (fields_of V.FIELDS V.field_at) some))
+        × OnErr result (AppendsPrefix (W.contents sink.old) (W.contents sink.new)
+        (buffer.old ++ table_text (fields_of V.FIELDS V.field_at) some)) }
+    ensures steady { OnOk result (W.failures sink.new ≡ W.failures sink.old) }
+    ensures told { IfErr result (λ e. ((e ≡ Refused.Unwritable) × (W.failures sink.new ≡ one_more (W.failures sink.old)))
+        ⊎ ((was : P) × (is : P) × P.refuses was is e × (W.failures sink.new ≡ W.failures sink.old))) }
+{
+    let pair = match pairs.next() {
+        Ok(Some(pair)) => pair,
+        Ok(None) => return Ok(false),
+        Err(refused) => return Err(refused),
+    };
+    match put_row(buffer, sink, &pair) {
+        Ok(()) => Ok(true),
+        Err(refused) => Err(refused),
+    }
+}
+
+/// Writes the pairs that are still to come, a row for each, in order, and lets them out, as [`write_table`] writes a table.
+///
+/// # Errors
+///
+/// `NoMemory`, and then nothing was written; `Unwritable` where the writer fails or takes no more; `Worn` after 2^64 - 1 rows; and
+/// what a pair is refused by. The bytes that the writer took are the first of the table's text.
+pub fn write_pairs<V: Shown + Copy, P: ReadPairs<Value = V>, W: Sink>(
+    alloc: Global,
+    pairs: &mut P,
+    writer: &mut W,
+) -> Result<(), Refused>
+    ensures ok { (xs : List (Name × V)) → P.holds pairs.old xs → OnOk result
+        (Appends (W.contents writer.old) (W.contents writer.new) (table_text (fields_of V.FIELDS V.field_at) xs)) }
+    ensures prefix { (xs : List (Name × V)) → P.holds pairs.old xs → OnErr result
+        (AppendsPrefix (W.contents writer.old) (W.contents writer.new) (table_text (fields_of V.FIELDS V.field_at) xs)) }
+    // and whatever the pairs are, they are written as rows
+    ensures rows { (xs : List (Name × V))
+        × OnOk result
+        (Appends (W.contents writer.old) (W.contents writer.new) (table_text (fields_of V.FIELDS V.field_at) xs))
+        × OnErr result
+        (AppendsPrefix (W.contents writer.old) (W.contents writer.new) (table_text (fields_of V.FIELDS V.field_at) xs)) }
+    ensures told { IfErr result (IsUnwritten P.refuses (W.contents writer.old) (W.contents writer.new)
+        (W.failures writer.old) (W.failures writer.new)) }
+    ensures steady { OnOk result (W.failures writer.new ≡ W.failures writer.old) }
+    ensures out { OnOk result (W.is_out writer.new ≡ true) }
+{
+    let mut buffer = match WriteBuffer::new(alloc, ROOM) {
+        Ok(buffer) => buffer,
+        Err(refused) => return Err(refused),
+    };
+    let mut more = true;
+    let mut room = u64::MAX;
+    'rows: while more && room > 0 {
+        room -= 1;
+        more = match put_more(&mut buffer, pairs, writer) {
+            Ok(more) => more,
+            Err(refused) => return Err(refused),
+        };
+    }
+    if more {
+        return Err(Refused::Worn);
     }
     buffer.finish(writer)
 }

@@ -1,0 +1,2 @@
+pub mod Spilling
+pub mod Reading
