@@ -6,5 +6,6 @@ mod LeftLemmas
 mod PartedLemmas
 pub mod PassLemmas
 mod RunLemmas
+mod RowLemmas
 pub mod StrangeLemmas
 pub mod TurnLemmas

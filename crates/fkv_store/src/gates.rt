@@ -3,7 +3,7 @@
 /// How far a pass is.
 #[derive(Clone, Copy, PartialEq, Eq, Debug)]
 pub enum Place {
-    /// Before the first hold of an operation.
+    /// Before the first hold of an operation, or of updates that are made in one hold.
     Start,
     /// In a hold of the lock of the partition of this number.
     Locked(u64),

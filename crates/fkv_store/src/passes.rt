@@ -22,7 +22,7 @@ use std::rt::Clock;
 use std::sync::Wait;
 
 /// After how many answers a pass refreshes its sessions of itself.
-const ANSWERS: u8 = 64;
+pub(crate) const ANSWERS: u8 = 64;
 
 /// What a caller has of a store: its sessions, and for each partition the list of what it was answered and of how many
 /// updates it was told there.
@@ -87,7 +87,7 @@ impl Model for Mark {
 
 /// The session of a pass in a partition: the one that it has there, or one that is entered now.
 #[inline(always)]
-fn session_in<F: Mergeable, D: Disk, H: Recorder<F>, G: Gate>(
+pub(crate) fn session_in<F: Mergeable, D: Disk, H: Recorder<F>, G: Gate>(
     rt: &impl Wait,
     store: &Store<F, D, H>,
     sessions: &mut Vec<Option<SessionId>>,
@@ -111,9 +111,18 @@ fn session_in<F: Mergeable, D: Disk, H: Recorder<F>, G: Gate>(
     }
 }
 
+/// Tells the gate that a worker is before the first hold of an operation, where it is: one that is not tried in one hold was tried so
+/// before.
+#[inline(always)]
+fn start<G: Gate>(gate: &G, at_once: bool, worker: u32) {
+    if at_once {
+        gate.pass(worker, Place::Start);
+    }
+}
+
 /// Refreshes the sessions of a pass where so many operations were answered since the last time: those in partitions whose
 /// pages were moved since they were refreshed. To the others a refresh would show nothing new.
-fn refresh_at_times<F: Mergeable, D: Disk, H: Recorder<F>, G: Gate>(
+pub(crate) fn refresh_at_times<F: Mergeable, D: Disk, H: Recorder<F>, G: Gate>(
     rt: &impl Wait,
     store: &Store<F, D, H>,
     sessions: &[Option<SessionId>],
@@ -202,7 +211,7 @@ impl<F: Mergeable, D: Disk, H: Recorder<F>> Pass<F, D, H> {
         ensures counted { IfErr result (AreCounted D.Receipt.keeps (partition_of store.now.count (F.code (key_of op)))
             self.old.reads self.new.reads self.new.missed) }
     {
-        self.run_as(rt, alloc, store, op, Loads::Read, gate)
+        self.run_as(rt, alloc, store, op, Loads::Read, true, gate)
     }
 
     /// Updates a key by an input as [`Pass::run`] does, but where the functions merge it reads no page: a merge of the key by
@@ -239,21 +248,23 @@ impl<F: Mergeable, D: Disk, H: Recorder<F>> Pass<F, D, H> {
             self.old.reads self.new.reads self.new.missed) }
     {
         let op = KeyedOp::Rmw(key, input);
-        match self.run_as(rt, alloc, store, op, Loads::Merge, gate) {
+        match self.run_as(rt, alloc, store, op, Loads::Merge, true, gate) {
             Ok(_answer) => Ok(()),
             Err(refused) => Err(refused),
         }
     }
 
-    /// Runs an operation as [`Pass::run`] does, or where pages are not to be read an update as a merge.
+    /// Runs an operation as [`Pass::run`] does, or where pages are not to be read an update as a merge. It is tried in one hold first,
+    /// where that is asked for.
     #[inline(always)]
-    fn run_as<G: Gate>(
+    pub(crate) fn run_as<G: Gate>(
         &mut self,
         rt: &(impl Wait + Clock),
         alloc: Global,
         store: &Store<F, D, H>,
         op: KeyedOpOf<F>,
         loads: Loads,
+        at_once: bool,
         gate: &G,
     ) -> Result<AnswerOf<F>, Refused>
         ensures ok { IfOk result (λ answer. (ran : KeyedOp F.Key F.Value F.Input) × IsRunAs loads op ran
@@ -288,7 +299,7 @@ impl<F: Mergeable, D: Disk, H: Recorder<F>> Pass<F, D, H> {
             partition,
             worker: self.worker,
         };
-        gate.pass(self.worker, Place::Start);
+        start(gate, at_once, self.worker);
         match refresh_at_times(
             rt,
             store,
@@ -312,6 +323,7 @@ impl<F: Mergeable, D: Disk, H: Recorder<F>> Pass<F, D, H> {
             sessions: &self.sessions,
             session,
             known,
+            at_once,
         };
         let finished = match run_in(
             rt,

@@ -23,7 +23,7 @@ use std::sync::Wait;
 
 /// What is done where an operation needs a page from the device.
 #[derive(Clone, Copy, PartialEq, Eq, Debug)]
-pub(crate) enum Loads {
+pub enum Loads {
     /// The page is read, and the operation goes on.
     Read,
     /// An update is given up, and a merge by the same input runs in its place, where the functions merge. For any other
@@ -31,8 +31,8 @@ pub(crate) enum Loads {
     Merge,
 }
 
-/// What a pass hands to the run of one operation: where it runs, and in which of its sessions; and of how many updates of the
-/// partition it was told.
+/// What a pass hands to the run of one operation: where it runs, and in which of its sessions; of how many updates of the
+/// partition it was told; and whether it is tried in one hold first.
 #[derive(Clone, Copy)]
 pub(crate) struct Run<'a> {
     pub alloc: Global,
@@ -40,6 +40,7 @@ pub(crate) struct Run<'a> {
     pub sessions: &'a [Option<SessionId>],
     pub session: SessionId,
     pub known: u64,
+    pub at_once: bool,
 }
 
 /// Refreshes each session of a pass.
@@ -257,8 +258,8 @@ fn run_on<F: Mergeable, D: Disk, H: Recorder<F>, G: Gate>(
     Err(Refused::Stalled)
 }
 
-/// Makes an operation in one hold, where it is an update or a read that is finished so; where it is not, nothing has changed.
-/// Refused as [`try_update_in_place`] is.
+/// Makes an operation in one hold, where that is asked for and it is an update or a read that is finished so; where it is not,
+/// nothing has changed. Refused as [`try_update_in_place`] is.
 #[inline(always)]
 fn try_at_once<F: Mergeable, D: Disk, H: Recorder<F>, G: Gate>(
     rt: &impl Wait,
@@ -272,6 +273,9 @@ fn try_at_once<F: Mergeable, D: Disk, H: Recorder<F>, G: Gate>(
     ensures plain { IfOk result (λ done. IfSome done (λ _. is_merge op ≡ false)) }
     ensures only { IfErr result (IsUndone run.now.known) }
 {
+    if !run.at_once {
+        return Ok(None);
+    }
     match op {
         KeyedOp::Rmw(key, input) => {
             try_update_in_place(

@@ -4,7 +4,7 @@ use fkv_functions::{Name, Refused, SumFns};
 use fkv_histories::Recorder;
 use fkv_operations::{Answer, KeyedOp};
 use fkv_partition::Config;
-use fkv_store::{Events, Gate, KEEPER, Open, Pass, Place, Store};
+use fkv_store::{Events, Gate, KEEPER, Loads, Open, Pass, Place, Store};
 use std::alloc::Global;
 use std::rt::Clock;
 use std::sync::Wait;
@@ -74,6 +74,8 @@ pub enum Call {
     Read(usize, u8),
     /// An update of a key of one letter, or a merge where that would read a page.
     UpdateOrMerge(usize, u8, i64),
+    /// Updates of keys of one letter, in one call.
+    UpdateAll(usize, &'static [(u8, i64)], Loads),
     Refresh(usize),
     Rest(usize),
     /// Moves the pages of this partition.
@@ -84,6 +86,8 @@ pub enum Call {
     Stop(usize),
     /// How often a page was read for an operation so far.
     Loads,
+    /// How often a pass held the lock of a partition so far.
+    Holds,
 }
 
 /// What a call tells.
@@ -176,6 +180,9 @@ impl<D: Disk, H: Recorder<SumFns>> Called<D, H> {
                 } = self;
                 done_told(passes[pass].update_or_merge(rt, alloc, store, key, amount, counted))
             }
+            Call::UpdateAll(pass, letters, loads) if pass < self.passes.len() => {
+                done_told(self.update_all(rt, alloc, pass, letters, loads))
+            }
             Call::Refresh(pass) if pass < self.passes.len() => {
                 done_told(self.passes[pass].refresh(rt, &self.store))
             }
@@ -188,8 +195,38 @@ impl<D: Disk, H: Recorder<SumFns>> Called<D, H> {
             },
             Call::Compact(partition) => done_told(self.store.compact(rt, partition, &Open)),
             Call::Stop(partition) => done_told(self.stop(rt, partition)),
+            Call::Holds => Told::Count(self.holds()),
             _ => Told::Count(self.counted.loads.load(Ordering::SeqCst)),
         }
+    }
+
+    /// Refused as a pass is, and `NoMemory`; `Unknown` where there is no such pass.
+    fn update_all(
+        &mut self,
+        rt: &(impl Wait + Clock),
+        alloc: Global,
+        pass: usize,
+        letters: &[(u8, i64)],
+        loads: Loads,
+    ) -> Result<(), Refused> {
+        let mut rows = Vec::new(alloc);
+        for (letter, amount) in letters {
+            let Some(key) = Name::new(&[*letter]) else {
+                return Err(Refused::Unknown);
+            };
+            let Ok(()) = rows.push((key, *amount)) else {
+                return Err(Refused::NoMemory);
+            };
+        }
+        let Called {
+            store,
+            passes,
+            counted,
+        } = self;
+        if pass >= passes.len() {
+            return Err(Refused::Unknown);
+        }
+        passes[pass].update_all(rt, alloc, store, &rows, loads, counted)
     }
 
     fn stop(&self, rt: &impl Wait, partition: usize) -> Result<(), Refused> {

@@ -5,7 +5,7 @@ use fkv_functions::{CappedSumFns, Name, Refused, SumFns};
 use fkv_histories::{Audited, Plain, Recorder};
 use fkv_operations::{Answer, KeyedOp};
 use fkv_partition::Config;
-use fkv_store::{Open, Store};
+use fkv_store::{Loads, Open, Store};
 use std::alloc::Global;
 use std::rt::Clock;
 use std::sync::Wait;
@@ -134,8 +134,60 @@ fn updates_of_what_is_read_only(rt: HostRuntime) -> Result<(), Fail> {
     Ok(())
 }
 
+/// Updates in one call are made in one hold as far as each is done at once. That of a fresh key is not: it is tried in two holds, and
+/// then takes five, for its events. A merge in place of an update reads no page.
+fn in_one_call() -> [Row; 20] {
+    [
+        (Call::UpdateAll(0, &[], Loads::Read), Told::Ok),
+        stored(Call::Upsert(0, b'a', 10)),
+        stored(Call::Upsert(0, b'b', 1)),
+        (Call::Holds, Told::Count(9)),
+        (
+            Call::UpdateAll(
+                0,
+                &[(b'a', 1), (b'a', 2), (b'b', 3), (b'a', 4)],
+                Loads::Read,
+            ),
+            Told::Ok,
+        ),
+        (Call::Holds, Told::Count(10)),
+        value(Call::Read(1, b'a'), 17),
+        (Call::Holds, Told::Count(12)),
+        (
+            Call::UpdateAll(
+                1,
+                &[(b'b', 1), (b'c', 5), (b'c', 6), (b'b', 1)],
+                Loads::Read,
+            ),
+            Told::Ok,
+        ),
+        (Call::Holds, Told::Count(20)),
+        value(Call::Read(0, b'b'), 6),
+        value(Call::Read(0, b'c'), 11),
+        (Call::Rest(1), Told::Ok),
+        (Call::Tidy(0), Told::Count(64)),
+        (Call::Refresh(0), Told::Ok),
+        (Call::Tidy(0), Told::Count(256)),
+        (Call::Refresh(0), Told::Ok),
+        (
+            Call::UpdateAll(0, &[(b'a', 1), (b'b', 1), (b'a', 1)], Loads::Merge),
+            Told::Ok,
+        ),
+        (Call::Loads, Told::Count(0)),
+        value(Call::Read(0, b'a'), 19),
+    ]
+}
+
+#[test]
+fn updates_in_one_call(rt: HostRuntime) -> Result<(), Fail> {
+    let end = (Some(19), 3, 17);
+    assert!(rt; come_to(&rt, rt.alloc(), &SMALL, &in_one_call(), end)?);
+    Ok(())
+}
+
 /// A merge never waits for the session of another pass, where an update does.
-fn fuzzy() -> [Row; 10] {
+/// Of updates in one call those before one that is refused are made, and none after it.
+fn fuzzy() -> [Row; 13] {
     [
         stored(Call::Upsert(1, b'a', 10)),
         stored(Call::Upsert(0, b'b', 1)),
@@ -143,6 +195,16 @@ fn fuzzy() -> [Row; 10] {
         (Call::Tidy(0), Told::Count(64)),
         (Call::Refresh(0), Told::Ok),
         (Call::Update(0, b'a', 1), Told::Refused(Refused::Stalled)),
+        stored(Call::Upsert(0, b'd', 1)),
+        (
+            Call::UpdateAll(
+                0,
+                &[(b'd', 1), (b'd', 2), (b'a', 1), (b'd', 9)],
+                Loads::Read,
+            ),
+            Told::Refused(Refused::Stalled),
+        ),
+        value(Call::Read(0, b'd'), 4),
         stored(Call::Merge(0, b'a', 1)),
         value(Call::Read(0, b'a'), 11),
         (Call::Rest(1), Told::Ok),
@@ -152,7 +214,7 @@ fn fuzzy() -> [Row; 10] {
 
 #[test]
 fn merges_wait_for_no_session(rt: HostRuntime) -> Result<(), Fail> {
-    let end = (Some(12), 3, 6);
+    let end = (Some(12), 4, 10);
     assert!(rt; come_to(&rt, rt.alloc(), &IMPATIENT, &fuzzy(), end)?);
     Ok(())
 }

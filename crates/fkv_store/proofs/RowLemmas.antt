@@ -1,0 +1,86 @@
+-- Rows that a pass made: one more, and the one that was refused.
+use Rattle.std.proofs.Common.{◌≡◌, ◌∙◌, ◌+◌, ◌<◌, ◌⊎◌, inl, inr, ℕ, Bool, false, true, List, [], ◌∷◌, ◌++◌, length, take, drop, get_or, suc, refl, sym, ap, subst, slice_index}
+use Rattle.std.proofs.lemmas.List.{take_more}
+use Rattle.std.proofs.Math.Seq.{split_at}
+use Rattle.std.specs.declared.cmp.Ordering.{Ordering}
+use Rattle.fkv_functions.specs.Meanings.{Meanings}
+use Rattle.fkv_functions.specs.declared.refusals.Refused.{Refused}
+use Rattle.fkv_functions.specs.declared.refusals.Refused.TheVariants.{Stalled}
+use Rattle.fkv_device.specs.Standing.{Standing}
+use Rattle.fkv_operations.specs.After.{is_merge}
+use Rattle.fkv_operations.specs.declared.operations.KeyedOp.{KeyedOp}
+use Rattle.fkv_operations.specs.declared.operations.KeyedOp.TheVariants.{Rmw}
+use Rattle.fkv_operations.specs.declared.operations.Answer.TheVariants.{Value}
+use Rattle.fkv_histories.specs.declared.entries.Entry.{Entry}
+use Rattle.fkv_locked.specs.AtOnce.{entry_at_once}
+use Rattle.fkv_locked.specs.Locks.{LockedView}
+use Rattle.fkv_locked.specs.declared.open_operations.SessionId.{SessionId}
+use Rattle.fkv_partition.specs.AtOnce.{IsDoneAtOnce}
+use Rattle.fkv_partition.specs.CoreViews.{partition_of}
+use Rattle.fkv_store.specs.declared.running.Loads.{Loads}
+use Rattle.fkv_store.specs.Stores.{StoreView, IsStopped, IsUnrun}
+use Rattle.fkv_store.specs.Passes.{PassView, IsPassOf, IsStrange}
+use Rattle.fkv_store.specs.Runs.{AreCounted}
+use Rattle.fkv_store.specs.Rows.{IsMade, AreMade, IsCutShort}
+use Rattle.fkv_store.proofs.StrangeLemmas.{apart}
+
+-- an update of a pass of the store is not refused as another one's, nor as a merge
+own-stopped : {K V I O : Type 0} (s : StoreView) (p : PassView K V I O) (merges : Bool) (op : KeyedOp K V I) (known : ℕ) (why : Refused)
+    → IsPassOf s p → is_merge op ≡ false
+    → IsStrange s p why ⊎ IsUnrun merges op known why
+    → IsStopped known why
+own-stopped s p merges op known why own plain (inl h) = absurd (apart s p why h own)
+own-stopped s p merges op known why own plain (inr (inl h)) = h
+own-stopped s p merges op known why own plain (inr (inr h)) = let bad : false ≡ true = sym plain ∙ h.1 in absurd (cc)
+
+module _ {K V I O : Type 0} (keeps : Bool) (code : K → ℕ) (how : Loads) (s : StoreView) where
+  -- one row more
+  made-more : (old then new : PassView K V I O) (rows : List (K × I)) (row : K × I) → AreMade keeps code how s old rows then
+      → IsMade keeps code how s then row new
+      → AreMade keeps code how s old (rows ++ row ∷ []) new
+  made-more old then new [] row same one = (new, subst (λ p. IsMade keeps code how s p row new) same one, refl)
+  made-more old then new (x ∷ rows) row h one = (h.0, h.1, made-more h.0 then new rows row h.2 one)
+
+  module _ (first then new : PassView K V I O) (rows : List (K × I)) (i : ℕ) (within : i < length rows) where
+    -- the one at this place
+    pub made-until : (row d : K × I) → row ≡ get_or rows i d → AreMade keeps code how s first (take i rows) then
+        → IsMade keeps code how s then row new
+        → AreMade keeps code how s first (take (i + 1) rows) new
+    made-until row d is h one =
+        rw (take_more rows i d within) (made-more first then new (take i rows) (get_or rows i d) h (subst (λ r. IsMade keeps code how s then r new) is one))
+
+    -- or it was refused: no update of a pass of the store is as another one's, nor as a merge
+    pub cut-at : (row d : K × I) → row ≡ get_or rows i d → (pages_keep merges : Bool) (why : Refused)
+        → AreMade keeps code how s first (take i rows) then
+        → new ≡ record then { turned = new.turned; missed = new.missed; reads = new.reads }
+        → IsPassOf s then
+        → IsStrange s then why ⊎ IsUnrun {K = K} {V = V} {I = I} merges (Rmw row.0 row.1) (slice_index then.told (partition_of s.count (code row.0))) why
+        → (why ≡ Stalled → new.turned ≡ s.turns)
+        → AreCounted pages_keep (partition_of s.count (code row.0)) then.reads new.reads new.missed why
+        → IsCutShort keeps code how s pages_keep first rows new why
+    cut-at row d is pages_keep merges why made stands own only stalled counted = record {
+      before = take i rows;
+      row = row;
+      behind = drop (suc i) rows;
+      is = subst (λ r. rows ≡ take i rows ++ r ∷ drop (suc i) rows) (sym is) (split_at rows i d within);
+      then = then;
+      made = made;
+      stands = stands;
+      only = let op : KeyedOp K V I = Rmw row.0 row.1 in own-stopped s then merges op (slice_index then.told (partition_of s.count (code row.0))) why own refl only;
+      stalled = stalled;
+      counted = counted;
+    }
+
+-- an update that is done at once is of a key that belongs there
+module _ {K V I O R : Type 0} (stands : R → Standing) (cmp : K → K → Ordering) (join : V → V → V) (f : Meanings K V I O) (code : K → ℕ)
+    (old new : LockedView K V I O) (session : SessionId) (key : K) (input : I) (e : Entry K V I O) where
+  pub done-here : (place count : ℕ)
+      → ((shown : O) × (e ≡ entry_at_once old session (Rmw key input) (Value shown))
+      × IsDoneAtOnce stands cmp join f code old.partition new.partition session.slot key input (old.clock + 1) (old.clock + 2) shown)
+      → old.partition.core.number ≡ place
+      → old.partition.core.count ≡ count
+      → (e.op ≡ Rmw key input) × (place ≡ partition_of count (code key))
+  done-here place count done number size = (
+    ap (λ (x : Entry K V I O). x.op) done.1,
+    sym (ap (λ n. partition_of n (code key)) (sym size) ∙ (done.2.issue.own (Rmw key input) refl ∙ number)),
+  )
