@@ -1,9 +1,9 @@
 -- Several that each have what a list says.
-use Rattle.std.proofs.Common.{◌≡◌, ◌<◌, ◌+◌, ℕ, zero, suc, List, [], ◌∷◌, map, length, get_or, drop, Option, Some, None, slice_get, slice_set, refl, sym, ◌∙◌, ap, subst, arith}
+use Rattle.std.proofs.Common.{◌≡◌, ◌<◌, ℕ, zero, suc, List, [], ◌∷◌, map, length, get_or, drop, Option, Some, None, slice_get, slice_set, refl, sym, ◌∙◌, ap, subst, arith}
 use Rattle.fkv_functions.specs.Names.{name_cmp}
 use Rattle.fkv_functions.specs.declared.names.Name.{Name}
-use Rattle.fkv_runs.specs.Merging.{merged, chosen, first_from, first_key, first_pair}
-use Rattle.fkv_runs.proofs.MergeLemmas.{Gives, Tells, tells}
+use Rattle.fkv_runs.specs.Merging.{chosen, first_from, first_key, first_pair}
+use Rattle.fkv_runs.proofs.MergeLemmas.{Gives, tells}
 use Rattle.std.proofs.lemmas.List.{drop_all}
 use Rattle.std.proofs.lemmas.Option.{slice_get-get_or, slice_get_within}
 use Rattle.fkv_spills.specs.Reading.{AreHeld, IsMergeOf}

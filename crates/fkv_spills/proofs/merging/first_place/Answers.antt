@@ -1,4 +1,4 @@
-use Rattle.std.proofs.Common.{◌≡◌, ◌<◌, ◌-◌, suc, length, refl, sym, ◌∙◌, ap, subst, arith}
+use Rattle.std.proofs.Common.{◌-◌, length, refl, sym, ◌∙◌, ap, subst, arith}
 use Rattle.fkv_functions.specs.Names.{name_cmp}
 use Rattle.fkv_runs.specs.Merging.{chosen}
 use Rattle.fkv_spills.proofs.HeldLemmas.{first-end, first-step}

@@ -1,4 +1,4 @@
-use Rattle.std.proofs.Common.{◌≡◌, Some, None, Option, sym, ◌∙◌, ap, refl}
+use Rattle.std.proofs.Common.{◌≡◌, Some, None, Option, sym, ◌∙◌, ap}
 use Rattle.fkv_functions.specs.declared.names.Name.{Name}
 use Rattle.fkv_records.specs.declared.records.Record.{Record}
 use Rattle.fkv_spills.specs.Spilling.{record_for}

@@ -1,4 +1,4 @@
-use Rattle.std.proofs.Common.{◌≡◌, ◌++◌, inl, refl, sym, ◌∙◌, ap, subst, arith}
+use Rattle.std.proofs.Common.{◌++◌, inl, refl, sym, ◌∙◌, ap, subst, arith}
 use Rattle.fkv_spills.specs.declared.gathering.Gathered.{Gathered}
 use Rattle.fkv_spills.specs.Spilling.{AreSpilled}
 use Rattle.fkv_spills.proofs.SpillLemmas.{gathered-none, gathered-page}

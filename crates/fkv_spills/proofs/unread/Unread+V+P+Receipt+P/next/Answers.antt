@@ -1,4 +1,4 @@
-use Rattle.std.proofs.Common.{◌≡◌, ◌<◌, ◌⊎◌, ℕ, zero, suc, List, inl, inr, Ok, Err, Result, refl, sym, subst, arith, IsTrue}
+use Rattle.std.proofs.Common.{◌≡◌, ◌<◌, ℕ, zero, suc, List, inl, inr, Ok, Err, Result, refl, sym, subst, arith, IsTrue}
 use Rattle.std.specs.Prelude.{IsOk, OnOk, OnErr, IfErr}
 use Rattle.std.proofs.lemmas.Bool.{false≢true}
 use Rattle.fkv_functions.specs.declared.names.Name.{Name}

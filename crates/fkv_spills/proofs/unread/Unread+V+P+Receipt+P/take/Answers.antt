@@ -1,10 +1,8 @@
-use Rattle.std.proofs.Common.{◌≡◌, ◌+◌, ◌<◌, ◌≤◌, Option, Some, None, List, length, take, drop, refl, sym, ◌∙◌, ap, subst, arith}
-use Rattle.std.proofs.lemmas.Bool.{false≢true}
-use Rattle.fkv_functions.specs.declared.names.Name.{Name}
+use Rattle.std.proofs.Common.{◌≡◌, ◌+◌, Option, Some, None, take, drop, refl, sym, ◌∙◌, ap, subst, arith}
 use Rattle.fkv_runs.specs.Merging.{first_pair}
 use Rattle.fkv_spills.specs.Spilling.{pair_size, IsPairIn}
-use Rattle.fkv_spills.specs.Reading.{IsUnread, IsReady}
-use Rattle.fkv_spills.proofs.SpillLemmas.{size-is, size-most, IsTaken, ready-here, taken, untaken}
+use Rattle.fkv_spills.specs.Reading.{IsUnread}
+use Rattle.fkv_spills.proofs.SpillLemmas.{size-is, size-most, ready-here, taken, untaken}
 use Rattle.fkv_spills.proofs.unread.Unread+V+P+Receipt+P.take.Goals as goal
 
 some-is : {A : Type 0} (o : Option A) (x : A) → o ≡ None → o ≡ Some x → ⊥
