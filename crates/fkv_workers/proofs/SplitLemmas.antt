@@ -5,7 +5,7 @@ use Rattle.std.specs.Int.{w64}
 use Rattle.std.specs.List.{All}
 use Rattle.std.proofs.lemmas.Bool.{eq-eqb, ne_eqb, cases_eq}
 use Rattle.std.proofs.lemmas.List.{append-nil, length-set, length-replicate, get_or-set_same, get_or-set_other, get_or-replicate, map-set, get_or-map}
-use Rattle.std.proofs.lemmas.List.Elements.{filter-append, All-push, All-nil, All-head, All-tail}
+use Rattle.std.proofs.lemmas.List.Elements.{filter-append, All-push, All-nil, All-head, All-tail, All-filter}
 use Rattle.std.proofs.Math.Nat.{mod-lt}
 use Rattle.fkv_functions.specs.declared.names.Name.{Name}
 use Rattle.fkv_partition.specs.CoreViews.{partition_of}
@@ -14,6 +14,10 @@ use Rattle.fkv_store.specs.Passes.{PassView}
 use Rattle.fkv_workers.specs.Shares.{rows_at}
 use Rattle.fkv_workers.specs.Works.{StandsFor, AreSplit, Makes}
 use Rattle.fkv_workers.proofs.ShareLemmas.{rows_one, rows_none, share_more, made_more}
+
+all_right : {X : Type 0} (P : X → Type 0) (xs ys : List X) → All P (xs ++ ys) → All P ys
+all_right P [] ys h = h
+all_right P (x ∷ xs) ys h = all_right P xs ys (All-tail P x (xs ++ ys) h)
 
 -- of rows with keys of one partition, those with keys there are all, and those with keys elsewhere none
 module _ (code : Name → ℕ) (count : ℕ) where
@@ -82,12 +86,13 @@ module _ {V O : Type 0} (keeps : Bool) (code : Name → ℕ) (mode : RowMode) (p
 
   pub split_made : (pass' : PassView Name V ℤ O) (waiting : List (List (Name × ℤ))) (rows : List (Name × ℤ)) (p : ℕ) → p < length waiting
       → length pass'.told ≡ length pass.told
-      → ((before : List (Name × ℤ)) → StandsFor keeps code mode pass before → StandsFor keeps code mode pass' (before ++ slice_index_or waiting p []))
+      → (All (λ r. FitsSigned w64 r.1) (slice_index_or waiting p [])
+      → (before : List (Name × ℤ)) → StandsFor keeps code mode pass before → StandsFor keeps code mode pass' (before ++ slice_index_or waiting p []))
       → AreSplit keeps code mode pass waiting rows
       → AreSplit keeps code mode pass' (slice_set waiting p []) rows
   split_made pass' waiting rows p within long made s = record {
     done = s.done ++ those;
-    stands = made s.done s.stands;
+    stands = made fit s.done s.stands;
     sized = length-set waiting p [] ∙ (s.sized ∙ sym long);
     parts = rw long parts;
     placed = rw long placed;
@@ -102,6 +107,10 @@ module _ {V O : Type 0} (keeps : Bool) (code : Name → ℕ) (mode : RowMode) (p
 
       lt : p < count
       lt = omega (arith, s.sized, within)
+
+      fit : All (λ r. FitsSigned w64 r.1) those
+      fit = all_right (λ r. FitsSigned w64 r.1) (rows_at code count p s.done) those
+          (subst (All (λ r. FitsSigned w64 r.1)) (s.parts p lt) (All-filter (λ r. partition_of count (code r.0) == p) (λ r. FitsSigned w64 r.1) rows s.small))
 
       here : slice_index_or (slice_set waiting p []) p [] ≡ []
       here = get_or-set_same waiting p [] [] within

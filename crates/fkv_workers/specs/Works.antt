@@ -19,10 +19,17 @@ use Rattle.fkv_histories.specs.declared.entries.Entry.{Entry}
 use Rattle.fkv_partition.specs.Limits.{IsWithinLimits}
 use Rattle.fkv_partition.specs.declared.limits.Config.{Config}
 use Rattle.fkv_partition.specs.CoreViews.{partition_of}
+use Rattle.fkv_store.specs.declared.running.Loads.{Loads}
+use Rattle.fkv_store.specs.declared.running.Loads.TheVariants as loads
 use Rattle.fkv_store.specs.Stores.{IsTold, IsUnopened, IsClosing}
 use Rattle.fkv_store.specs.Passes.{PassView, IsUpdateBy, Answers}
 use Rattle.fkv_blocks.specs.Pieces.{AreFed, IsFirstUnread}
 use Rattle.fkv_workers.specs.Shares.{AreFedInTurn, HasShare, dealt, rows_at}
+
+-- what a pass does where a row needs a page
+abbrev pub loads_of : RowMode → Loads
+loads_of Update = loads.Read
+loads_of RowMode.Merge = loads.Merge
 
 -- a pass made a row by one operation on its key, with its amount: by an update, or, only where the mode asks for merges, by a
 -- merge

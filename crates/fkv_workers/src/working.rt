@@ -1,11 +1,11 @@
 //! What one worker does: it reads its share of the feeds, and makes each row an update, or a merge.
-ghost use Rattle.std.specs.Prelude.{◌≡◌, ◌<◌, ◌⊎◌, ◌++◌, ◌∷◌, [], ℤ, List, length, map, replicate, slice_set, vec_len, Some, None, IfSome, IfNone, IfErr, OnOk};
+ghost use Rattle.std.specs.Prelude.{◌≡◌, ◌<◌, ◌⊎◌, ◌++◌, ◌∷◌, [], ℤ, List, length, map, replicate, slice_set, vec_len, Some, None, IfSome, IfNone, IfErr, OnOk, FitsSigned};
+ghost use Rattle.std.specs.Int.{w64};
+ghost use Rattle.std.specs.List.{All};
 ghost use Rattle.fkv_functions.specs.declared.names.Name.{Name};
 ghost use Rattle.fkv_feeds.specs.declared.modes.RowMode.{RowMode};
-ghost use Rattle.fkv_partition.specs.CoreViews.{partition_of};
 ghost use Rattle.fkv_store.specs.Stores.{IsTold};
-ghost use Rattle.fkv_store.specs.Passes.{IsPassOf};
-ghost use Rattle.fkv_workers.specs.Works.{StandsFor, AreSplit, HasDone, Makes};
+ghost use Rattle.fkv_workers.specs.Works.{StandsFor, AreSplit, HasDone, loads_of};
 
 use crate::sharing::{Reading, Share};
 use crate::waiting::{Waiting, clear, put, rows_of};
@@ -16,8 +16,7 @@ use fkv_feeds::RowMode;
 use fkv_functions::{Mergeable, Name, Refused};
 use fkv_histories::Recorder;
 use fkv_jobs::Job;
-use fkv_operations::KeyedOp;
-use fkv_store::{Gate, Pass, Store};
+use fkv_store::{Gate, Loads, Pass, Store};
 use std::alloc::Global;
 use std::marker::{Brand, PhantomData};
 use std::rt::Clock;
@@ -49,35 +48,18 @@ struct Rows<'a, W, F: Mergeable, D: Disk, H: Recorder<F>, G, M> {
     by: PhantomData<M>,
 }
 
-/// Makes a row an update by a pass, or, as the mode says, where that would read a page a merge. Refused as the pass refuses an
-/// update.
-fn update<F: Mergeable<Key = Name, Input = i64>, D: Disk, H: Recorder<F>, G: Gate>(
-    rt: &(impl Wait + Clock),
-    alloc: Global,
-    store: &Store<F, D, H>,
-    gate: &G,
-    pass: &mut Pass<F, D, H>,
-    key: Name,
-    amount: i64,
-    mode: RowMode,
-) -> Result<(), Refused>
-    ensures ok { OnOk result
-        (Makes mode H.keeps pass.old pass.new (partition_of store.now.count (F.code key)) key amount) }
-    ensures own { OnOk result (IsPassOf store.now pass.old) }
-    ensures told { IfErr result IsTold }
+/// What a pass does in this mode where a row needs a page.
+fn loads_of(mode: RowMode) -> Loads
+    ensures { result ≡ loads_of mode }
 {
     match mode {
-        RowMode::Update => {
-            match pass.run(rt, alloc, store, KeyedOp::Rmw(key, amount), gate) {
-                Ok(_answer) => Ok(()),
-                Err(refused) => Err(refused),
-            }
-        }
-        RowMode::Merge => pass.update_or_merge(rt, alloc, store, key, amount, gate),
+        RowMode::Update => Loads::Read,
+        RowMode::Merge => Loads::Merge,
     }
 }
 
-/// Makes rows updates by a pass, in order, as [`update`] does, whose refusals it has.
+/// Makes rows updates by a pass, in order, or, as the mode says, where that would read a page merges. Refused as the pass refuses an
+/// update.
 fn update_all<F: Mergeable<Key = Name, Input = i64>, D: Disk, H: Recorder<F>, G: Gate>(
     rt: &(impl Wait + Clock),
     alloc: Global,
@@ -87,19 +69,18 @@ fn update_all<F: Mergeable<Key = Name, Input = i64>, D: Disk, H: Recorder<F>, G:
     rows: &[(Name, i64)],
     mode: RowMode,
 ) -> Result<(), Refused>
-    ensures ok { OnOk result ((before : List (Name × ℤ)) → StandsFor H.keeps F.code mode pass.old before
+    ensures ok { OnOk result (All (λ r. FitsSigned w64 r.1) rows.now
+        → (before : List (Name × ℤ))
+        → StandsFor H.keeps F.code mode pass.old before
         → StandsFor H.keeps F.code mode pass.new (before ++ rows.now)) }
     ensures long { OnOk result (length pass.new.told ≡ length pass.old.told) }
     ensures told { IfErr result IsTold }
 {
-    for row in rows {
-        let (key, amount) = *row;
-        match update(rt, alloc, store, gate, pass, key, amount, mode) {
-            Ok(()) => {}
-            Err(refused) => return Err(refused),
-        }
+    let loads = loads_of(mode);
+    match pass.update_all(rt, alloc, store, rows, loads, gate) {
+        Ok(()) => Ok(()),
+        Err(refused) => Err(refused),
     }
-    Ok(())
 }
 
 impl<
