@@ -21,10 +21,16 @@ use std::sync::atomic::{AtomicBool, Ordering};
 /// up: they write the key faster than it follows.
 const RESTARTS: u8 = 8;
 
-/// How many events of relocations a compaction made. Only the hold that makes one counts it.
+/// How many events a relocation takes, at the most, where its key's chain is short.
+const FEW: u64 = 8;
+
+/// How many events of relocations a compaction made, how many relocations it finished, and how many events more than eight for each of
+/// these it may make. Only the hold that makes an event counts it. A contract sees the number of events.
 #[derive(Drop)]
 pub struct Events {
     count: u64,
+    finished: u64,
+    limit: u64,
 }
 
 impl Model for Events {
@@ -33,16 +39,33 @@ impl Model for Events {
     ghost Value = { ℕ };
 
     ghost view = { λ e. e.count };
-
-    ghost inverse = { λ n. record { count = n } };
 }
 
 impl Events {
-    /// No event.
+    /// No event, where a compaction may make as many as an operation may take turns.
     pub fn none() -> Events
         ensures { result ≡ 0 }
     {
-        Events { count: 0 }
+        Events::within(u64::MAX)
+    }
+
+    /// No event, where a compaction ends once it has made so many more than eight for each relocation that it finished. There are
+    /// many where callers merge: a relocation follows all that its key was merged since its last whole value, and begins anew where
+    /// that goes on meanwhile.
+    pub fn within(limit: u64) -> Events
+        ensures { result ≡ 0 }
+    {
+        Events {
+            count: 0,
+            finished: 0,
+            limit,
+        }
+    }
+
+    /// Whether they are more than they may be.
+    fn are_too_many(&self) -> bool {
+        let few = self.finished.saturating_mul(FEW);
+        self.count.saturating_sub(few) > self.limit
     }
 }
 
@@ -157,8 +180,8 @@ impl<F: Mergeable, D: Disk, H: Recorder<F>> Store<F, D, H> {
         self.compact_until(rt, partition, gate, &mut events, &never)
     }
 
-    /// Does the same, and counts its events anew, but begins no event of a relocation any more once it is told to stop: what is cleared by
-    /// then is cut.
+    /// Does the same, and counts its events anew, but begins no event of a relocation any more once it is told to stop, or has made more
+    /// than it may ([`Events::within`]): what is cleared by then is cut.
     ///
     /// # Errors
     ///
@@ -175,7 +198,7 @@ impl<F: Mergeable, D: Disk, H: Recorder<F>> Store<F, D, H> {
         ensures only { IfErr result (λ why. ((why ≡ Refused.Unknown) × (self.now.count ≤ partition)) ⊎ IsUncompacted why) }
         ensures stalled { result ≡ Err Refused.Stalled → events.new ≡ self.now.turns }
     {
-        *events = Events::none();
+        *events = Events::within(events.limit);
         if partition >= self.locks.len() {
             return Err(Refused::Unknown);
         }
@@ -258,7 +281,7 @@ impl<F: Mergeable, D: Disk, H: Recorder<F>> Store<F, D, H> {
         let mut begun = 0;
         let mut is_of_place = false;
         for _event in 0..self.turns {
-            if stop.load(Ordering::SeqCst) {
+            if stop.load(Ordering::SeqCst) || events.are_too_many() {
                 return Ok(());
             }
             let page = came;
@@ -339,8 +362,12 @@ impl<F: Mergeable, D: Disk, H: Recorder<F>> Store<F, D, H> {
         };
         match made {
             Ok(made) => {
+                let stage = after_event::<F, D>(made);
                 events.count += 1;
-                Ok(after_event::<F, D>(made))
+                if matches!(stage, Stage::Done) {
+                    events.finished = events.finished.saturating_add(1);
+                }
+                Ok(stage)
             }
             Err(refused) => after_refusal(refused),
         }
