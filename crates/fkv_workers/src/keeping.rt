@@ -15,6 +15,10 @@ use std::sync::atomic::{AtomicBool, AtomicU64, Ordering};
 /// How many pages Head moves until a partition is compacted again.
 const PAGES: u64 = 64;
 
+/// The bytes of Head's way for which a compaction may make an event too many: a record has 48 to 64. So compactions make at most four
+/// such events for each record that is appended.
+const BYTES: u64 = 16;
+
 /// The keeper of a store: where Head of each partition stood when it was compacted last.
 #[derive(Drop)]
 pub(crate) struct StoreKeeper<'a, F: Mergeable, D: Disk, H: Recorder<F>, G> {
@@ -46,7 +50,7 @@ fn keep_one<F: Mergeable, D: Disk, H: Recorder<F>, G: Gate>(
         return Ok(());
     }
     compacted.store(head, Ordering::SeqCst);
-    let mut events = Events::none();
+    let mut events = Events::within(keeper.span / BYTES);
     match keeper
         .store
         .compact_until(rt, partition, keeper.gate, &mut events, stop)
