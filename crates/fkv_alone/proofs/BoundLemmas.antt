@@ -47,13 +47,13 @@ use Rattle.fkv_partition.specs.declared.contexts.Phase.TheVariants.{Fresh, Confi
 use Rattle.fkv_partition.specs.declared.contexts.Progress.{Progress}
 use Rattle.fkv_partition.specs.declared.contexts.Progress.TheVariants.{Done, Next, NeedsBuild, NeedsLoad, Waits}
 use Rattle.fkv_partition.specs.declared.contexts.Wait.TheVariants as wait
-use Rattle.fkv_partition.specs.CoreClaiming.{IsClaimed}
-use Rattle.fkv_partition.specs.CoreContexts.{joined, question_in, question_by, at_phase, claim_at, claim_by, claim_of}
-use Rattle.fkv_partition.specs.CoreGoing.{Goes, Decides}
-use Rattle.fkv_partition.specs.CoreInstalling.{Installs}
-use Rattle.fkv_partition.specs.CoreLoading.{AwaitsPage, Loads, LoadsBy, ReadsBy}
-use Rattle.fkv_partition.specs.CoreSound.{IsSound, StandsFor, IsLoading}
-use Rattle.fkv_partition.specs.CoreViews.{CoreView, slots_of, seen_at, context_at, with_context}
+use Rattle.fkv_partition.specs.Claiming.{IsClaimed}
+use Rattle.fkv_partition.specs.Contexts.{joined, question_in, question_by, at_phase, claim_at, claim_by, claim_of}
+use Rattle.fkv_partition.specs.KeyGoing.{Goes, Decides}
+use Rattle.fkv_partition.specs.KeyInstalling.{Installs}
+use Rattle.fkv_partition.specs.KeyLoading.{AwaitsPage, Loads, LoadsBy, ReadsBy}
+use Rattle.fkv_partition.specs.KeySound.{IsSound, StandsFor, IsLoading}
+use Rattle.fkv_partition.specs.Views.{PartitionView, slots_of, seen_at, context_at, with_context}
 use Rattle.fkv_alone.specs.Stages.{IsReady}
 use Rattle.fkv_alone.specs.Ending.{IsOn}
 use Rattle.fkv_alone.specs.Bound.{is_evicted, evicted, evicted_to, rest_of, NoneClaims, IsMade, IsNear, IsNearer}
@@ -128,7 +128,7 @@ rest-update code r op k i is = rw is refl
 class-small : {K V : Type 0} (code : K → ℕ) (r : RecordsView K V) (k : K) → code k < 2 ^ 64 → (class_in code r k).tag < 2 ^ 15
 class-small code r k h = omega arith
 
-module _ {K V I : Type 0} (keeps : Bool) (cmp : K → K → Ordering) (join : V → V → V) (code : K → ℕ) (v : CoreView K V I) (slot c n : ℕ) (s : IsSound keeps cmp join code v) where
+module _ {K V I : Type 0} (keeps : Bool) (cmp : K → K → Ordering) (join : V → V → V) (code : K → ℕ) (v : PartitionView K V I) (slot c n : ℕ) (s : IsSound keeps cmp join code v) where
   stands-at : (x : Context K V I) (phase : Phase V) → context_at v slot c ≡ Some x → x.phase ≡ phase → StandsFor keeps cmp join code v.records x.op phase
   stands-at x phase h e = subst (λ (p : Phase V). StandsFor keeps cmp join code v.records x.op p) e (s.stands (slot * 8 + c) x (key_at (slots_of v) v.contexts slot c x h).here)
 
@@ -170,7 +170,7 @@ module _ {K V I : Type 0} (keeps : Bool) (cmp : K → K → Ordering) (join : V 
       let ld = loading-stands x.op l (stands-at x (Load l) a.here a.loading) in
       let low = ld.begun in let begin = a.begin in let first = s.traced.first in omega arith
 
-  module _ {O R : Type 0} (stands : R → Standing) (f : Meanings K V I O) (w : CoreView K V I) (now : ℕ) where
+  module _ {O R : Type 0} (stands : R → Standing) (f : Meanings K V I O) (w : PartitionView K V I) (now : ℕ) where
     near-as : (p q : Progress K V I O R) → p ≡ q → IsNearer code w slot c q n → IsNearer code w slot c p n
     near-as p q e h = subst (λ (z : Progress K V I O R). IsNearer code w slot c z n) (sym e) h
 
@@ -449,7 +449,7 @@ module _ {K V I : Type 0} (keeps : Bool) (cmp : K → K → Ordering) (join : V 
         subst (λ (q : Result (Progress K V I O R) Refused). IfOk q (λ p. IsOn p → IsNearer code w slot c p n)) (sym told) tt
 
 -- an operation that is to go on takes one more event at least
-pub near-some : {K V I O R : Type 0} (code : K → ℕ) (v : CoreView K V I) (slot c : ℕ) (told : Progress K V I O R) (n : ℕ) → IsNear code v slot c told n → 1 ≤ n
+pub near-some : {K V I O R : Type 0} (code : K → ℕ) (v : PartitionView K V I) (slot c : ℕ) (told : Progress K V I O R) (n : ℕ) → IsNear code v slot c told n → 1 ≤ n
 near-some code v slot c told n (IsNear.begins x h fresh clear range t le) = omega arith
 near-some code v slot c told n (IsNear.confirms x p h phase alone range t le) = omega arith
 near-some code v slot c told n (IsNear.looks x p h fresh made t le) = omega arith
@@ -468,11 +468,11 @@ fresh-slot {K} {V} {I} cs x i p fresh none = at (slice_get (slice_set cs i (Some
     ]
 
 -- an operation that was issued, where no other holds a tentative entry
-pub issue-near : {K V I O R : Type 0} (code : K → ℕ) (old new : CoreView K V I) (slot c now : ℕ) (op : KeyedOp K V I) → new ≡ with_context old slot c (Some (record { number = now; op = op; phase = Fresh })) now → (ready : IsReady op old new slot c now) → ready.operation.phase ≡ Fresh → NoneClaims old → code (key_of op) < 2 ^ 64
+pub issue-near : {K V I O R : Type 0} (code : K → ℕ) (old new : PartitionView K V I) (slot c now : ℕ) (op : KeyedOp K V I) → new ≡ with_context old slot c (Some (record { number = now; op = op; phase = Fresh })) now → (ready : IsReady op old new slot c now) → ready.operation.phase ≡ Fresh → NoneClaims old → code (key_of op) < 2 ^ 64
     → IsNear {O = O} {R = R} code new slot c Next (3 + rest_of code old.records op)
 issue-near {K} {V} {I} {O} {R} code old new slot c now op is ready fresh clear range =
     let clear_now : NoneClaims new = rw is (λ p. fresh-slot old.contexts (record { number = now; op = op; phase = Fresh }) (slot * 8 + c) p refl clear) in
     let x = ready.operation in
     let key : key_of x.op ≡ key_of op = ap key_of ready.open_is.op_is in
-    let count : rest_of code new.records x.op ≡ rest_of code old.records op = ap (rest_of code new.records) ready.open_is.op_is ∙ ap (λ (u : CoreView K V I). rest_of code u.records op) is in
+    let count : rest_of code new.records x.op ≡ rest_of code old.records op = ap (rest_of code new.records) ready.open_is.op_is ∙ ap (λ (u : PartitionView K V I). rest_of code u.records op) is in
     IsNear.begins x ready.open_is.here fresh clear_now (subst (λ k. code k < 2 ^ 64) (sym key) range) refl (omega arith)

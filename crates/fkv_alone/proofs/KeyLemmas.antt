@@ -18,16 +18,15 @@ use Rattle.fkv_operations.specs.declared.operations.Op.TheVariants.{Read, Reloca
 use Rattle.fkv_partition.specs.declared.contexts.Context.{Context}
 use Rattle.fkv_partition.specs.declared.contexts.Progress.{Progress}
 use Rattle.fkv_partition.specs.declared.contexts.Progress.TheVariants.{Done, Next, NeedsBuild, NeedsLoad, Waits}
-use Rattle.fkv_partition.specs.CoreContexts.{joined, is_session, relocating}
-use Rattle.fkv_partition.specs.CoreEffect as key_effect
-use Rattle.fkv_partition.specs.CoreGoing as going
-use Rattle.fkv_partition.specs.CoreInstalling as installing
-use Rattle.fkv_partition.specs.CoreLoading as loading
-use Rattle.fkv_partition.specs.CoreViews.{slots_of, context_at, live_of}
+use Rattle.fkv_partition.specs.Contexts.{joined, is_session, relocating}
+use Rattle.fkv_partition.specs.KeyEffect as key_effect
+use Rattle.fkv_partition.specs.KeyGoing as going
+use Rattle.fkv_partition.specs.KeyInstalling as installing
+use Rattle.fkv_partition.specs.KeyLoading as loading
+use Rattle.fkv_partition.specs.Views.{slots_of, context_at, live_of, PartitionView, relocation_at}
 use Rattle.fkv_partition.specs.Beginning.{IssuesOnKey}
 use Rattle.fkv_partition.specs.Effect.{Asked, asked, asked_of, to_find, IsEvent, IsLoad, Finds}
 use Rattle.fkv_partition.specs.Events.{IsPassedOn, Issues, Goes, Installs, Loads, LoadsBy, WaitsFor}
-use Rattle.fkv_partition.specs.Views.{PartitionView, relocation_at, with_core}
 use Rattle.fkv_partition.proofs.AskedLemmas.{keyed-op}
 use Rattle.fkv_alone.proofs.StageLemmas.{Asks, Finishes, Tells}
 
@@ -49,22 +48,22 @@ read-op (on_key.Merge q j) k i h = absurd (cc)
 module _ {K V I : Type 0} where
   -- the relocations stay over two events, and what is cleared
   pub rest-then : (a b d : PartitionView K V I) → IsPassedOn a b → IsPassedOn b d → IsPassedOn a d
-  rest-then a b d f g = record { is = g.is ∙ ap (λ (u : PartitionView K V I). with_core u d.core) f.is; relocations = λ p. g.relocations p ∙ f.relocations p }
+  rest-then a b d f g = record { cleared = g.cleared ∙ f.cleared; relocations = λ p. g.relocations p ∙ f.relocations p }
 
   pub rest-same : (a b : PartitionView K V I) → b ≡ a → IsPassedOn a b
   rest-same a b e = record {
-    is = e ∙ ap (λ (u : PartitionView K V I). with_core a u.core) (sym e);
-    relocations = λ p. ap (λ (u : PartitionView K V I). relocating (joined (slice_get u.core.contexts p))) e;
+    cleared = ap (λ (u : PartitionView K V I). u.cleared) e;
+    relocations = λ p. ap (λ (u : PartitionView K V I). relocating (joined (slice_get u.contexts p))) e;
   }
 
   -- a context in which no relocation stands has none then
-  pub none-then : (a b : PartitionView K V I) (p : ℕ) → IsPassedOn a b → relocating (joined (slice_get a.core.contexts p)) ≡ None → relocating (joined (slice_get b.core.contexts p)) ≡ None
+  pub none-then : (a b : PartitionView K V I) (p : ℕ) → IsPassedOn a b → relocating (joined (slice_get a.contexts p)) ≡ None → relocating (joined (slice_get b.contexts p)) ≡ None
   none-then a b p rest none = rest.relocations p ∙ none
 
-  none-at : (v : PartitionView K V I) (slot c : ℕ) → relocating (joined (slice_get v.core.contexts (slot * 8 + c))) ≡ None → relocation_at v slot c ≡ None
-  none-at v slot c none = either (is_session (slots_of v.core) slot && nat_lt c 8)
+  none-at : (v : PartitionView K V I) (slot c : ℕ) → relocating (joined (slice_get v.contexts (slot * 8 + c))) ≡ None → relocation_at v slot c ≡ None
+  none-at v slot c none = either (is_session (slots_of v) slot && nat_lt c 8)
     where
-      either : (b : Bool) → relocating (cond b (joined (slice_get v.core.contexts (slot * 8 + c))) None) ≡ None
+      either : (b : Bool) → relocating (cond b (joined (slice_get v.contexts (slot * 8 + c))) None) ≡ None
       either true = none
       either false = refl
 
@@ -80,32 +79,32 @@ module _ {K V I : Type 0} where
     refuted x o h none = let bad : Some x ≡ None = sym h ∙ none in absurd (cc)
 
     -- what stands in the context is asked for
-    asked-op : (x : Context K V I) (q : Asked K V I) → context_at v.core slot c ≡ Some x → asked v slot c ≡ Some q → q.op ≡ op_of x.op
+    asked-op : (x : Context K V I) (q : Asked K V I) → context_at v slot c ≡ Some x → asked v slot c ≡ Some q → q.op ≡ op_of x.op
     asked-op x q here was =
         let mine : asked v slot c ≡ Some (record { number = x.number; op = op_of x.op }) = ap (λ t. asked_of (option_map key_effect.asked_by t) (relocation_at v slot c)) here in
         ap (λ (z : Asked K V I). z.op) (sym (same_Some (record { number = x.number; op = op_of x.op }) q (sym mine ∙ was)))
 
-    module _ (empty : relocating (joined (slice_get v.core.contexts (slot * 8 + c))) ≡ None) where
-      pub goes-on-key : {O R : Type 0} (stands : R → Standing) (cmp : K → K → Ordering) (join : V → V → V) (f : Meanings K V I O) (code : K → ℕ) (r : Result (Progress K V I O R) Refused) → Goes stands cmp join f code v w slot c now r → going.Goes stands cmp join f code v.core w.core slot c now r × IsPassedOn v w
+    module _ (empty : relocating (joined (slice_get v.contexts (slot * 8 + c))) ≡ None) where
+      pub goes-on-key : {O R : Type 0} (stands : R → Standing) (cmp : K → K → Ordering) (join : V → V → V) (f : Meanings K V I O) (code : K → ℕ) (r : Result (Progress K V I O R) Refused) → Goes stands cmp join f code v w slot c now r → going.Goes stands cmp join f code v w slot c now r × IsPassedOn v w
       goes-on-key stands cmp join f code r (Goes.on_key none does rest) = (does, rest)
       goes-on-key stands cmp join f code r (Goes.relocation x h does) = absurd (refuted x (relocation_at v slot c) h (none-at v slot c empty))
 
-      pub installs-on-key : {O R : Type 0} (cmp : K → K → Ordering) (f : Meanings K V I O) (code : K → ℕ) (ask : Ask K V I) (r : Result (Progress K V I O R) Refused) → Installs cmp f code v w slot c ask now r → installing.Installs cmp f code v.core w.core slot c ask now r × IsPassedOn v w
+      pub installs-on-key : {O R : Type 0} (cmp : K → K → Ordering) (f : Meanings K V I O) (code : K → ℕ) (ask : Ask K V I) (r : Result (Progress K V I O R) Refused) → Installs cmp f code v w slot c ask now r → installing.Installs cmp f code v w slot c ask now r × IsPassedOn v w
       installs-on-key cmp f code ask r (Installs.on_key none does rest) = (does, rest)
       installs-on-key cmp f code ask r (Installs.relocation x h same e) = absurd (refuted x (relocation_at v slot c) h (none-at v slot c empty))
 
-      pub loads-on-key : {O R : Type 0} (stands : R → Standing) (entry : ℕ → List ℕ → ℕ → Entry K V → Type 0) (cmp : K → K → Ordering) (join : V → V → V) (f : Meanings K V I O) (code : K → ℕ) (came : Result (Joined R) Refused) (r : Result (Progress K V I O R) Refused) → Loads stands entry cmp join f code v w slot c came now r → loading.Loads stands entry cmp join f v.core w.core slot c came now r × IsPassedOn v w
+      pub loads-on-key : {O R : Type 0} (stands : R → Standing) (entry : ℕ → List ℕ → ℕ → Entry K V → Type 0) (cmp : K → K → Ordering) (join : V → V → V) (f : Meanings K V I O) (code : K → ℕ) (came : Result (Joined R) Refused) (r : Result (Progress K V I O R) Refused) → Loads stands entry cmp join f code v w slot c came now r → loading.Loads stands entry cmp join f v w slot c came now r × IsPassedOn v w
       loads-on-key stands entry cmp join f code came r (Loads.on_key none does rest) = (does, rest)
       loads-on-key stands entry cmp join f code came r (Loads.relocation x h does) = absurd (refuted x (relocation_at v slot c) h (none-at v slot c empty))
 
       pub none-here : relocation_at v slot c ≡ None
       none-here = none-at v slot c empty
 
-      waits-on-key : (page : ℕ) → WaitsFor v slot c page → loading.WaitsFor v.core slot c page
+      waits-on-key : (page : ℕ) → WaitsFor v slot c page → loading.WaitsFor v slot c page
       waits-on-key page (WaitsFor.on_key none waits) = waits
       waits-on-key page (WaitsFor.relocation waits) = absurd (refuted waits.relocation (relocation_at v slot c) waits.awaits.here none-here)
 
-      pub reads-on-key : {O R : Type 0} (stands : R → Standing) (entry : ℕ → List ℕ → ℕ → Entry K V → Type 0) (cmp : K → K → Ordering) (join : V → V → V) (f : Meanings K V I O) (code : K → ℕ) (before after_ : ℕ) (r : Result (Progress K V I O R) Refused) → LoadsBy stands entry cmp join f code v w slot c now before after_ r → loading.LoadsBy stands entry cmp join f v.core w.core slot c now before after_ r × IsPassedOn v w
+      pub reads-on-key : {O R : Type 0} (stands : R → Standing) (entry : ℕ → List ℕ → ℕ → Entry K V → Type 0) (cmp : K → K → Ordering) (join : V → V → V) (f : Meanings K V I O) (code : K → ℕ) (before after_ : ℕ) (r : Result (Progress K V I O R) Refused) → LoadsBy stands entry cmp join f code v w slot c now before after_ r → loading.LoadsBy stands entry cmp join f v w slot c now before after_ r × IsPassedOn v w
       reads-on-key {O} {R} stands entry cmp join f code before after_ r (loading.ReadsBy.idle unasked all same) = (
         loading.ReadsBy.idle (λ page waits. unasked page (WaitsFor.on_key none-here waits)) (λ came. (loads-on-key stands entry cmp join f code came r (all came)).0) same,
         (loads-on-key stands entry cmp join f code (Err NoMemory) r (all (Err NoMemory))).1,
@@ -114,28 +113,28 @@ module _ {K V I : Type 0} where
           let on = loads-on-key stands entry cmp join f code (Ok p) r does in
           (loading.ReadsBy.came page p (waits-on-key page at) own on.0 same, on.1)
       reads-on-key stands entry cmp join f code before after_ r (loading.ReadsBy.failed page why at fails is told) =
-          (loading.ReadsBy.failed page why (waits-on-key page at) fails (ap (λ (u : PartitionView K V I). u.core) is) told, rest-same v w is)
+          (loading.ReadsBy.failed page why (waits-on-key page at) fails (ap (λ (u : PartitionView K V I). u) is) told, rest-same v w is)
 
     -- ---- what the events tell
-    pub finds-asks : {O R : Type 0} (cmp : K → K → Ordering) (p : Progress K V I O R) → Finds cmp v w slot c now p → Asks cmp v.core w.core slot c now p
+    pub finds-asks : {O R : Type 0} (cmp : K → K → Ordering) (p : Progress K V I O R) → Finds cmp v w slot c now p → Asks cmp v w slot c now p
     finds-asks cmp (Done a at) h = tt
     finds-asks cmp Next h = tt
     finds-asks cmp (Waits why) h = tt
     finds-asks cmp (NeedsBuild ask) h = tt
     finds-asks cmp (NeedsLoad r a) h = λ x here. h.asks ∙ ap (to_find cmp v now) (ap keyed (asked-op x h.question here h.was) ∙ keyed-op x.op)
 
-    pub event-finishes : {O R : Type 0} (cmp : K → K → Ordering) (f : Meanings K V I O) (p : Progress K V I O R) → IsEvent cmp f v w slot c now p → Finishes cmp f v.core w.core slot c now p
+    pub event-finishes : {O R : Type 0} (cmp : K → K → Ordering) (f : Meanings K V I O) (p : Progress K V I O R) → IsEvent cmp f v w slot c now p → Finishes cmp f v w slot c now p
     event-finishes cmp f (Done a at) ev = λ x here. (
         let q = asked-op x ev.question here ev.was in (
-          subst (λ t. Same (live_of cmp w.core) (after_keyed cmp f (live_of cmp v.core) t)) (ap keyed q ∙ keyed-op x.op) ev.effect.2,
-          ev.effect.3 ∙ ap (answer_keyed f (live_of cmp v.core)) (ap keyed q ∙ keyed-op x.op),
+          subst (λ t. Same (live_of cmp w) (after_keyed cmp f (live_of cmp v) t)) (ap keyed q ∙ keyed-op x.op) ev.effect.2,
+          ev.effect.3 ∙ ap (answer_keyed f (live_of cmp v)) (ap keyed q ∙ keyed-op x.op),
         ))
     event-finishes cmp f Next ev = tt
     event-finishes cmp f (Waits why) ev = tt
     event-finishes cmp f (NeedsBuild ask) ev = tt
     event-finishes cmp f (NeedsLoad r a) ev = tt
 
-    pub load-tells : {O R : Type 0} (cmp : K → K → Ordering) (f : Meanings K V I O) (p : Progress K V I O R) → IsLoad cmp f v w slot c now p → Tells cmp f v.core w.core slot c now p
+    pub load-tells : {O R : Type 0} (cmp : K → K → Ordering) (f : Meanings K V I O) (p : Progress K V I O R) → IsLoad cmp f v w slot c now p → Tells cmp f v w slot c now p
     load-tells cmp f (Done a at) (IsLoad.on_key l) = λ x here apart. (
         let q = asked-op x l.question here l.was in
         let e = l.effect.1 in
@@ -153,4 +152,4 @@ module _ {K V I : Type 0} where
     load-tells cmp f (Waits why) l = tt
     load-tells cmp f (NeedsBuild ask) l = tt
     load-tells cmp f (NeedsLoad r a) (IsLoad.on_key l) = λ x here apart. l.effect.1
-    load-tells {O = O} {R = R} cmp f (NeedsLoad r a) (IsLoad.relocation ev g) = λ x here apart. absurd (apart (live_of cmp v.core (key_of x.op)) (finds-asks {O = O} {R = R} cmp (NeedsLoad r a) g x here))
+    load-tells {O = O} {R = R} cmp f (NeedsLoad r a) (IsLoad.relocation ev g) = λ x here apart. absurd (apart (live_of cmp v (key_of x.op)) (finds-asks {O = O} {R = R} cmp (NeedsLoad r a) g x here))

@@ -14,8 +14,8 @@ use Rattle.fkv_partition.specs.declared.contexts.Phase.{Phase}
 use Rattle.fkv_partition.specs.declared.contexts.Phase.TheVariants.{Load}
 use Rattle.fkv_partition.specs.declared.contexts.Progress.{Progress}
 use Rattle.fkv_partition.specs.declared.contexts.Progress.TheVariants.{Done, Next, NeedsBuild, NeedsLoad, Waits}
-use Rattle.fkv_partition.specs.CoreSound.{IsSound}
-use Rattle.fkv_partition.specs.CoreViews.{CoreView, context_at}
+use Rattle.fkv_partition.specs.KeySound.{IsSound}
+use Rattle.fkv_partition.specs.Views.{PartitionView, context_at}
 use Rattle.fkv_alone.specs.Stages.{IsOpen, IsFetching, HasCome}
 use Rattle.fkv_alone.specs.Ending.{IsOn}
 use Rattle.fkv_alone.specs.Bound.{is_evicted, evicted, evicted_to, may_load, rest_of, loads_of, loads_left, loads_now, IsNear, IsNearer}
@@ -63,16 +63,16 @@ caused-then {C} a b d f g other = by (b == a) refl
 pub may-fail-can : {R : Type 0} {stands : R → Standing} {can_fail : R → ℕ → Type 0} {receipts : List (Option Standing)} {bits page : ℕ} → MayFail stands can_fail receipts bits page → CanFailToRead stands can_fail
 may-fail-can {R} {stands} {can_fail} m = (m.receipt, subst (can_fail m.receipt) (sym m.long) m.fails)
 
-module _ {K V I O R : Type 0} (keeps : Bool) (stands : R → Standing) (cmp : K → K → Ordering) (join : V → V → V) (f : Meanings K V I O) (code : K → ℕ) (op : KeyedOp K V I) (old : CoreView K V I) (slot c started : ℕ) where
+module _ {K V I O R : Type 0} (keeps : Bool) (stands : R → Standing) (cmp : K → K → Ordering) (join : V → V → V) (f : Meanings K V I O) (code : K → ℕ) (op : KeyedOp K V I) (old : PartitionView K V I) (slot c started : ℕ) where
   -- words of the index play no part in what is counted
-  count-old : (v : CoreView K V I) (x : Context K V I) → IsOpen op old v slot c started x → (a : ℕ) → evicted_to code v.records (key_of x.op) a ≡ evicted_to code old.records (key_of op) a
+  count-old : (v : PartitionView K V I) (x : Context K V I) → IsOpen op old v slot c started x → (a : ℕ) → evicted_to code v.records (key_of x.op) a ≡ evicted_to code old.records (key_of op) a
   count-old v x o a = ap (λ (z : KeyedOp K V I). evicted_to code v.records (key_of z) a) o.op_is ∙ ap (λ (r : RecordsView K V). evicted_to code r (key_of op) a) o.records
 
-  rest-old : (v : CoreView K V I) (x : Context K V I) → IsOpen op old v slot c started x → rest_of code v.records x.op ≡ rest_of code old.records op
+  rest-old : (v : PartitionView K V I) (x : Context K V I) → IsOpen op old v slot c started x → rest_of code v.records x.op ≡ rest_of code old.records op
   rest-old v x o = ap (rest_of code v.records) o.op_is ∙ ap (λ (r : RecordsView K V). rest_of code r op) o.records
 
   -- an operation that waits for a page is as near as its count says
-  module _ (v : CoreView K V I) (s : Standing) (a : ℕ) (h : IsFetching keeps cmp op old v slot c started s a) where
+  module _ (v : PartitionView K V I) (s : Standing) (a : ℕ) (h : IsFetching keeps cmp op old v slot c started s a) where
     wanted-count : (x : Context K V I) (l : Loading V) → context_at v slot c ≡ Some x → x.phase ≡ Load l → evicted_to code v.records (key_of x.op) l.wanted ≡ evicted_to code old.records (key_of op) a
     wanted-count x l here phase =
         let same : x ≡ h.operation = some-same x h.operation (context_at v slot c) here h.open_is.here in
@@ -107,7 +107,7 @@ module _ {K V I O R : Type 0} (keeps : Bool) (stands : R → Standing) (cmp : K 
     load-less r m (IsNear.builds x e ask here q word t le) = absurd (cc)
 
   -- one that asks nothing takes as many events as follow its look-up
-  next-less : (v : CoreView K V I) (m : ℕ) → (x : Context K V I) → IsOpen op old v slot c started x → IsNear {O = O} {R = R} code v slot c Next m → 1 + rest_of code old.records op ≤ m
+  next-less : (v : PartitionView K V I) (m : ℕ) → (x : Context K V I) → IsOpen op old v slot c started x → IsNear {O = O} {R = R} code v slot c Next m → 1 + rest_of code old.records op ≤ m
   next-less v m x o (IsNear.begins y here fresh clear range t le) =
       let rest = ap (λ (z : Context K V I). rest_of code v.records z.op) (some-same y x (context_at v slot c) here o.here) ∙ rest-old v x o in omega arith
   next-less v m x o (IsNear.confirms y p here phase alone range t le) =
@@ -117,7 +117,7 @@ module _ {K V I O R : Type 0} (keeps : Bool) (stands : R → Standing) (cmp : K 
   next-less v m x o (IsNear.fetches y l r a await word t le) = absurd (cc)
   next-less v m x o (IsNear.builds y e ask here q word t le) = absurd (cc)
 
-  build-exact : (v : CoreView K V I) (ask : _) (n : ℕ) → IsNear {O = O} {R = R} code v slot c (NeedsBuild ask) n → IsNear {O = O} {R = R} code v slot c (NeedsBuild ask) 1
+  build-exact : (v : PartitionView K V I) (ask : _) (n : ℕ) → IsNear {O = O} {R = R} code v slot c (NeedsBuild ask) n → IsNear {O = O} {R = R} code v slot c (NeedsBuild ask) 1
   build-exact v ask n (IsNear.begins x here fresh clear range t le) = absurd (cc)
   build-exact v ask n (IsNear.confirms x p here phase alone range t le) = absurd (cc)
   build-exact v ask n (IsNear.looks x p here fresh made t le) = absurd (cc)
@@ -133,7 +133,7 @@ module _ {K V I O R : Type 0} (keeps : Bool) (stands : R → Standing) (cmp : K 
   next-left (Waits why) = omega arith
 
   -- a page leads on to fewer
-  page-left : (w : CoreView K V I) (p : Progress K V I O R) (a left : ℕ) → HasCome keeps stands cmp join f code op old w slot c started p → IsOn p → IsNear code w slot c p left → left < 1 + evicted_to code old.records (key_of op) a
+  page-left : (w : PartitionView K V I) (p : Progress K V I O R) (a left : ℕ) → HasCome keeps stands cmp join f code op old w slot c started p → IsOn p → IsNear code w slot c p left → left < 1 + evicted_to code old.records (key_of op) a
       → 1 ≤ cond (may_load op) (evicted_to code old.records (key_of op) a) 0
       → 1 + loads_left code old.records op p ≤ cond (may_load op) (evicted_to code old.records (key_of op) a) 0
   page-left w (Done b effect) a left h on near less some = absurd on
@@ -150,7 +150,7 @@ module _ {K V I O R : Type 0} (keeps : Bool) (stands : R → Standing) (cmp : K 
   page-left w (Waits why) a left h on near less some = absurd on
 
   -- what an event reads and leaves to be read is no more than was left
-  pub left-falls : (v w : CoreView K V I) (told p : Progress K V I O R) (n : ℕ) → HasCome keeps stands cmp join f code op old v slot c started told → HasCome keeps stands cmp join f code op old w slot c started p → IsOn told → IsOn p → IsNear code v slot c told n
+  pub left-falls : (v w : PartitionView K V I) (told p : Progress K V I O R) (n : ℕ) → HasCome keeps stands cmp join f code op old v slot c started told → HasCome keeps stands cmp join f code op old w slot c started p → IsOn told → IsOn p → IsNear code v slot c told n
       → ((m : ℕ) → IsNear code v slot c told m → IsNearer code w slot c p m)
       → loads_now told ≤ loads_left code old.records op told
       → loads_now told + loads_left code old.records op p ≤ loads_left code old.records op told

@@ -5,13 +5,13 @@ use Rattle.fkv_device.specs.Standing.{Standing}
 use Rattle.fkv_operations.specs.declared.operations.KeyedOp.{KeyedOp}
 use Rattle.fkv_operations.specs.declared.operations.KeyedOp.TheVariants.{Read, Upsert, Rmw, Delete, Merge}
 use Rattle.fkv_partition.specs.declared.contexts.Phase.TheVariants.{Load}
-use Rattle.fkv_partition.specs.CoreSound.{IsSound, StandsFor}
-use Rattle.fkv_partition.specs.CoreViews.{CoreView, slots_of}
+use Rattle.fkv_partition.specs.KeySound.{IsSound, StandsFor}
+use Rattle.fkv_partition.specs.Views.{PartitionView, slots_of}
 use Rattle.fkv_alone.specs.Bound.{may_load}
 use Rattle.fkv_alone.specs.Stages.{IsFetching}
 use Rattle.fkv_partition.proofs.AskedLemmas.{key_at}
 
-pub others-fetch-not : {K V I : Type 0} {keeps kept : Bool} {cmp : K → K → Ordering} {join : V → V → V} {code : K → ℕ} {op : KeyedOp K V I} {old v : CoreView K V I} {slot c started a : ℕ} {s : Standing} → IsSound kept cmp join code v
+pub others-fetch-not : {K V I : Type 0} {keeps kept : Bool} {cmp : K → K → Ordering} {join : V → V → V} {code : K → ℕ} {op : KeyedOp K V I} {old v : PartitionView K V I} {slot c started a : ℕ} {s : Standing} → IsSound kept cmp join code v
     → IsFetching keeps cmp op old v slot c started s a → may_load op ≡ false → ⊥
 others-fetch-not {K} {V} {I} {keeps} {kept} {cmp} {join} {code} {op} {old} {v} {slot} {c} {started} {a} {s} sound h merge =
     let x = h.operation in

@@ -4,18 +4,18 @@ use Rattle.fkv_regions.specs.RegionsView.{RegionsView}
 use Rattle.fkv_operations.specs.declared.operations.KeyedOp.{KeyedOp}
 use Rattle.fkv_lookups.specs.RecordsViews.{RecordsView}
 use Rattle.fkv_partition.specs.declared.contexts.Context.{Context}
-use Rattle.fkv_partition.specs.CoreContexts.{context_in, on_key}
-use Rattle.fkv_partition.specs.CoreViews.{CoreView, context_at, with_context}
-use Rattle.fkv_partition.specs.CoreEffect.{asked_by, LeavesOthers}
+use Rattle.fkv_partition.specs.Contexts.{context_in, on_key}
+use Rattle.fkv_partition.specs.Views.{PartitionView, context_at, with_context}
+use Rattle.fkv_partition.specs.KeyEffect.{asked_by, LeavesOthers}
 use Rattle.fkv_partition.proofs.AskedLemmas.{context-same, asked-other}
 use Rattle.fkv_alone.specs.Stages.{IsOpen}
 use Rattle.fkv_alone.specs.Ending.{IsOver}
 
 -- the view with another operation, or none, in a context, and other records of the same log
-abbrev pub with_both : {K V I : Type 0} → CoreView K V I → ℕ → ℕ → Option (Context K V I) → ℕ → RecordsView K V → CoreView K V I
+abbrev pub with_both : {K V I : Type 0} → PartitionView K V I → ℕ → ℕ → Option (Context K V I) → ℕ → RecordsView K V → PartitionView K V I
 with_both v slot c y now r = record (with_context v slot c y now) { records = r }
 
-module _ {K V I : Type 0} (v : CoreView K V I) (slot c now : ℕ) (x : Context K V I) (h : context_at v slot c ≡ Some x) (y : Option (Context K V I)) (r : RecordsView K V) (regions : r.log.regions ≡ v.records.log.regions) where
+module _ {K V I : Type 0} (v : PartitionView K V I) (slot c now : ℕ) (x : Context K V I) (h : context_at v slot c ≡ Some x) (y : Option (Context K V I)) (r : RecordsView K V) (regions : r.log.regions ≡ v.records.log.regions) where
   -- the changed context
   pub set-here : context_at (with_both v slot c y now r) slot c ≡ y
   set-here =
@@ -38,7 +38,7 @@ module _ {K V I : Type 0} (v : CoreView K V I) (slot c now : ℕ) (x : Context K
 
 module _ {K V I : Type 0} where
   -- what two events one after the other leave
-  pub leaves-then : (a b d : CoreView K V I) (slot c m n : ℕ) → LeavesOthers a b slot c m → LeavesOthers b d slot c n → LeavesOthers a d slot c n
+  pub leaves-then : (a b d : PartitionView K V I) (slot c m n : ℕ) → LeavesOthers a b slot c m → LeavesOthers b d slot c n → LeavesOthers a d slot c n
   leaves-then a b d slot c m n f g = record {
     others = λ s e other. g.others s e other ∙ f.others s e other;
     number = g.number ∙ f.number;
@@ -50,19 +50,19 @@ module _ {K V I : Type 0} where
   }
 
   -- the moment is the partition's own
-  pub leaves-own : (a b : CoreView K V I) (slot c m : ℕ) → LeavesOthers a b slot c m → LeavesOthers a b slot c b.moment
+  pub leaves-own : (a b : PartitionView K V I) (slot c m : ℕ) → LeavesOthers a b slot c m → LeavesOthers a b slot c b.moment
   leaves-own a b slot c m f = record { others = f.others; number = f.number; count = f.count; begin = f.begin; regions = f.regions; rises = f.rises; moment = refl }
 
-  pub leaves-self : (v : CoreView K V I) (slot c : ℕ) → LeavesOthers v v slot c v.moment
+  pub leaves-self : (v : PartitionView K V I) (slot c : ℕ) → LeavesOthers v v slot c v.moment
   leaves-self v slot c = record { others = λ s d other. refl; number = refl; count = refl; begin = refl; regions = refl; rises = omega arith; moment = refl }
 
   -- what two events leave, from the first partition
-  pub frames : (old v w : CoreView K V I) (slot c now : ℕ) → LeavesOthers old v slot c v.moment → LeavesOthers v w slot c now → LeavesOthers old w slot c w.moment
+  pub frames : (old v w : PartitionView K V I) (slot c now : ℕ) → LeavesOthers old v slot c v.moment → LeavesOthers v w slot c now → LeavesOthers old w slot c w.moment
   frames old v w slot c now f g = leaves-own old w slot c now (leaves-then old v w slot c v.moment now f g)
 
-  module _ (op : KeyedOp K V I) (old v : CoreView K V I) (slot c started : ℕ) (x : Context K V I) (o : IsOpen op old v slot c started x) where
+  module _ (op : KeyedOp K V I) (old v : PartitionView K V I) (slot c started : ℕ) (x : Context K V I) (o : IsOpen op old v slot c started x) where
     -- it stays open, its own number and operation with it
-    pub open-on : (w : CoreView K V I) (now : ℕ) (y : Context K V I) → v.moment < now → context_at w slot c ≡ Some y → y.number ≡ x.number → y.op ≡ x.op → w.records ≡ record v.records { words = w.records.words } → LeavesOthers v w slot c now
+    pub open-on : (w : PartitionView K V I) (now : ℕ) (y : Context K V I) → v.moment < now → context_at w slot c ≡ Some y → y.number ≡ x.number → y.op ≡ x.op → w.records ≡ record v.records { words = w.records.words } → LeavesOthers v w slot c now
         → IsOpen op old w slot c started y
     open-on w now y later here number same records f = record {
       here = here;

@@ -28,13 +28,13 @@ use Rattle.fkv_partition.specs.declared.contexts.Phase.TheVariants.{Fresh, Confi
 use Rattle.fkv_partition.specs.declared.contexts.Progress.{Progress}
 use Rattle.fkv_partition.specs.declared.contexts.Progress.TheVariants.{Done, Next, NeedsBuild, NeedsLoad, Waits}
 use Rattle.fkv_partition.specs.declared.contexts.Wait.TheVariants.{Fuzzy, Full}
-use Rattle.fkv_partition.specs.CoreContexts.{question_in, loading_by, at_phase}
-use Rattle.fkv_partition.specs.CoreEffect.{Asked, asked, asked_by, LeavesOthers, IsEvent}
-use Rattle.fkv_partition.specs.CoreGoing.{Goes}
-use Rattle.fkv_partition.specs.CoreInstalling.{Installs}
-use Rattle.fkv_partition.specs.CoreLoading.{AwaitsPage, Loads, LoadsBy, ReadsBy, WaitsFor}
+use Rattle.fkv_partition.specs.Contexts.{question_in, loading_by, at_phase}
+use Rattle.fkv_partition.specs.KeyEffect.{Asked, asked, asked_by, LeavesOthers, IsEvent}
+use Rattle.fkv_partition.specs.KeyGoing.{Goes}
+use Rattle.fkv_partition.specs.KeyInstalling.{Installs}
+use Rattle.fkv_partition.specs.KeyLoading.{AwaitsPage, Loads, LoadsBy, ReadsBy, WaitsFor}
 use Rattle.fkv_partition.specs.Pending.{Pending, pending, pending_of}
-use Rattle.fkv_partition.specs.CoreViews.{CoreView, context_at, with_context, live_of}
+use Rattle.fkv_partition.specs.Views.{PartitionView, context_at, with_context, live_of}
 use Rattle.fkv_alone.specs.Stages.{IsOpen, IsReady, AsksToBuild, IsFetching, IsHeldUp, IsDone, HasCome}
 use Rattle.fkv_alone.specs.Ending.{IsOver, IsStop, Advances}
 use Rattle.fkv_operations.specs.Operations.{op_of, map_after, answer_to}
@@ -56,17 +56,17 @@ pub question-rmw : {K V I : Type 0} (n : ℕ) (op : KeyedOp K V I) (e : IndexEnt
 question-rmw n op e s k i h = rw h refl
 
 -- what an event that asks for a page leaves to find
-abbrev pub Asks : {K V I O R : Type 0} → (K → K → Ordering) → CoreView K V I → CoreView K V I → ℕ → ℕ → ℕ → Progress K V I O R → Type 0
+abbrev pub Asks : {K V I O R : Type 0} → (K → K → Ordering) → PartitionView K V I → PartitionView K V I → ℕ → ℕ → ℕ → Progress K V I O R → Type 0
 Asks {K} {V} {I} cmp v w slot c now (NeedsLoad r a) = (x : Context K V I) → context_at v slot c ≡ Some x → pending cmp w slot c ≡ Some (record { moment = now; value = live_of cmp v (key_of x.op) })
 Asks cmp v w slot c now other = Unit {0}
 
 -- what one that finishes an operation tells of the live map, and its answer
-abbrev pub Finishes : {K V I O R : Type 0} → (K → K → Ordering) → Meanings K V I O → CoreView K V I → CoreView K V I → ℕ → ℕ → ℕ → Progress K V I O R → Type 0
+abbrev pub Finishes : {K V I O R : Type 0} → (K → K → Ordering) → Meanings K V I O → PartitionView K V I → PartitionView K V I → ℕ → ℕ → ℕ → Progress K V I O R → Type 0
 Finishes {K} {V} {I} cmp f v w slot c now (Done a at) = (x : Context K V I) → context_at v slot c ≡ Some x → Same (live_of cmp w) (after cmp f (live_of cmp v) x.op) × (a ≡ answer f (live_of cmp v) x.op)
 Finishes cmp f v w slot c now other = Unit {0}
 
 -- a read is answered with what its look-up was to find
-pub record HasRead {K V I O : Type 0} (cmp : K → K → Ordering) (f : Meanings K V I O) (v w : CoreView K V I) (slot c : ℕ) (x : Context K V I) (a : Answer O) : Type 0 where
+pub record HasRead {K V I O : Type 0} (cmp : K → K → Ordering) (f : Meanings K V I O) (v w : PartitionView K V I) (slot c : ℕ) (x : Context K V I) (a : Answer O) : Type 0 where
   pub live : Same (live_of cmp w) (live_of cmp v)
   pub found : Pending V
   pub was : pending cmp v slot c ≡ Some found
@@ -76,7 +76,7 @@ pub record HasRead {K V I O : Type 0} (cmp : K → K → Ordering) (f : Meanings
   pub answers : a ≡ shown_of f key input found.value
 
 -- what a page that came tells where it finishes a read, whose effect is not now, or leads to another page
-abbrev pub Tells : {K V I O R : Type 0} → (K → K → Ordering) → Meanings K V I O → CoreView K V I → CoreView K V I → ℕ → ℕ → ℕ → Progress K V I O R → Type 0
+abbrev pub Tells : {K V I O R : Type 0} → (K → K → Ordering) → Meanings K V I O → PartitionView K V I → PartitionView K V I → ℕ → ℕ → ℕ → Progress K V I O R → Type 0
 Tells {K} {V} {I} cmp f v w slot c now (Done a at) = (x : Context K V I) → context_at v slot c ≡ Some x → at ≢ now → HasRead cmp f v w slot c x a
 Tells {K} {V} {I} cmp f v w slot c now (NeedsLoad r b) = (x : Context K V I)
     → context_at v slot c ≡ Some x
@@ -84,7 +84,7 @@ Tells {K} {V} {I} cmp f v w slot c now (NeedsLoad r b) = (x : Context K V I)
     → pending cmp w slot c ≡ pending cmp v slot c
 Tells cmp f v w slot c now other = Unit {0}
 
-module _ {K V I : Type 0} (op : KeyedOp K V I) (old v : CoreView K V I) (slot c started : ℕ) where
+module _ {K V I : Type 0} (op : KeyedOp K V I) (old v : PartitionView K V I) (slot c started : ℕ) where
   -- what is open in a context is one operation
   open-same : (x y : Context K V I) → IsOpen op old v slot c started x → context_at v slot c ≡ Some y → IsOpen op old v slot c started y
   open-same x y o h = subst (IsOpen op old v slot c started) (some-same x y (context_at v slot c) o.here h) o
@@ -100,7 +100,7 @@ module _ {K V I : Type 0} (op : KeyedOp K V I) (old v : CoreView K V I) (slot c 
     open-maps cmp = ap (λ (r : RecordsView K V). live cmp r.text) o.records
 
     -- an event finishes it
-    done-told : {O : Type 0} (keeps : Bool) (cmp : K → K → Ordering) (f : Meanings K V I O) (w : CoreView K V I) (now : ℕ) (a : Answer O) → v.moment < now → context_at w slot c ≡ None → LeavesOthers v w slot c now
+    done-told : {O : Type 0} (keeps : Bool) (cmp : K → K → Ordering) (f : Meanings K V I O) (w : PartitionView K V I) (now : ℕ) (a : Answer O) → v.moment < now → context_at w slot c ≡ None → LeavesOthers v w slot c now
         → (IsTrue keeps → Same (live_of cmp w) (after cmp f (live_of cmp v) x.op) × (a ≡ answer f (live_of cmp v) x.op))
         → IsDone keeps cmp f op old w slot c started a now
     done-told keeps cmp f w now a later closed f0 told = record {
@@ -124,7 +124,7 @@ stop-of tail page before after why h = elim h [
   | inr d ↦ IsStop.damaged page d.0 d.1
 ]
 
-module _ {K V I O R : Type 0} (keeps : Bool) (stands : R → Standing) (cmp : K → K → Ordering) (join : V → V → V) (f : Meanings K V I O) (code : K → ℕ) (op : KeyedOp K V I) (old v w : CoreView K V I) (slot c started now : ℕ) (later : v.moment < now) where
+module _ {K V I O R : Type 0} (keeps : Bool) (stands : R → Standing) (cmp : K → K → Ordering) (join : V → V → V) (f : Meanings K V I O) (code : K → ℕ) (op : KeyedOp K V I) (old v w : PartitionView K V I) (slot c started now : ℕ) (later : v.moment < now) where
   told-as : (p q : Progress K V I O R) → p ≡ q → HasCome keeps stands cmp join f code op old w slot c started q → HasCome keeps stands cmp join f code op old w slot c started p
   told-as p q e h = subst (HasCome keeps stands cmp join f code op old w slot c started) (sym e) h
 
@@ -259,9 +259,9 @@ module _ {K V I O R : Type 0} (keeps : Bool) (stands : R → Standing) (cmp : K 
   installs-told ask h p (Installs.declined x e here q word u is r) event =
       let o = open-same op old v slot c started h.operation x h.open_is here in
       let t : p ≡ Done answered.Declined now = cc in
-      let closed : context_at w slot c ≡ None = ap (λ (u : CoreView K V I). context_at u slot c) is ∙ set-here v slot c now x here None v.records refl in
+      let closed : context_at w slot c ≡ None = ap (λ (u : PartitionView K V I). context_at u slot c) is ∙ set-here v slot c now x here None v.records refl in
       told-as p (Done answered.Declined now) t (done-told op old v slot c started x o keeps cmp f w now answered.Declined later closed
-      (subst (λ (u : CoreView K V I). LeavesOthers v u slot c now) (sym is) (set-frame v slot c now x here None v.records refl refl))
+      (subst (λ (u : PartitionView K V I). LeavesOthers v u slot c now) (sym is) (set-frame v slot c now x here None v.records refl refl))
       (λ kept. subst (Finishes cmp f v w slot c now) t (event kept) x here))
   installs-told ask h p (Installs.worn x e value here q word u tail is r) event = absurd (cc)
   installs-told ask h p (Installs.full x e value here q word u full is r) event =
@@ -273,9 +273,9 @@ module _ {K V I O R : Type 0} (keeps : Bool) (stands : R → Standing) (cmp : K 
       let grown = with_record v.records e ask.key (Some value) in
       let a = answered.Value (f.shown ask.key ask.input value) in
       let t : p ≡ Done a now = cc in
-      let closed : context_at w slot c ≡ None = ap (λ (u : CoreView K V I). context_at u slot c) is ∙ set-here v slot c now x here None grown refl in
+      let closed : context_at w slot c ≡ None = ap (λ (u : PartitionView K V I). context_at u slot c) is ∙ set-here v slot c now x here None grown refl in
       told-as p (Done a now) t (done-told op old v slot c started x o keeps cmp f w now a later closed
-      (subst (λ (u : CoreView K V I). LeavesOthers v u slot c now) (sym is) (set-frame v slot c now x here None grown refl refl))
+      (subst (λ (u : PartitionView K V I). LeavesOthers v u slot c now) (sym is) (set-frame v slot c now x here None grown refl refl))
       (λ kept. subst (Finishes cmp f v w slot c now) t (event kept) x here))
 
   pub installs-stops : (ask : Ask K V I) → AsksToBuild op old v slot c started ask → (why : Refused) → Installs {O = O} {R = R} cmp f code v w slot c ask now (Err why) → (why ≡ Worn) × (old.records.log.tail ≡ 2 ^ 48)
@@ -314,10 +314,10 @@ module _ {K V I O R : Type 0} (keeps : Bool) (stands : R → Standing) (cmp : K 
         → IsDone keeps cmp f op old w slot c started b l.looked
     read-told x l b o same is load =
         let looked : h.loading.looked ≡ l.looked = ap (λ (z : Loading V). z.looked) same in
-        let moment : w.moment ≡ now = ap (λ (u : CoreView K V I). u.moment) is in
-        let frame = subst (λ (u : CoreView K V I). LeavesOthers v u slot c now) (sym is) (set-frame v slot c now x o.here None v.records refl refl) in
+        let moment : w.moment ≡ now = ap (λ (u : PartitionView K V I). u.moment) is in
+        let frame = subst (λ (u : PartitionView K V I). LeavesOthers v u slot c now) (sym is) (set-frame v slot c now x o.here None v.records refl refl) in
         record {
-          closed = ap (λ (u : CoreView K V I). context_at u slot c) is ∙ set-here v slot c now x o.here None v.records refl;
+          closed = ap (λ (u : PartitionView K V I). context_at u slot c) is ∙ set-here v slot c now x o.here None v.records refl;
           live = λ kept. read-live b (load kept);
           answers = λ kept. read-answer kept b (load kept);
           begun = (let n = h.looked in omega arith);
@@ -373,7 +373,7 @@ module _ {K V I O R : Type 0} (keeps : Bool) (stands : R → Standing) (cmp : K 
         → (u : Option V) → pending cmp w slot c ≡ Some (record { moment = now; value = u }) → ⊥
     further-looks x l b parts o same is u e =
         let y = at_phase x (Load (record l { wanted = b; parts = parts })) in
-        let there : context_at w slot c ≡ Some y = ap (λ (t : CoreView K V I). context_at t slot c) is ∙ set-here v slot c now x o.here (Some y) v.records refl in
+        let there : context_at w slot c ≡ Some y = ap (λ (t : PartitionView K V I). context_at t slot c) is ∙ set-here v slot c now x o.here (Some y) v.records refl in
         let shown : pending_of cmp w.records (Some y) ≡ Some (record { moment = now; value = u }) = sym (ap (pending_of cmp w.records) there) ∙ e in
         by (l.begin == w.records.log.begin) (value_of (newest cmp w.records.text (key_of x.op) (address_of l.kept.word))) shown
       where
@@ -382,7 +382,7 @@ module _ {K V I O R : Type 0} (keeps : Bool) (stands : R → Standing) (cmp : K 
         by false a k = absurd (cc)
 
     over-is : (x : Context K V I) → IsOpen op old v slot c started x → w ≡ with_context v slot c None now → IsOver old w slot c
-    over-is x o is = subst (λ (u : CoreView K V I). IsOver old u slot c) (sym is) (open-over op old v slot c started x o now)
+    over-is x o is = subst (λ (u : PartitionView K V I). IsOver old u slot c) (sym is) (open-over op old v slot c started x o now)
 
     -- what came answers nothing where it is a refusal, since Begin stands
     came-in : (y : Refused) (p : Progress K V I O R) → Loads stands entry cmp join f v w slot c (Err y) now (Ok p) → ⊥

@@ -18,9 +18,9 @@ use Rattle.fkv_partition.specs.declared.contexts.Loading.{Loading}
 use Rattle.fkv_partition.specs.declared.contexts.Phase.TheVariants.{Fresh, Confirm}
 use Rattle.fkv_partition.specs.declared.contexts.Progress.{Progress}
 use Rattle.fkv_partition.specs.declared.contexts.Progress.TheVariants.{Next, NeedsBuild, NeedsLoad}
-use Rattle.fkv_partition.specs.CoreContexts.{question_in, claim_at}
-use Rattle.fkv_partition.specs.CoreLoading.{AwaitsPage}
-use Rattle.fkv_partition.specs.CoreViews.{CoreView, context_at}
+use Rattle.fkv_partition.specs.Contexts.{question_in, claim_at}
+use Rattle.fkv_partition.specs.KeyLoading.{AwaitsPage}
+use Rattle.fkv_partition.specs.Views.{PartitionView, context_at}
 
 -- a record below Head, of the class of a key
 abbrev pub is_evicted : {K V : Type 0} → (K → ℕ) → RecordsView K V → K → Entry K V → Bool
@@ -59,7 +59,7 @@ loads_now (NeedsLoad receipt a) = 1
 loads_now other = 0
 
 -- no open operation holds a tentative entry
-abbrev pub NoneClaims : {K V I : Type 0} → CoreView K V I → Type 0
+abbrev pub NoneClaims : {K V I : Type 0} → PartitionView K V I → Type 0
 NoneClaims {K} {V} {I} v = (p : ℕ) → claim_at v.contexts p ≡ None
 
 -- a final entry of a class stands at a place
@@ -69,7 +69,7 @@ pub record IsMade {K V : Type 0} (r : RecordsView K V) (c : Class) (p : Place) :
   pub tag : tag_of (word_at r.words p) ≡ c.tag
 
 -- an operation that told this takes at most `n` more events
-pub data IsNear {K V I O R : Type 0} (code : K → ℕ) (v : CoreView K V I) (slot c : ℕ) (told : Progress K V I O R)
+pub data IsNear {K V I O R : Type 0} (code : K → ℕ) (v : PartitionView K V I) (slot c : ℕ) (told : Progress K V I O R)
     (n : ℕ) : Type 0 where
   -- it may have to make an entry: a claim, its confirmation, a look-up, loads, and what is built
   begins : (x : Context K V I)
@@ -112,7 +112,7 @@ pub data IsNear {K V I O R : Type 0} (code : K → ℕ) (v : CoreView K V I) (sl
       → IsNear code v slot c told n
 
 -- an event brings an operation nearer that took at most `n` more: it is over, waits, or takes fewer
-pub record IsNearer {K V I O R : Type 0} (code : K → ℕ) (new : CoreView K V I) (slot c : ℕ) (told : Progress K V I O R)
+pub record IsNearer {K V I O R : Type 0} (code : K → ℕ) (new : PartitionView K V I) (slot c : ℕ) (told : Progress K V I O R)
     (n : ℕ) : Type 0 where
   pub left : ℕ
   pub fewer : left < n

@@ -11,15 +11,14 @@ use Rattle.fkv_operations.specs.declared.operations.Answer.{Answer}
 use Rattle.fkv_partition.specs.declared.contexts.Progress.{Progress}
 use Rattle.fkv_partition.specs.declared.contexts.Progress.TheVariants.{Done, Next, NeedsBuild, NeedsLoad, Waits}
 use Rattle.fkv_partition.specs.declared.contexts.Wait.{Wait}
-use Rattle.fkv_partition.specs.CoreBeginning.{IsEntered}
-use Rattle.fkv_partition.specs.CoreEffect.{LeavesOthers}
-use Rattle.fkv_partition.specs.CoreViews.{CoreView, context_at, partition_of}
+use Rattle.fkv_partition.specs.KeyBeginning.{IsEntered}
+use Rattle.fkv_partition.specs.KeyEffect.{LeavesOthers}
+use Rattle.fkv_partition.specs.Views.{PartitionView, context_at, partition_of}
 use Rattle.fkv_partition.specs.Beginning.{IsFirstFree, IssuesOnKey}
-use Rattle.fkv_partition.specs.Views.{PartitionView}
 use Rattle.fkv_alone.specs.Stages.{HasCome, IsDone, IsWaiting}
 
 -- it is over without effect: its context is free, and of the records the words of the index alone may be others
-pub record IsOver {K V I : Type 0} (old new : CoreView K V I) (slot c : ℕ) : Type 0 where
+pub record IsOver {K V I : Type 0} (old new : PartitionView K V I) (slot c : ℕ) : Type 0 where
   pub closed : context_at new slot c ≡ None
   pub records : new.records ≡ record old.records { words = new.records.words }
   pub frame : LeavesOthers old new slot c new.moment
@@ -42,7 +41,7 @@ pub data IsStop (keeps : Bool) (tail before after : ℕ) (why : Refused) : Type 
 -- one event of the operation, from `v`: it comes to what it tells, or it is refused, and then nothing has changed or
 -- the operation is over
 abbrev pub Advances : {K V I O R : Type 0} → Bool → (R → Standing) → (K → K → Ordering) → (V → V → V)
-    → Meanings K V I O → (K → ℕ) → KeyedOp K V I → CoreView K V I → CoreView K V I → CoreView K V I → ℕ → ℕ → ℕ → ℕ → ℕ
+    → Meanings K V I O → (K → ℕ) → KeyedOp K V I → PartitionView K V I → PartitionView K V I → PartitionView K V I → ℕ → ℕ → ℕ → ℕ → ℕ
     → Result (Progress K V I O R) Refused → Type 0
 Advances keeps stands cmp join f code op old v new slot c started before after (Ok progress) =
     HasCome keeps stands cmp join f code op old new slot c started progress × (after ≡ before)
@@ -59,8 +58,8 @@ IsOn (Waits why) = ⊥
 
 -- where an operation may be issued: in the lowest free context of an entered session, its key belonging here
 pub record Opens {K V I : Type 0} (code : K → ℕ) (v : PartitionView K V I) (slot c : ℕ) (op : KeyedOp K V I) : Type 0 where
-  pub entered : IsEntered v.core slot
-  pub own : partition_of v.core.count (code (key_of op)) ≡ v.core.number
+  pub entered : IsEntered v slot
+  pub own : partition_of v.count (code (key_of op)) ≡ v.number
   pub free : IsFirstFree v slot (Some c)
 
 -- what became of an operation that was driven by at most `limit` events after the clock gave `start`: a rule for each
@@ -85,7 +84,7 @@ pub data Ends {K V I O R : Type 0} (keeps : Bool) (cmp : K → K → Ordering) (
       → Ends keeps cmp join f code op old new slot limit start end before after result
   done : (c : ℕ) (a : Answer O) (effect : ℕ)
       → Opens code old slot c op
-      → IsDone keeps cmp f op old.core new.core slot c (start + 1) a effect
+      → IsDone keeps cmp f op old new slot c (start + 1) a effect
       → end ≤ start + limit
       → after ≡ before
       → result ≡ Ok (Done a effect)
@@ -93,7 +92,7 @@ pub data Ends {K V I O R : Type 0} (keeps : Bool) (cmp : K → K → Ordering) (
   -- it stays open
   waits : (c : ℕ) (why : Wait)
       → Opens code old slot c op
-      → IsWaiting cmp join f code op old.core new.core slot c (start + 1) why
+      → IsWaiting cmp join f code op old new slot c (start + 1) why
       → end ≤ start + limit
       → after ≡ before
       → result ≡ Ok (Waits why)
@@ -101,15 +100,15 @@ pub data Ends {K V I O R : Type 0} (keeps : Bool) (cmp : K → K → Ordering) (
   -- an event is refused, and the operation is over
   refused : (c : ℕ) (why : Refused)
       → Opens code old slot c op
-      → IsOver old.core new.core slot c
+      → IsOver old new slot c
       → end ≤ start + limit
-      → IsStop keeps old.core.records.log.tail before after why
+      → IsStop keeps old.records.log.tail before after why
       → result ≡ Err why
       → Ends keeps cmp join f code op old new slot limit start end before after result
   -- all its events are made, and the operation is over
   stalled : (c : ℕ)
       → Opens code old slot c op
-      → IsOver old.core new.core slot c
+      → IsOver old new slot c
       → end ≡ start + limit
       → after ≡ before
       → result ≡ Err Stalled
@@ -117,7 +116,7 @@ pub data Ends {K V I O R : Type 0} (keeps : Bool) (cmp : K → K → Ordering) (
   -- the clock has no moment left for the next event, and the operation is over
   exhausted : (c : ℕ)
       → Opens code old slot c op
-      → IsOver old.core new.core slot c
+      → IsOver old new slot c
       → end ≡ 2 ^ 64 - 1
       → end ≤ start + limit
       → after ≡ before
@@ -125,13 +124,13 @@ pub data Ends {K V I O R : Type 0} (keeps : Bool) (cmp : K → K → Ordering) (
       → Ends keeps cmp join f code op old new slot limit start end before after result
 
 -- an operation that is refused is over, or open still: of the records the words of the index alone may be others
-pub record IsHalted {K V I : Type 0} (old new : CoreView K V I) (slot c : ℕ) : Type 0 where
+pub record IsHalted {K V I : Type 0} (old new : PartitionView K V I) (slot c : ℕ) : Type 0 where
   pub records : new.records ≡ record old.records { words = new.records.words }
   pub frame : LeavesOthers old new slot c new.moment
 
 -- what at most `left` events make of an open operation, after the clock gave `start`
 pub data Drives {K V I O R : Type 0} (keeps : Bool) (stands : R → Standing) (cmp : K → K → Ordering) (join : V → V → V)
-    (f : Meanings K V I O) (code : K → ℕ) (op : KeyedOp K V I) (old new : CoreView K V I)
+    (f : Meanings K V I O) (code : K → ℕ) (op : KeyedOp K V I) (old new : PartitionView K V I)
     (slot c started left start end before after : ℕ)
     (result : Result (Progress K V I O R) Refused) : Type 0 where
   ends : (progress : Progress K V I O R)

@@ -24,15 +24,15 @@ use Rattle.fkv_lookups.specs.declared.decisions.Decision.TheVariants as decided
 use Rattle.fkv_lookups.specs.declared.payloads.Payload.{Payload}
 use Rattle.fkv_partition.specs.declared.contexts.Wait.{Wait}
 use Rattle.fkv_partition.specs.declared.contexts.Wait.TheVariants as wait
-use Rattle.fkv_partition.specs.CoreContexts.{question_in}
-use Rattle.fkv_partition.specs.CoreEffect.{LeavesOthers}
-use Rattle.fkv_partition.specs.CoreGoing.{Decides}
-use Rattle.fkv_partition.specs.CoreLoading.{AwaitsPage}
+use Rattle.fkv_partition.specs.Contexts.{question_in}
+use Rattle.fkv_partition.specs.KeyEffect.{LeavesOthers}
+use Rattle.fkv_partition.specs.KeyGoing.{Decides}
+use Rattle.fkv_partition.specs.KeyLoading.{AwaitsPage}
 use Rattle.fkv_partition.specs.Pending.{pending}
-use Rattle.fkv_partition.specs.CoreViews.{CoreView, context_at, live_of}
+use Rattle.fkv_partition.specs.Views.{PartitionView, context_at, live_of}
 
 -- the operation is open in its context, and of the records the words of the index alone may be others than before
-pub record IsOpen {K V I : Type 0} (op : KeyedOp K V I) (old v : CoreView K V I) (slot c started : ℕ) (x : Context K V I)
+pub record IsOpen {K V I : Type 0} (op : KeyedOp K V I) (old v : PartitionView K V I) (slot c started : ℕ) (x : Context K V I)
     : Type 0 where
   pub here : context_at v slot c ≡ Some x
   pub number : x.number ≡ started
@@ -42,13 +42,13 @@ pub record IsOpen {K V I : Type 0} (op : KeyedOp K V I) (old v : CoreView K V I)
   pub frame : LeavesOthers old v slot c v.moment
 
 -- it waits for nothing from outside
-pub record IsReady {K V I : Type 0} (op : KeyedOp K V I) (old v : CoreView K V I) (slot c started : ℕ) : Type 0 where
+pub record IsReady {K V I : Type 0} (op : KeyedOp K V I) (old v : PartitionView K V I) (slot c started : ℕ) : Type 0 where
   pub operation : Context K V I
   pub open_is : IsOpen op old v slot c started operation
   pub ready : (operation.phase ≡ Fresh) ⊎ ((p : Place) × (operation.phase ≡ Confirm p))
 
 -- it asks this to be built
-pub record AsksToBuild {K V I : Type 0} (op : KeyedOp K V I) (old v : CoreView K V I) (slot c started : ℕ) (ask : Ask K V I)
+pub record AsksToBuild {K V I : Type 0} (op : KeyedOp K V I) (old v : PartitionView K V I) (slot c started : ℕ) (ask : Ask K V I)
     : Type 0 where
   pub operation : Context K V I
   pub open_is : IsOpen op old v slot c started operation
@@ -58,7 +58,7 @@ pub record AsksToBuild {K V I : Type 0} (op : KeyedOp K V I) (old v : CoreView K
 -- it asks for the page of an address, by the receipt that is kept of it; on a device that keeps it is to find what the
 -- live map said of its key before
 pub record IsFetching {K V I : Type 0} (keeps : Bool) (cmp : K → K → Ordering) (op : KeyedOp K V I)
-    (old v : CoreView K V I) (slot c started : ℕ) (s : Standing) (a : ℕ) : Type 0 where
+    (old v : PartitionView K V I) (slot c started : ℕ) (s : Standing) (a : ℕ) : Type 0 where
   pub operation : Context K V I
   pub open_is : IsOpen op old v slot c started operation
   pub loading : Loading V
@@ -72,7 +72,7 @@ pub record IsFetching {K V I : Type 0} (keeps : Bool) (cmp : K → K → Orderin
 
 -- why the operation in a context has to wait
 pub data IsHeldUp {K V I O : Type 0} (cmp : K → K → Ordering) (join : V → V → V) (f : Meanings K V I O) (code : K → ℕ)
-    (v : CoreView K V I) (slot c : ℕ) (x : Context K V I) : Wait → Type 0 where
+    (v : PartitionView K V I) (slot c : ℕ) (x : Context K V I) : Wait → Type 0 where
   -- by what it meets it is to wait, as an update does over a fuzzy value, and nothing else
   fuzzy : Decides cmp join f code v slot c x decided.Wait → IsHeldUp cmp join f code v slot c x wait.Fuzzy
   -- by what it meets it is to append a record, and there is no room for one
@@ -90,7 +90,7 @@ pub data IsHeldUp {K V I O : Type 0} (cmp : K → K → Ordering) (join : V → 
 
 -- it cannot go on yet
 pub record IsWaiting {K V I O : Type 0} (cmp : K → K → Ordering) (join : V → V → V) (f : Meanings K V I O) (code : K → ℕ)
-    (op : KeyedOp K V I) (old v : CoreView K V I) (slot c started : ℕ) (why : Wait) : Type 0 where
+    (op : KeyedOp K V I) (old v : PartitionView K V I) (slot c started : ℕ) (why : Wait) : Type 0 where
   pub operation : Context K V I
   pub open_is : IsOpen op old v slot c started operation
   pub reason : IsHeldUp cmp join f code v slot c operation why
@@ -98,7 +98,7 @@ pub record IsWaiting {K V I O : Type 0} (cmp : K → K → Ordering) (join : V �
 -- it is done, and its context is free: on a device that keeps, the live map is what the operation makes of it, once,
 -- and the answer is the plain map's; its effect is after its issue
 pub record IsDone {K V I O : Type 0} (keeps : Bool) (cmp : K → K → Ordering) (f : Meanings K V I O) (op : KeyedOp K V I)
-    (old new : CoreView K V I) (slot c started : ℕ) (a : Answer O) (effect : ℕ) : Type 0 where
+    (old new : PartitionView K V I) (slot c started : ℕ) (a : Answer O) (effect : ℕ) : Type 0 where
   pub closed : context_at new slot c ≡ None
   pub live : IsTrue keeps → Same (live_of cmp new) (after cmp f (live_of cmp old) op)
   pub answers : IsTrue keeps → a ≡ answer f (live_of cmp old) op
@@ -109,7 +109,7 @@ pub record IsDone {K V I O : Type 0} (keeps : Bool) (cmp : K → K → Ordering)
 -- what it told last
 abbrev pub HasCome : {K V I O R : Type 0} → Bool → (R → Standing) → (K → K → Ordering) → (V → V → V)
     → Meanings K V I O → (K → ℕ)
-    → KeyedOp K V I → CoreView K V I → CoreView K V I → ℕ → ℕ → ℕ → Progress K V I O R → Type 0
+    → KeyedOp K V I → PartitionView K V I → PartitionView K V I → ℕ → ℕ → ℕ → Progress K V I O R → Type 0
 HasCome keeps stands cmp join f code op old v slot c started (Done a effect) =
     IsDone keeps cmp f op old v slot c started a effect
 HasCome keeps stands cmp join f code op old v slot c started Next = IsReady op old v slot c started

@@ -1,9 +1,9 @@
 //! An operation that is driven to its end.
 ghost use Rattle.std.specs.Prelude.{◌≡◌, ◌≢◌, ◌+◌, ◌-◌, ◌*◌, ◌^◌, ◌<◌, ◌≤◌, ◌⊎◌, ◌↔◌, ℕ, false, None, Some, Err, IsTrue, IfOk, IfErr, slice_get};
 ghost use Rattle.fkv_partition.specs.Beginning.{IsFirstFree};
-ghost use Rattle.fkv_partition.specs.CoreViews.{CoreView};
+ghost use Rattle.fkv_partition.specs.Views.{PartitionView};
 ghost use Rattle.fkv_partition.specs.Pending.{OthersPend, pending};
-ghost use Rattle.fkv_partition.specs.CoreContexts.{joined, relocating};
+ghost use Rattle.fkv_partition.specs.Contexts.{joined, relocating};
 ghost use Rattle.fkv_partition.specs.Events.{IsPassedOn};
 ghost use Rattle.fkv_operations.specs.declared.operations.KeyedOp.{KeyedOp};
 ghost use Rattle.fkv_alone.specs.Stages.{IsReady};
@@ -53,34 +53,34 @@ fn drive<F: Mergeable, R: Receipt, P: PageReader<Receipt = R>>(
     clock: &mut Clock,
     left: u64,
 ) -> Result<ProgressOf<F, R>, Refused>
-    requires past { partition.old.core.moment ≤ clock.old }
-    requires none { relocating (joined (slice_get partition.old.core.contexts (slot * 8 + context))) ≡ None }
-    ensures drives { (op : KeyedOp F.Key F.Value F.Input) (old : CoreView F.Key F.Value F.Input) (started : ℕ)
-        → IsReady op old partition.old.core slot context started
+    requires past { partition.old.moment ≤ clock.old }
+    requires none { relocating (joined (slice_get partition.old.contexts (slot * 8 + context))) ≡ None }
+    ensures drives { (op : KeyedOp F.Key F.Value F.Input) (old : PartitionView F.Key F.Value F.Input) (started : ℕ)
+        → IsReady op old partition.old slot context started
         → Drives R.keeps R.stands F.Key.cmp F.parts.joined F.meaning F.code
-        op old partition.new.core slot context started left
+        op old partition.new slot context started left
         clock.old clock.new (P.failures reader.old) (P.failures reader.new) result }
-    ensures others { IsTrue R.keeps → OthersPend F.Key.cmp partition.old.core partition.new.core slot context }
+    ensures others { IsTrue R.keeps → OthersPend F.Key.cmp partition.old partition.new slot context }
     ensures bound { (n : ℕ) → IsTrue R.keeps
-        → IsNear {O = F.Output} {R = R} F.code partition.old.core slot context Progress.Next n
+        → IsNear {O = F.Output} {R = R} F.code partition.old slot context Progress.Next n
         → clock.new ≤ clock.old + n }
-    ensures enough { (op : KeyedOp F.Key F.Value F.Input) (old : CoreView F.Key F.Value F.Input) (started n : ℕ)
-        → IsReady op old partition.old.core slot context started
+    ensures enough { (op : KeyedOp F.Key F.Value F.Input) (old : PartitionView F.Key F.Value F.Input) (started n : ℕ)
+        → IsReady op old partition.old slot context started
         → IsTrue R.keeps
-        → IsNear {O = F.Output} {R = R} F.code partition.old.core slot context Progress.Next n
+        → IsNear {O = F.Output} {R = R} F.code partition.old slot context Progress.Next n
         → n ≤ left → result ≢ Err Refused.Stalled }
     ensures within { clock.new ≤ clock.old + left }
-    ensures unread { (op : KeyedOp F.Key F.Value F.Input) (old : CoreView F.Key F.Value F.Input) (started : ℕ)
-        → IsReady op old partition.old.core slot context started
+    ensures unread { (op : KeyedOp F.Key F.Value F.Input) (old : PartitionView F.Key F.Value F.Input) (started : ℕ)
+        → IsReady op old partition.old slot context started
         → may_load op ≡ false → reader.new ≡ reader.old }
     ensures loads { IsTrue R.keeps
-        → (op : KeyedOp F.Key F.Value F.Input) (old : CoreView F.Key F.Value F.Input) (started n : ℕ)
-        → IsReady op old partition.old.core slot context started
-        → IsNear {O = F.Output} {R = R} F.code partition.old.core slot context Progress.Next n
+        → (op : KeyedOp F.Key F.Value F.Input) (old : PartitionView F.Key F.Value F.Input) (started n : ℕ)
+        → IsReady op old partition.old slot context started
+        → IsNear {O = F.Output} {R = R} F.code partition.old slot context Progress.Next n
         → P.reads reader.new ≤ P.reads reader.old + loads_of F.code old.records op }
     ensures caused { P.failures reader.new ≢ P.failures reader.old → CanFailToRead R.stands P.can_fail }
     ensures rest { IsPassedOn partition.old partition.new }
-    ensures past { partition.new.core.moment ≤ clock.new }
+    ensures past { partition.new.moment ≤ clock.new }
     ensures onward { clock.old ≤ clock.new }
 {
     let mut told = Progress::Next;
@@ -111,24 +111,24 @@ fn attempt<F: Mergeable, R: Receipt, P: PageReader<Receipt = R>>(
     clock: &mut Clock,
     limit: u64,
 ) -> Result<ProgressOf<F, R>, Refused>
-    requires past { partition.old.core.moment ≤ clock.old }
+    requires past { partition.old.moment ≤ clock.old }
     ensures ends { Ends R.keeps F.Key.cmp F.parts.joined F.meaning F.code op partition.old partition.new slot limit
         clock.old clock.new (P.failures reader.old) (P.failures reader.new) result }
     ensures others { IsTrue R.keeps → (s c : ℕ)
         → (s ≢ slot) ⊎ ¬ IsFirstFree partition.old slot (Some c)
-        → pending F.Key.cmp partition.new.core s c ≡ pending F.Key.cmp partition.old.core s c }
-    ensures bound { IsTrue R.keeps → NoneClaims partition.old.core
-        → clock.new ≤ clock.old + (4 + rest_of F.code partition.old.core.records op) }
-    ensures enough { IsTrue R.keeps → NoneClaims partition.old.core
-        → 4 + rest_of F.code partition.old.core.records op ≤ limit
+        → pending F.Key.cmp partition.new s c ≡ pending F.Key.cmp partition.old s c }
+    ensures bound { IsTrue R.keeps → NoneClaims partition.old
+        → clock.new ≤ clock.old + (4 + rest_of F.code partition.old.records op) }
+    ensures enough { IsTrue R.keeps → NoneClaims partition.old
+        → 4 + rest_of F.code partition.old.records op ≤ limit
         → result ≢ Err Refused.Stalled }
     ensures within { clock.new ≤ clock.old + limit }
     ensures unread { may_load op ≡ false → reader.new ≡ reader.old }
-    ensures loads { IsTrue R.keeps → NoneClaims partition.old.core
-        → P.reads reader.new ≤ P.reads reader.old + loads_of F.code partition.old.core.records op }
+    ensures loads { IsTrue R.keeps → NoneClaims partition.old
+        → P.reads reader.new ≤ P.reads reader.old + loads_of F.code partition.old.records op }
     ensures caused { P.failures reader.new ≢ P.failures reader.old → CanFailToRead R.stands P.can_fail }
     ensures rest { IsPassedOn partition.old partition.new }
-    ensures past { partition.new.core.moment ≤ clock.new }
+    ensures past { partition.new.moment ≤ clock.new }
     ensures onward { clock.old ≤ clock.new }
 {
     // that a hash has 64 bits is known of one in hand
@@ -181,7 +181,7 @@ pub fn run_alone<F: Mergeable, R: Receipt, P: PageReader<Receipt = R>>(
     clock: &mut Clock,
     limit: u64,
 ) -> AloneOf<F, R>
-    requires past { partition.old.core.moment ≤ clock.old }
+    requires past { partition.old.moment ≤ clock.old }
     ensures ends { Ends R.keeps F.Key.cmp F.parts.joined F.meaning F.code op partition.old partition.new slot limit
         clock.old clock.new (P.failures reader.old) (P.failures reader.new) result.progress }
     ensures events { clock.new ≡ clock.old + result.events }
@@ -189,23 +189,23 @@ pub fn run_alone<F: Mergeable, R: Receipt, P: PageReader<Receipt = R>>(
     // on a device that keeps, what the look-ups of all other contexts are to find stays
     ensures others { IsTrue R.keeps → (s c : ℕ)
         → (s ≢ slot) ⊎ ¬ IsFirstFree partition.old slot (Some c)
-        → pending F.Key.cmp partition.new.core s c ≡ pending F.Key.cmp partition.old.core s c }
+        → pending F.Key.cmp partition.new s c ≡ pending F.Key.cmp partition.old s c }
     // the issue, a claim, its confirmation and a look-up; and, of a read or an update, a load for each record of the class below
     // Head, and the install
-    ensures bound { IsTrue R.keeps → NoneClaims partition.old.core
-        → result.events ≤ 4 + rest_of F.code partition.old.core.records op }
-    ensures enough { IsTrue R.keeps → NoneClaims partition.old.core
-        → 4 + rest_of F.code partition.old.core.records op ≤ limit
+    ensures bound { IsTrue R.keeps → NoneClaims partition.old
+        → result.events ≤ 4 + rest_of F.code partition.old.records op }
+    ensures enough { IsTrue R.keeps → NoneClaims partition.old
+        → 4 + rest_of F.code partition.old.records op ≤ limit
         → result.progress ≢ Err Refused.Stalled }
     // an upsert, a delete and a merge read no page; a read or an update reads one at most for each record of the class below Head
     ensures unread { may_load op ≡ false → reader.new ≡ reader.old }
-    ensures loads { IsTrue R.keeps → NoneClaims partition.old.core
-        → P.reads reader.new ≤ P.reads reader.old + loads_of F.code partition.old.core.records op }
+    ensures loads { IsTrue R.keeps → NoneClaims partition.old
+        → P.reads reader.new ≤ P.reads reader.old + loads_of F.code partition.old.records op }
     // the reader fails only where a read can
     ensures caused { P.failures reader.new ≢ P.failures reader.old → CanFailToRead R.stands P.can_fail }
     // relocations stay, and what is cleared
     ensures rest { IsPassedOn partition.old partition.new }
-    ensures past { partition.new.core.moment ≤ clock.new }
+    ensures past { partition.new.moment ≤ clock.new }
 {
     let started = clock.last();
     let progress = attempt(partition, slot, op, functions, reader, clock, limit);

@@ -2,9 +2,9 @@
 ghost use Rattle.std.specs.Prelude.{◌≡◌, ◌≢◌, ◌+◌, ◌*◌, ◌<◌, ◌≤◌, ℕ, false, None, IsTrue, IfOk, slice_get};
 ghost use Rattle.fkv_operations.specs.After.{key_of};
 ghost use Rattle.fkv_operations.specs.declared.operations.KeyedOp.{KeyedOp};
-ghost use Rattle.fkv_partition.specs.CoreViews.{CoreView};
+ghost use Rattle.fkv_partition.specs.Views.{PartitionView};
 ghost use Rattle.fkv_partition.specs.Pending.{OthersPend};
-ghost use Rattle.fkv_partition.specs.CoreContexts.{joined, relocating};
+ghost use Rattle.fkv_partition.specs.Contexts.{joined, relocating};
 ghost use Rattle.fkv_partition.specs.Events.{IsPassedOn};
 ghost use Rattle.fkv_alone.specs.Stages.{HasCome};
 ghost use Rattle.fkv_alone.specs.Ending.{Advances, IsOn};
@@ -26,34 +26,34 @@ pub(crate) fn step<F: Mergeable, R: Receipt, P: PageReader<Receipt = R>>(
     reader: &mut P,
     now: u64,
 ) -> Result<ProgressOf<F, R>, Refused>
-    requires later { partition.old.core.moment < now }
-    requires none { relocating (joined (slice_get partition.old.core.contexts (slot * 8 + context))) ≡ None }
+    requires later { partition.old.moment < now }
+    requires none { relocating (joined (slice_get partition.old.contexts (slot * 8 + context))) ≡ None }
     requires on { IsOn told }
-    ensures advances { (op : KeyedOp F.Key F.Value F.Input) (old : CoreView F.Key F.Value F.Input) (started : ℕ)
+    ensures advances { (op : KeyedOp F.Key F.Value F.Input) (old : PartitionView F.Key F.Value F.Input) (started : ℕ)
         → HasCome R.keeps R.stands F.Key.cmp F.parts.joined F.meaning F.code op old
-        partition.old.core slot context started told
+        partition.old slot context started told
         → Advances R.keeps R.stands F.Key.cmp F.parts.joined F.meaning F.code op old
-        partition.old.core partition.new.core slot context
+        partition.old partition.new slot context
         started (P.failures reader.old) (P.failures reader.new) result }
-    ensures others { IsTrue R.keeps → OthersPend F.Key.cmp partition.old.core partition.new.core slot context }
+    ensures others { IsTrue R.keeps → OthersPend F.Key.cmp partition.old partition.new slot context }
     // on a device that keeps, where nobody is in its way, the operation comes nearer to its end
     ensures nearer { (n : ℕ) → IsTrue R.keeps
-        → IsNear F.code partition.old.core slot context told n
-        → IfOk result (λ progress. IsOn progress → IsNearer F.code partition.new.core slot context progress n) }
+        → IsNear F.code partition.old slot context told n
+        → IfOk result (λ progress. IsOn progress → IsNearer F.code partition.new slot context progress n) }
     // an upsert, a delete and a merge read no page
-    ensures unread { (op : KeyedOp F.Key F.Value F.Input) (old : CoreView F.Key F.Value F.Input) (started : ℕ)
+    ensures unread { (op : KeyedOp F.Key F.Value F.Input) (old : PartitionView F.Key F.Value F.Input) (started : ℕ)
         → HasCome R.keeps R.stands F.Key.cmp F.parts.joined F.meaning F.code op old
-        partition.old.core slot context started told
+        partition.old slot context started told
         → may_load op ≡ false → reader.new ≡ reader.old }
     // a page is read where one was asked for, and there is a record for it
     ensures once { P.reads reader.new ≤ P.reads reader.old + loads_now told }
-    ensures wanted { IsTrue R.keeps → (op : KeyedOp F.Key F.Value F.Input) (old : CoreView F.Key F.Value F.Input) (started : ℕ)
+    ensures wanted { IsTrue R.keeps → (op : KeyedOp F.Key F.Value F.Input) (old : PartitionView F.Key F.Value F.Input) (started : ℕ)
         → HasCome R.keeps R.stands F.Key.cmp F.parts.joined F.meaning F.code op old
-        partition.old.core slot context started told
+        partition.old slot context started told
         → loads_now told ≤ loads_left F.code old.records op told }
     ensures caused { P.failures reader.new ≢ P.failures reader.old → CanFailToRead R.stands P.can_fail }
     ensures rest { IsPassedOn partition.old partition.new }
-    ensures past { partition.new.core.moment ≤ now }
+    ensures past { partition.new.moment ≤ now }
 {
     partition.known();
     match told {

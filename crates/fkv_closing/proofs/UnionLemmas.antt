@@ -3,9 +3,8 @@ use Rattle.std.proofs.Common.{◌≡◌, false, cond, ℕ, List, [], ◌∷◌, 
 use Rattle.std.proofs.lemmas.Bool.Decides.{nat_tests}
 use Rattle.std.specs.declared.cmp.Ordering.{Ordering}
 use Rattle.fkv_functions.specs.Plain.{PlainMap, Same}
-use Rattle.fkv_partition.specs.CoreViews.{partition_of}
+use Rattle.fkv_partition.specs.Views.{partition_of, PartitionView}
 use Rattle.fkv_partition.specs.Unions.{union_of}
-use Rattle.fkv_partition.specs.Views.{PartitionView}
 use Rattle.fkv_partition.proofs.UnionLemmas as unions
 
 module _ {K V I : Type 0} (cmp : K → K → Ordering) (code : K → ℕ) where

@@ -4,8 +4,7 @@ use Rattle.std.specs.List.{All}
 use Rattle.std.specs.declared.cmp.Ordering.{Ordering}
 use Rattle.fkv_functions.specs.Meanings.{Meanings}
 use Rattle.fkv_functions.specs.Plain.{PlainMap, Same}
-use Rattle.fkv_partition.specs.CoreViews.{partition_of}
-use Rattle.fkv_partition.specs.Views.{PartitionView}
+use Rattle.fkv_partition.specs.Views.{partition_of, PartitionView}
 use Rattle.fkv_histories.specs.declared.entries.Entry.{Entry}
 use Rattle.fkv_histories.specs.Histories.{updates, map_of, IsLegal}
 use Rattle.fkv_histories.specs.Merges.{IsMerge, IsShuffle}
@@ -13,8 +12,8 @@ use Rattle.fkv_closing.specs.Lists.{lists_of}
 
 -- each partition stands in its place: it has that number, and says that there are as many as there are
 pub record AreNumbered {K V I : Type 0} (views : List (PartitionView K V I)) : Type 0 where
-  pub numbered : (p : ℕ) (v : PartitionView K V I) → slice_get views p ≡ Some v → v.core.number ≡ p
-  pub counted : (p : ℕ) (v : PartitionView K V I) → slice_get views p ≡ Some v → v.core.count ≡ length views
+  pub numbered : (p : ℕ) (v : PartitionView K V I) → slice_get views p ≡ Some v → v.number ≡ p
+  pub counted : (p : ℕ) (v : PartitionView K V I) → slice_get views p ≡ Some v → v.count ≡ length views
 
 module _ {K V I O : Type 0} where
   -- each history is a merge of the own lists of its partition, and one in which each list stands in its order

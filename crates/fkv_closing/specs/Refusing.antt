@@ -24,8 +24,8 @@ module _ {K V I : Type 0} where
     pub here : slice_get views partition ≡ Some view
     pub failures : ℕ
     pub counts : new ≡ slice_set old partition failures
-    pub scan : IsScanRefusal keeps (page_at view.core.records.log.bits view.core.records.log.begin)
-        (length view.core.records.log.receipts) (slice_index old partition) failures why
+    pub scan : IsScanRefusal keeps (page_at view.records.log.bits view.records.log.begin)
+        (length view.records.log.receipts) (slice_index old partition) failures why
 
   -- a read of some page of some partition may fail
   pub record MayFailIn {R : Type 0} (stands : R → Standing) (can_fail : R → ℕ → Type 0) (views : List (PartitionView K V I))
@@ -34,7 +34,7 @@ module _ {K V I : Type 0} where
     pub view : PartitionView K V I
     pub here : slice_get views partition ≡ Some view
     pub page : ℕ
-    pub fails : MayFail stands can_fail view.core.records.log.receipts view.core.records.log.bits page
+    pub fails : MayFail stands can_fail view.records.log.receipts view.records.log.bits page
 
 module _ {K V I O : Type 0} where
   -- the shares add up to something else than the books, a partition does not stand in its place, or a history is no merge of

@@ -3,3 +3,4 @@ pub mod TellingLemmas
 pub mod WholeLemmas
 pub mod MakingLemmas
 pub mod OpeningLemmas
+pub mod SpillingLemmas

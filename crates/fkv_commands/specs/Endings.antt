@@ -1,10 +1,12 @@
 -- What a run leaves on its output, by what was read.
-use Rattle.std.specs.Prelude.{◌≡◌, ◌≢◌, ◌⊎◌, true, List, [], ◌∷◌, map, length, ℕ, ℤ, Option, None, Some, IfSome, codes, option_map, string_bytes}
+use Rattle.std.specs.Prelude.{◌≡◌, ◌≢◌, ◌⊎◌, ⊤, true, List, [], ◌∷◌, map, length, ℕ, ℤ, Option, None, Some, IfSome, codes, option_map, string_bytes}
 use Rattle.std.specs.Fmt.{decimal, signed_decimal}
 use Rattle.fkv_device.specs.Known.{Pages, HasCollision}
 use Rattle.fkv_functions.specs.Meanings.{Meanings}
 use Rattle.fkv_functions.specs.Sets.{counts, sums, maxima}
 use Rattle.fkv_functions.specs.declared.names.Name.{Name}
+use Rattle.fkv_functions.specs.declared.refusals.Refused.{Refused}
+use Rattle.fkv_functions.specs.declared.refusals.Refused.TheVariants.{NoMemory, Worn, Device, Damaged, Unwritable}
 use Rattle.fkv_requests.specs.declared.requests.Shown.{Shown}
 use Rattle.fkv_requests.specs.declared.requests.Shown.TheVariants.{Count, Sum, Max, Summary}
 use Rattle.fkv_requests.specs.declared.requests.TableRequest.{TableRequest}
@@ -64,6 +66,18 @@ PrintsTablePart pages table feeds old new =
     (text : List ℕ)
     × IsTableText table.shown pages table feeds text
     × AppendsPrefix old new text
+
+-- A refusal that may come once a part of a table was written: the output failed; or, of a table that is spilled, a page of it was not
+-- read back, or memory for that was refused, or there were more rows than a number of 64 bits counts.
+abbrev pub IsOfPages : Refused → Type 0
+IsOfPages NoMemory = ⊤
+IsOfPages Worn = ⊤
+IsOfPages (Device code page) = code ≡ 3
+IsOfPages (Damaged page) = ⊤
+IsOfPages other = ⊥
+
+abbrev pub MayBeLate : TableRequest → Refused → Type 0
+MayBeLate table e = (e ≡ Unwritable) ⊎ ((table.spill ≡ true) × IsOfPages e)
 
 -- the feeds of a request
 abbrev pub feeds_by : (List ℕ → Option (List ℕ)) → TableRequest → Option (List ℕ) → List (Option (List ℕ))

@@ -1,5 +1,5 @@
 -- How the run is made that a request asks for.
-use Rattle.std.specs.Prelude.{◌≡◌, ◌↔◌, ℕ, List, Option, [], ◌∷◌, map, max, true, string_bytes}
+use Rattle.std.specs.Prelude.{◌≡◌, ◌≤◌, ◌↔◌, ℕ, List, Option, [], ◌∷◌, map, max, true, false, string_bytes}
 use Rattle.fkv_feeds.specs.declared.counting.Plan.{Plan}
 use Rattle.fkv_feeds.specs.declared.modes.RowMode.TheVariants.{Merge}
 use Rattle.fkv_requests.specs.declared.requests.TableRequest.{TableRequest}
@@ -25,3 +25,7 @@ IsPlanOf table plan = IsPlanBy table (readers (map string_bytes table.paths.item
 abbrev pub feeds_of : (List ℕ → Option (List ℕ)) → List Text → Option (List ℕ) → List (Option (List ℕ))
 feeds_of bytes [] input = input ∷ []
 feeds_of bytes (path ∷ paths) input = map bytes (path ∷ paths)
+
+-- a table that is spilled is made by one worker, which keeps no histories
+abbrev pub IsAlone : TableRequest → Type 0
+IsAlone table = table.spill ≡ true → (table.workers ≤ 1) × (table.audit ≡ false)

@@ -17,6 +17,7 @@ pub mod opening;
 mod probing;
 pub mod reporting;
 pub mod running;
+mod spilling;
 pub mod starting;
 mod tabulating;
 mod telling;

@@ -1,11 +1,12 @@
 //! Making tables over a device, by one worker or by several.
 ghost use Rattle.std.specs.Prelude.{◌≡◌, ◌≢◌, ◌⊎◌, ◌↔◌, ◌∷◌, ◌<◌, [], true, map, max, string_bytes, IfOk, IfErr, IsTrue, OnOk};
+ghost use Rattle.fkv_feeds.specs.Spilling.{HasTableOf};
 ghost use Rattle.fkv_feeds.specs.Tables.{IsTableOf};
 ghost use Rattle.fkv_commands.specs.Plans.{IsPlanBy};
 
 use crate::opening::{Feed, FeedOf, Opener, all_opened, read_whole};
 use fkv_device::Disk;
-use fkv_feeds::{RowMode, Run, run_alone_by, run_one_by};
+use fkv_feeds::{RowMode, Run, SpilledRun, run_alone_by, run_one_by, spill_alone_by, spill_one_by};
 use fkv_functions::{Mergeable, Name, OrderFree, Refused};
 use fkv_histories::{Audited, Plain, Recorder};
 use fkv_meters::Progress;
@@ -156,4 +157,53 @@ where
     let config = &table.config;
     let mode = mode_of(table);
     run_one_by(alloc, feeds.as_mut_slice(), functions, config, device, mode)
+}
+
+/// A run by one worker over a reader's bytes, whose table stands on the device.
+pub(crate) fn spilled_of_input<
+    R: Source,
+    F: Mergeable + OrderFree<Key = Name, Input = i64>,
+    D: Disk,
+>(
+    alloc: Global,
+    table: &TableRequest,
+    functions: F,
+    reader: &mut R,
+    device: D,
+) -> Result<SpilledRun<F::Value, D::Receipt, D::Reader>, Refused>
+    ensures ok { IsTrue D.Receipt.keeps → IfOk result
+        (HasTableOf F.Value.codec D.Receipt.keeps D.Receipt.stands F.meaning (R.remaining reader.old ∷ [])) }
+    ensures ran { IfOk result (λ run. IsPlanBy table.now 1 run.plan) }
+    ensures steady { OnOk result (R.failures reader.new ≡ R.failures reader.old) }
+    ensures only { IfErr result (λ e. e ≢ Refused.Unwritable) }
+{
+    let mode = mode_of(table);
+    spill_alone_by(alloc, reader, functions, &table.config, device, mode)
+}
+
+/// A run by one worker over the feeds that are named, all of which are opened, in order, before a row is read. Its table stands on the
+/// device.
+pub(crate) fn spilled_of_feeds<
+    F: Mergeable + OrderFree<Key = Name, Input = i64>,
+    D: Disk,
+    O: Opener,
+>(
+    alloc: Global,
+    table: &TableRequest,
+    functions: F,
+    device: D,
+    opener: &O,
+) -> Result<SpilledRun<F::Value, D::Receipt, D::Reader>, Refused>
+    ensures ok { IsTrue D.Receipt.keeps → IfOk result (HasTableOf F.Value.codec D.Receipt.keeps D.Receipt.stands F.meaning
+        (map (λ path. O.bytes opener.now (string_bytes path)) table.now.paths.items)) }
+    ensures ran { IfOk result (λ run. IsPlanBy table.now 1 run.plan) }
+    ensures only { IfErr result (λ e. e ≢ Refused.Unwritable) }
+{
+    let mut feeds = match all_opened(alloc, opener, table.paths.as_slice()) {
+        Ok(feeds) => feeds,
+        Err(refused) => return Err(refused),
+    };
+    let config = &table.config;
+    let mode = mode_of(table);
+    spill_one_by(alloc, feeds.as_mut_slice(), functions, config, device, mode)
 }

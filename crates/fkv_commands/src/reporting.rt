@@ -5,7 +5,7 @@ ghost use Rattle.fkv_streams.specs.Streams.{AppendsPrefix};
 ghost use Rattle.fkv_commands.specs.Reports.{IsTold, appended_text, fact, seconds_text};
 
 use crate::advising::add_advice;
-use fkv_feeds::{Counts, Plan, Run};
+use fkv_feeds::{Counts, Plan, Run, SpilledRun};
 use fkv_functions::Refused;
 use fkv_meters::Seen;
 use fkv_requests::Shown;
@@ -27,6 +27,27 @@ pub struct Report {
     pub seen: Seen,
     /// The milliseconds from its beginning to the table's end, where the clock tells them.
     pub millis: Option<u64>,
+}
+
+/// How much a run did whose table stands on its device, and how.
+#[derive(Clone, Copy, Debug, PartialEq, Eq)]
+pub(crate) struct Ran {
+    keys: usize,
+    counts: Counts,
+    plan: Plan,
+}
+
+impl Ran {
+    /// That of this run.
+    pub(crate) fn of<V, R, P>(run: &SpilledRun<V, R, P>) -> Ran
+        ensures { result ≡ record { keys = run.now.keys; counts = run.now.counts; plan = run.now.plan } }
+    {
+        Ran {
+            keys: run.keys,
+            counts: run.counts,
+            plan: run.plan,
+        }
+    }
 }
 
 /// The milliseconds between two moments of a clock; `None` where it failed, or went back.
@@ -73,6 +94,27 @@ impl Report {
             keys: run.table.len(),
             counts: run.counts,
             plan: run.plan,
+            seen,
+            millis: millis_between(begun, ended),
+        }
+    }
+
+    /// What a run did between these two moments whose table was written from its device.
+    pub(crate) fn of_spilled(
+        ran: Ran,
+        seen: Seen,
+        begun: io::Result<Duration>,
+        ended: io::Result<Duration>,
+    ) -> Report
+        ensures keys { result.keys ≡ ran.keys }
+        ensures counts { result.counts ≡ ran.counts }
+        ensures plan { result.plan ≡ ran.plan }
+        ensures seen { result.seen ≡ seen }
+    {
+        Report {
+            keys: ran.keys,
+            counts: ran.counts,
+            plan: ran.plan,
             seen,
             millis: millis_between(begun, ended),
         }

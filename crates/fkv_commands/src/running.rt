@@ -60,9 +60,9 @@ impl Ended {
 /// done, whatever its lines were refused. `count`, `sum`, `max` and `summary` write the table of the feeds that they name,
 /// or of the reader, status 0; where a report is asked for it goes to `faults` afterwards, and where progress is, `hook` tells it
 /// on the way. Status 1: it was refused; `fkv_cli: ` and why stand on `faults`, of a table with what [`tell_with_cause`] finds behind it,
-/// and nothing was written, or where the writer failed the front of the output. `--help` writes help, and `--version`
-/// the program's name and version, status 0. Words that ask for nothing that the program does: clap's text on `faults`,
-/// status 2.
+/// and nothing was written, or the front of the output: where the writer failed, or a page of a table that is spilled was not read
+/// back. `--help` writes help, and `--version` the program's name and version, status 0. Words that ask for nothing that the
+/// program does: the mistake's text on `faults`, status 2.
 pub fn run<
     R: Source,
     W: Sink,

@@ -1,17 +1,18 @@
 //! Making tables of feeds, and writing them.
-ghost use Rattle.std.specs.Prelude.{◌≡◌, ◌≢◌, ◌⊎◌, ◌||◌, ◌^◌, ◌<◌, List, Err, None, true, length, option_map, string_bytes, if◌then◌else◌, IfOk, IfErr, IfSome, IsTrue, OnOk};
+ghost use Rattle.std.specs.Prelude.{◌≡◌, ◌≢◌, ◌≤◌, ◌⊎◌, ◌||◌, ◌^◌, ◌<◌, List, Err, None, true, length, option_map, string_bytes, if◌then◌else◌, IfOk, IfErr, IfSome, IsTrue, OnErr, OnOk};
 ghost use Rattle.std.specs.Io.KnownBytes.{Appends};
 ghost use Rattle.fkv_functions.specs.declared.names.Name.{Name};
 ghost use Rattle.fkv_either.specs.Either.{is_absent};
 ghost use Rattle.fkv_streams.specs.Streams.{AppendsPrefix};
 ghost use Rattle.fkv_feeds.specs.Tables.{IsTableOf};
 ghost use Rattle.fkv_feeds.specs.Writing.{fields_of, table_text};
-ghost use Rattle.fkv_commands.specs.Endings.{IsKnown, IsSpoilt, PrintsTable, PrintsTablePart, feeds_by};
-ghost use Rattle.fkv_commands.specs.Plans.{IsPlanOf};
+ghost use Rattle.fkv_commands.specs.Endings.{IsKnown, IsOfPages, IsSpoilt, MayBeLate, PrintsTable, PrintsTablePart, feeds_by};
+ghost use Rattle.fkv_commands.specs.Plans.{IsAlone, IsPlanOf};
 
 use crate::making::{made_of_feeds, made_of_input};
 use crate::opening::Opener;
 use crate::reporting::Report;
+use crate::spilling::spill_on;
 use fkv_device::{Disk, FileDevice, PageFile};
 use fkv_either::{EitherDevice, Keeping};
 use fkv_feeds::{Run, write_table};
@@ -164,6 +165,70 @@ where
     }
 }
 
+/// Makes a table by these functions on the device, which is the folder that is named, and writes it from there. Answers what the run
+/// did.
+fn spill_by<
+    R: Source,
+    W: Sink,
+    F: Mergeable + OrderFree<Key = Name, Input = i64>,
+    H: Files + Clock,
+    P: Progress,
+    O: Opener,
+>(
+    rt: &H,
+    alloc: Global,
+    table: &TableRequest,
+    functions: F,
+    reader: &mut R,
+    writer: &mut W,
+    hook: &P,
+    opener: &O,
+) -> Result<Report, Refused>
+where
+    F::Value: fkv_feeds::Shown,
+    H::File: PageFile,
+    requires alone { table.now.workers ≤ 1 }
+    ensures ok { OnOk result ((pairs : List (Name × F.Value))
+        × (IsKnown table.now
+        → IsTableOf F.meaning (feeds_by (λ path. O.bytes opener.now path) table.now (R.remaining reader.old)) pairs
+        ⊎ IsSpoilt H.File.pages table.now)
+        × Appends (W.contents writer.old) (W.contents writer.new)
+        (table_text (fields_of F.Value.FIELDS F.Value.field_at) pairs)) }
+    ensures ran { IfOk result (λ report. IsPlanOf table.now report.plan) }
+    ensures unwritable { result ≡ Err Refused.Unwritable → (pairs : List (Name × F.Value))
+        × (IsKnown table.now
+        → IsTableOf F.meaning (feeds_by (λ path. O.bytes opener.now path) table.now (R.remaining reader.old)) pairs
+        ⊎ IsSpoilt H.File.pages table.now)
+        × AppendsPrefix (W.contents writer.old) (W.contents writer.new)
+        (table_text (fields_of F.Value.FIELDS F.Value.field_at) pairs) }
+    ensures nothing { IfErr result (λ e. (e ≡ Refused.Unwritable) ⊎ IsOfPages e ⊎ (W.contents writer.new ≡ W.contents writer.old)) }
+    ensures front { OnErr result ((W.contents writer.new ≡ W.contents writer.old) ⊎ ((pairs : List (Name × F.Value))
+        × (IsKnown table.now
+        → IsTableOf F.meaning (feeds_by (λ path. O.bytes opener.now path) table.now (R.remaining reader.old)) pairs
+        ⊎ IsSpoilt H.File.pages table.now)
+        × AppendsPrefix (W.contents writer.old) (W.contents writer.new)
+        (table_text (fields_of F.Value.FIELDS F.Value.field_at) pairs))) }
+    ensures out { OnOk result (W.is_out writer.new ≡ true) }
+    ensures steady { OnOk result ((R.failures reader.new ≡ R.failures reader.old)
+        × (W.failures writer.new ≡ W.failures writer.old)) }
+{
+    let meters = Meters::new();
+    let begun = rt.monotonic();
+    let folder = match folder_of(rt, alloc, table) {
+        Ok(folder) => folder,
+        Err(refused) => {
+            hook.end();
+            return Err(refused);
+        }
+    };
+    match spill_on::<R, W, F, _, P, O, Brand>(
+        alloc, table, functions, reader, writer, folder, &meters, hook, opener,
+    ) {
+        Ok(ran) => Ok(Report::of_spilled(ran, meters.seen(), begun, rt.monotonic())),
+        Err(refused) => Err(refused),
+    }
+}
+
 /// Makes a table by these functions, and writes it. Answers what the run did.
 fn tabulate_by<
     R: Source,
@@ -188,6 +253,7 @@ where
     H::File: PageFile + Send,
     H::Dir: Send,
     O::Feed: Send,
+    requires alone { IsAlone table.now }
     ensures ok { OnOk result ((pairs : List (Name × F.Value))
         × (IsKnown table.now
         → IsTableOf F.meaning (feeds_by (λ path. O.bytes opener.now path) table.now (R.remaining reader.old)) pairs
@@ -201,11 +267,22 @@ where
         ⊎ IsSpoilt H.File.pages table.now)
         × AppendsPrefix (W.contents writer.old) (W.contents writer.new)
         (table_text (fields_of F.Value.FIELDS F.Value.field_at) pairs) }
-    ensures nothing { IfErr result (λ e. e ≢ Refused.Unwritable → W.contents writer.new ≡ W.contents writer.old) }
+    ensures nothing { IfErr result (λ e. MayBeLate table.now e ⊎ (W.contents writer.new ≡ W.contents writer.old)) }
+    ensures spilled { table.now.spill ≡ true → OnErr result ((W.contents writer.new ≡ W.contents writer.old) ⊎ ((pairs : List (Name × F.Value))
+        × (IsKnown table.now
+        → IsTableOf F.meaning (feeds_by (λ path. O.bytes opener.now path) table.now (R.remaining reader.old)) pairs
+        ⊎ IsSpoilt H.File.pages table.now)
+        × AppendsPrefix (W.contents writer.old) (W.contents writer.new)
+        (table_text (fields_of F.Value.FIELDS F.Value.field_at) pairs))) }
     ensures out { OnOk result (W.is_out writer.new ≡ true) }
     ensures steady { OnOk result ((R.failures reader.new ≡ R.failures reader.old)
         × (W.failures writer.new ≡ W.failures writer.old)) }
 {
+    if table.spill {
+        return spill_by::<R, W, F, H, P, O>(
+            rt, alloc, table, functions, reader, writer, hook, opener,
+        );
+    }
     let meters = Meters::new();
     let begun = rt.monotonic();
     let made = run_of::<R, F, H, P, O>(rt, alloc, table, functions, reader, &meters, opener);
@@ -241,13 +318,18 @@ where
     H::File: PageFile + Send,
     H::Dir: Send,
     O::Feed: Send,
+    requires alone { IsAlone table.now }
     ensures ok { OnOk result (PrintsTable H.File.pages table.now
         (feeds_by (λ path. O.bytes opener.now path) table.now (R.remaining reader.old)) (W.contents writer.old) (W.contents writer.new)) }
     ensures ran { IfOk result (λ report. IsPlanOf table.now report.plan) }
     ensures unwritable { result ≡ Err Refused.Unwritable → PrintsTablePart H.File.pages table.now
         (feeds_by (λ path. O.bytes opener.now path) table.now (R.remaining reader.old)) (W.contents writer.old)
         (W.contents writer.new) }
-    ensures nothing { IfErr result (λ e. e ≢ Refused.Unwritable → W.contents writer.new ≡ W.contents writer.old) }
+    ensures nothing { IfErr result (λ e. MayBeLate table.now e ⊎ (W.contents writer.new ≡ W.contents writer.old)) }
+    ensures spilled { table.now.spill ≡ true → OnErr result ((W.contents writer.new ≡ W.contents writer.old)
+        ⊎ PrintsTablePart H.File.pages table.now
+        (feeds_by (λ path. O.bytes opener.now path) table.now (R.remaining reader.old)) (W.contents writer.old)
+        (W.contents writer.new)) }
     ensures out { OnOk result (W.is_out writer.new ≡ true) }
     ensures steady { OnOk result ((R.failures reader.new ≡ R.failures reader.old)
         × (W.failures writer.new ≡ W.failures writer.old)) }

@@ -9,17 +9,16 @@ use Rattle.fkv_texts.specs.Text.{live}
 use Rattle.fkv_operations.specs.Operations.{keyed}
 use Rattle.fkv_operations.specs.declared.operations.KeyedOp.{KeyedOp}
 use Rattle.fkv_operations.specs.declared.operations.Op.TheVariants.{Relocate}
-use Rattle.fkv_partition.specs.CoreContexts.{is_session, joined, on_key, relocating}
+use Rattle.fkv_partition.specs.Contexts.{is_session, joined, on_key, relocating}
 use Rattle.fkv_partition.specs.declared.contexts.OpenWork.{OpenWork}
 use Rattle.fkv_partition.specs.declared.contexts.OpenWork.TheVariants.{OnKey, Relocating}
-use Rattle.fkv_partition.specs.CoreEffect as key_effect
-use Rattle.fkv_partition.specs.CoreViews.{CoreView, slots_of, live_of}
+use Rattle.fkv_partition.specs.KeyEffect as key_effect
+use Rattle.fkv_partition.specs.Views.{PartitionView, slots_of, live_of, relocation_at, with_relocation}
 use Rattle.fkv_partition.specs.declared.relocations.Relocation.{Relocation}
 use Rattle.fkv_partition.specs.Beginning.{Drops, IsFirstOpen}
 use Rattle.fkv_partition.specs.Effect.{Asked, asked, asked_of, IsQuiet}
 use Rattle.fkv_partition.specs.Events.{GivesUp}
 use Rattle.fkv_partition.specs.Relocating.{IsRelocating}
-use Rattle.fkv_partition.specs.Views.{PartitionView, relocation_at, with_relocation}
 use Rattle.fkv_compaction.specs.Compactor.{IsParted, IsWithoutThem}
 use Rattle.fkv_partition.proofs.EffectLemmas.{set-here}
 use Rattle.fkv_partition.proofs.MoveLemmas.{event-set}
@@ -54,17 +53,17 @@ keyless-of None h = absurd (cc)
 keyless-of (Some (OnKey x)) h = absurd (cc)
 keyless-of (Some (Relocating x)) h = refl
 
-keyless-here : {K V I : Type 0} (v : PartitionView K V I) (slot c : ℕ) → is_some (relocation_at v slot c) ≡ true → on_key (joined (slice_get v.core.contexts (slot * 8 + c))) ≡ None
-keyless-here v slot c some = by_test (is_session (slots_of v.core) slot && nat_lt c 8) some
+keyless-here : {K V I : Type 0} (v : PartitionView K V I) (slot c : ℕ) → is_some (relocation_at v slot c) ≡ true → on_key (joined (slice_get v.contexts (slot * 8 + c))) ≡ None
+keyless-here v slot c some = by_test (is_session (slots_of v) slot && nat_lt c 8) some
   where
-    by_test : (b : Bool) → is_some (relocating (cond b (joined (slice_get v.core.contexts (slot * 8 + c))) None)) ≡ true → on_key (joined (slice_get v.core.contexts (slot * 8 + c))) ≡ None
-    by_test true h = keyless-of (joined (slice_get v.core.contexts (slot * 8 + c))) h
+    by_test : (b : Bool) → is_some (relocating (cond b (joined (slice_get v.contexts (slot * 8 + c))) None)) ≡ true → on_key (joined (slice_get v.contexts (slot * 8 + c))) ≡ None
+    by_test true h = keyless-of (joined (slice_get v.contexts (slot * 8 + c))) h
     by_test false h = absurd (cc)
 
 low-here : {K V I : Type 0} (v : PartitionView K V I) (slot c : ℕ) → is_some (relocation_at v slot c) ≡ true → c < 8
-low-here v slot c some = by_test (is_session (slots_of v.core) slot) (nat_lt c 8) refl some
+low-here v slot c some = by_test (is_session (slots_of v) slot) (nat_lt c 8) refl some
   where
-    by_test : (a b : Bool) → nat_lt c 8 ≡ b → is_some (relocating (cond (a && b) (joined (slice_get v.core.contexts (slot * 8 + c))) None)) ≡ true → c < 8
+    by_test : (a b : Bool) → nat_lt c 8 ≡ b → is_some (relocating (cond (a && b) (joined (slice_get v.contexts (slot * 8 + c))) None)) ≡ true → c < 8
     by_test true true t h = grind (arith, nat_tests)
     by_test true false t h = absurd (cc)
     by_test false b t h = absurd (cc)
@@ -79,10 +78,10 @@ module _ {K V I : Type 0} (cmp : K → K → Ordering) (v : PartitionView K V I)
 
   -- and what other sessions ask
   pub asked-other : (s d : ℕ) → s ≢ slot → asked (with_relocation v slot c None now) s d ≡ asked v s d
-  asked-other s d other = ap (λ a. asked_of a (relocation_at (with_relocation v slot c None now) s d)) (gone.same s d) ∙ ap (asked_of (key_effect.asked v.core s d)) (set-other s d (inl other))
+  asked-other s d other = ap (λ a. asked_of a (relocation_at (with_relocation v slot c None now) s d)) (gone.same s d) ∙ ap (asked_of (key_effect.asked v s d)) (set-other s d (inl other))
 
   -- and what operations on keys ask
-  pub without-more : {old : CoreView K V I} → IsWithoutThem cmp old v.core → IsWithoutThem cmp old (with_relocation v slot c None now).core
+  pub without-more : {old : PartitionView K V I} → IsWithoutThem cmp old v → IsWithoutThem cmp old (with_relocation v slot c None now)
   without-more w = record {
     asked = λ s d. gone.same s d ∙ w.asked s d;
     pend = λ s d. gone.pend refl s d ∙ w.pend s d;
@@ -115,16 +114,16 @@ none-all v slot below d = by_low (nat_lt d 8) refl
   where
     by_low : (b : Bool) → nat_lt d 8 ≡ b → relocation_at v slot d ≡ None
     by_low true t = below d (grind (arith, nat_tests))
-    by_low false t = rw (t, and-false (is_session (slots_of v.core) slot)) refl
+    by_low false t = rw (t, and-false (is_session (slots_of v) slot)) refl
 
 -- ---- relocations are given up
-module _ {K V I : Type 0} (cmp : K → K → Ordering) (old between : PartitionView K V I) (core : IsWithoutThem cmp old.core between.core) where
+module _ {K V I : Type 0} (cmp : K → K → Ordering) (old between : PartitionView K V I) (without : IsWithoutThem cmp old between) where
   -- operations on keys stay
   pub operation-stays : (s d : ℕ) (x : Asked K V I) (o : KeyedOp K V I) → asked old s d ≡ Some x → keyed x.op ≡ Some o → asked between s d ≡ Some x
-  operation-stays s d x o h k = by_parts (key_effect.asked old.core s d) (relocation_at old s d) refl h
+  operation-stays s d x o h k = by_parts (key_effect.asked old s d) (relocation_at old s d) refl h
     where
-      by_parts : (a : Option (key_effect.Asked K V I)) (r : Option (Relocation K V)) → key_effect.asked old.core s d ≡ a → asked_of a r ≡ Some x → asked between s d ≡ Some x
-      by_parts (Some y) r p e = ap (λ (a : Option (key_effect.Asked K V I)). asked_of a (relocation_at between s d)) (core.asked s d ∙ p) ∙ e
+      by_parts : (a : Option (key_effect.Asked K V I)) (r : Option (Relocation K V)) → key_effect.asked old s d ≡ a → asked_of a r ≡ Some x → asked between s d ≡ Some x
+      by_parts (Some y) r p e = ap (λ (a : Option (key_effect.Asked K V I)). asked_of a (relocation_at between s d)) (without.asked s d ∙ p) ∙ e
       by_parts None None p e = absurd (cc)
       by_parts None (Some r) p e =
           let same : record { number = r.number; op = Relocate } ≡ x = cc in
@@ -144,18 +143,18 @@ left-cleared {K} {V} {I} keeps between new now (Err e) event err = ap (λ (v : P
 
 pub left-live : {K V I : Type 0} (keeps : Bool) (cmp : K → K → Ordering) (between new : PartitionView K V I) (now : ℕ) (result : Result (Unit {0}) Refused)
     → OnOk result (IsQuiet keeps between new now) → OnErr result (new ≡ between) → IsTrue keeps
-    → Same (live_of cmp new.core) (live_of cmp between.core)
+    → Same (live_of cmp new) (live_of cmp between)
 left-live keeps cmp between new now (Ok x) event err yes_keeps k = ap (λ t. live cmp t k) (event.text yes_keeps)
-left-live {K} {V} {I} keeps cmp between new now (Err e) event err yes_keeps k = ap (λ (v : PartitionView K V I). live_of cmp v.core k) err
+left-live {K} {V} {I} keeps cmp between new now (Err e) event err yes_keeps k = ap (λ (v : PartitionView K V I). live_of cmp v k) err
 
 -- who has left, by what leaving a session is to its partition
-pub left-parted : {K V I : Type 0} (keeps : Bool) (cmp : K → K → Ordering) (old between new : PartitionView K V I) (now end : ℕ) (r : Result (Unit {0}) Refused) → IsWithoutThem cmp old.core between.core → end ≡ now
+pub left-parted : {K V I : Type 0} (keeps : Bool) (cmp : K → K → Ordering) (old between new : PartitionView K V I) (now end : ℕ) (r : Result (Unit {0}) Refused) → IsWithoutThem cmp old between → end ≡ now
     → OnOk r (IsQuiet keeps between new now) → OnOk r (IsParted keeps old new end)
-left-parted keeps cmp old between new now end (Err e) core at ev = tt
-left-parted keeps cmp old between new now end (Ok t) core at ev = record {
-  text = λ yes_keeps. ev.text yes_keeps ∙ ap (λ r. r.text) core.records;
-  number = ev.number ∙ core.number;
-  count = ev.count ∙ core.count;
-  begin = ev.begin ∙ ap (λ r. r.log.begin) core.records;
+left-parted keeps cmp old between new now end (Err e) without at ev = tt
+left-parted keeps cmp old between new now end (Ok t) without at ev = record {
+  text = λ yes_keeps. ev.text yes_keeps ∙ ap (λ r. r.text) without.records;
+  number = ev.number ∙ without.number;
+  count = ev.count ∙ without.count;
+  begin = ev.begin ∙ ap (λ r. r.log.begin) without.records;
   moment = ev.moment ∙ sym at;
 }

@@ -10,10 +10,9 @@ use Rattle.fkv_texts.specs.declared.entries.Entry.{Entry}
 use Rattle.fkv_operations.specs.declared.operations.Op.TheVariants.{Relocate}
 use Rattle.fkv_partition.specs.declared.contexts.Progress.{Progress}
 use Rattle.fkv_partition.specs.declared.contexts.Progress.TheVariants.{Next}
-use Rattle.fkv_partition.specs.CoreEffect as key_effect
-use Rattle.fkv_partition.specs.CoreViews.{CoreView}
-use Rattle.fkv_partition.specs.Pending.{AllPend}
+use Rattle.fkv_partition.specs.KeyEffect as key_effect
 use Rattle.fkv_partition.specs.Views.{PartitionView, with_relocation}
+use Rattle.fkv_partition.specs.Pending.{AllPend}
 use Rattle.fkv_partition.specs.Beginning.{IsFirstFree, IsFirstOpen, LeavesAll}
 use Rattle.fkv_partition.specs.Relocating.{IsRelocating}
 use Rattle.fkv_partition.specs.Events.{Issues, Goes, Loads}
@@ -64,7 +63,7 @@ pub data CompactsLoad {K V I O R : Type 0} (stands : R → Standing) (spells : �
 
 -- relocations are given up: operations on keys ask what they asked, look-ups are to find what they were to find, and the records
 -- stay
-pub record IsWithoutThem {K V I : Type 0} (cmp : K → K → Ordering) (old new : CoreView K V I) : Type 0 where
+pub record IsWithoutThem {K V I : Type 0} (cmp : K → K → Ordering) (old new : PartitionView K V I) : Type 0 where
   pub asked : (s d : ℕ) → key_effect.asked new s d ≡ key_effect.asked old s d
   pub pend : AllPend cmp old new
   pub records : new.records ≡ old.records
@@ -73,11 +72,11 @@ pub record IsWithoutThem {K V I : Type 0} (cmp : K → K → Ordering) (old new 
 
 -- who has left: of the partition its number and count stay, its text on a device that keeps, and where that begins
 pub record IsParted {K V I : Type 0} (keeps : Bool) (old new : PartitionView K V I) (now : ℕ) : Type 0 where
-  pub text : IsTrue keeps → new.core.records.text ≡ old.core.records.text
-  pub number : new.core.number ≡ old.core.number
-  pub count : new.core.count ≡ old.core.count
-  pub begin : new.core.records.log.begin ≡ old.core.records.log.begin
-  pub moment : new.core.moment ≡ now
+  pub text : IsTrue keeps → new.records.text ≡ old.records.text
+  pub number : new.number ≡ old.number
+  pub count : new.count ≡ old.count
+  pub begin : new.records.log.begin ≡ old.records.log.begin
+  pub moment : new.moment ≡ now
 
 -- the relocations of a slot are given up, the lowest first, each at the next moment of a clock
 pub data GivesUpAll {K V I : Type 0} (slot : ℕ) : PartitionView K V I → PartitionView K V I → ℕ → ℕ → Type 0 where

@@ -7,9 +7,8 @@ ghost use Rattle.fkv_operations.specs.declared.operations.KeyedOp.{KeyedOp};
 ghost use Rattle.fkv_operations.specs.declared.operations.Answer.TheVariants.{Cleared};
 ghost use Rattle.fkv_operations.specs.Operations.{keyed};
 ghost use Rattle.fkv_partition.specs.Pending.{AllPend};
-ghost use Rattle.fkv_partition.specs.CoreViews.{live_of};
+ghost use Rattle.fkv_partition.specs.Views.{live_of, relocation_at};
 ghost use Rattle.fkv_partition.specs.declared.contexts.Progress.TheVariants.{Done};
-ghost use Rattle.fkv_partition.specs.Views.{relocation_at};
 ghost use Rattle.fkv_partition.specs.Beginning.{IsFirstOpen};
 ghost use Rattle.fkv_partition.specs.Effect.{Asked, asked, IsQuiet, IsGiveUp, IsTruncation};
 ghost use Rattle.fkv_partition.specs.Events.{Enters};
@@ -49,13 +48,13 @@ impl Compactor {
         partition: &mut Partition<F, R>,
         now: u64,
     ) -> Result<Self, Refused>
-        requires later { partition.old.core.moment < now }
+        requires later { partition.old.moment < now }
         ensures effect { Enters partition.old partition.new now result }
         ensures event { IfOk result (λ _. IsQuiet R.keeps partition.old partition.new now) }
-        ensures pends { AllPend F.Key.cmp partition.old.core partition.new.core }
+        ensures pends { AllPend F.Key.cmp partition.old partition.new }
         ensures within { IfOk result (λ slot. slot < 16) }
         ensures unchanged { OnErr result (partition.new ≡ partition.old) }
-        ensures moment { partition.new.core.moment ≤ now }
+        ensures moment { partition.new.moment ≤ now }
     {
         match partition.enter(now) {
             Err(refused) => Err(refused),
@@ -79,7 +78,7 @@ impl Compactor {
         functions: &F,
         now: u64,
     ) -> Result<ProgressOf<F, R>, Refused>
-        requires later { partition.old.core.moment < now }
+        requires later { partition.old.moment < now }
         ensures effect { CompactsNext R.stands F.Key.cmp F.parts.joined F.meaning F.code
             partition.old partition.new self.now now result }
         ensures event { IfOk result (λ _. IsTurn R.keeps F.Key.cmp partition.old partition.new self.now now) }
@@ -87,7 +86,7 @@ impl Compactor {
             → IsFirstOpen partition.old self.now (Some c)
             → IfSome (relocation_at partition.old self.now c) (λ x. x.target < partition.new.cleared) }
         ensures unchanged { OnErr result (partition.new ≡ partition.old) }
-        ensures moment { partition.new.core.moment ≤ now }
+        ensures moment { partition.new.moment ≤ now }
     {
         match partition.open_relocation(self.slot) {
             Some(context) => self.go(partition, context, functions, now),
@@ -103,7 +102,7 @@ impl Compactor {
         functions: &F,
         now: u64,
     ) -> Result<ProgressOf<F, R>, Refused>
-        requires later { partition.old.core.moment < now }
+        requires later { partition.old.moment < now }
         requires open { IsFirstOpen partition.old self.now (Some context) }
         ensures effect { CompactsNext R.stands F.Key.cmp F.parts.joined F.meaning F.code
             partition.old partition.new self.now now result }
@@ -111,7 +110,7 @@ impl Compactor {
         ensures cleared { result ≡ Ok (Done Cleared now)
             → IfSome (relocation_at partition.old self.now context) (λ x. x.target < partition.new.cleared) }
         ensures unchanged { OnErr result (partition.new ≡ partition.old) }
-        ensures moment { partition.new.core.moment ≤ now }
+        ensures moment { partition.new.moment ≤ now }
     {
         partition.go(self.slot, context, functions, now)
     }
@@ -123,14 +122,14 @@ impl Compactor {
         functions: &F,
         now: u64,
     ) -> Result<ProgressOf<F, R>, Refused>
-        requires later { partition.old.core.moment < now }
+        requires later { partition.old.moment < now }
         requires none { IsFirstOpen partition.old self.now None }
         ensures effect { CompactsNext R.stands F.Key.cmp F.parts.joined F.meaning F.code
             partition.old partition.new self.now now result }
         ensures event { IfOk result (λ _. IsTurn R.keeps F.Key.cmp partition.old partition.new self.now now) }
         ensures uncleared { result ≡ Ok (Done Cleared now) → ⊥ }
         ensures unchanged { OnErr result (partition.new ≡ partition.old) }
-        ensures moment { partition.new.core.moment ≤ now }
+        ensures moment { partition.new.moment ≤ now }
     {
         match partition.issue(self.slot, Op::Relocate, functions, now) {
             Err(refused) => Err(refused),
@@ -148,7 +147,7 @@ impl Compactor {
         functions: &F,
         now: u64,
     ) -> Result<ProgressOf<F, R>, Refused>
-        requires later { partition.old.core.moment < now }
+        requires later { partition.old.moment < now }
         ensures effect { CompactsLoad R.stands (IsEntryIn F.Key.codec F.Value.codec) F.Key.cmp F.parts.joined F.meaning F.code
             partition.old partition.new self.now came now result }
         ensures event { IfOk result (λ _. IsTurn R.keeps F.Key.cmp partition.old partition.new self.now now) }
@@ -158,7 +157,7 @@ impl Compactor {
         ensures cleared { result ≡ Ok (Done Cleared now) → (c : ℕ)
             → IsFirstOpen partition.old self.now (Some c)
             → IfSome (relocation_at partition.old self.now c) (λ x. x.target < partition.new.cleared) }
-        ensures moment { partition.new.core.moment ≤ now }
+        ensures moment { partition.new.moment ≤ now }
     {
         match partition.open_relocation(self.slot) {
             None => Err(Refused::Unknown),
@@ -173,16 +172,16 @@ impl Compactor {
         partition: &mut Partition<F, R>,
         now: u64,
     ) -> Result<Address, Refused>
-        requires later { partition.old.core.moment < now }
+        requires later { partition.old.moment < now }
         ensures effect { Truncates R.keeps partition.old partition.new
-            (page_at partition.old.core.records.log.bits partition.old.cleared) now (told_of result) }
-        ensures begin { IfOk result (λ begin. (begin ≡ partition.new.core.records.log.begin)
-            × (begin ≡ start_at partition.old.core.records.log.bits
-            (page_at partition.old.core.records.log.bits partition.old.cleared))) }
+            (page_at partition.old.records.log.bits partition.old.cleared) now (told_of result) }
+        ensures begin { IfOk result (λ begin. (begin ≡ partition.new.records.log.begin)
+            × (begin ≡ start_at partition.old.records.log.bits
+            (page_at partition.old.records.log.bits partition.old.cleared))) }
         ensures event { OnOk result (IsTruncation R.keeps F.Key.cmp partition.old partition.new
-            (page_at partition.old.core.records.log.bits partition.old.cleared) now) }
+            (page_at partition.old.records.log.bits partition.old.cleared) now) }
         ensures unchanged { OnErr result (partition.new ≡ partition.old) }
-        ensures moment { partition.new.core.moment ≤ now }
+        ensures moment { partition.new.moment ≤ now }
     {
         partition.truncate_cleared(now)
     }
@@ -196,7 +195,7 @@ impl Compactor {
         partition: &mut Partition<F, R>,
         clock: &mut Clock,
     ) -> Result<(), Refused>
-        requires past { partition.old.core.moment ≤ clock.old }
+        requires past { partition.old.moment ≤ clock.old }
         ensures effect { Parts R.keeps partition.old partition.new self clock.old clock.new result }
         ensures event { OnOk result (IsParted R.keeps partition.old partition.new clock.new) }
         // whatever it answers: other sessions and operations on keys ask what they asked, look-ups are to find what they
@@ -204,10 +203,10 @@ impl Compactor {
         ensures others { (s d : ℕ) → s ≢ self → asked partition.new s d ≡ asked partition.old s d }
         ensures operations { (s d : ℕ) (x : Asked F.Key F.Value F.Input) (o : KeyedOp F.Key F.Value F.Input)
             → asked partition.old s d ≡ Some x → keyed x.op ≡ Some o → asked partition.new s d ≡ Some x }
-        ensures pends { IsTrue R.keeps → AllPend F.Key.cmp partition.old.core partition.new.core }
-        ensures live { IsTrue R.keeps → Same (live_of F.Key.cmp partition.new.core) (live_of F.Key.cmp partition.old.core) }
+        ensures pends { IsTrue R.keeps → AllPend F.Key.cmp partition.old partition.new }
+        ensures live { IsTrue R.keeps → Same (live_of F.Key.cmp partition.new) (live_of F.Key.cmp partition.old) }
         ensures cleared { partition.new.cleared ≡ partition.old.cleared }
-        ensures past { partition.new.core.moment ≤ clock.new }
+        ensures past { partition.new.moment ≤ clock.new }
     {
         if clock.last() > u64::MAX - 9 {
             return Err(Refused::Worn);
@@ -225,14 +224,14 @@ impl Compactor {
         partition: &mut Partition<F, R>,
         clock: &mut Clock,
     )
-        requires past { partition.old.core.moment ≤ clock.old }
+        requires past { partition.old.moment ≤ clock.old }
         requires spare { clock.old + 9 < 2 ^ 64 }
         ensures effect { GivesUpAll self.now partition.old partition.new clock.old clock.new }
-        ensures core { IsWithoutThem F.Key.cmp partition.old.core partition.new.core }
+        ensures without { IsWithoutThem F.Key.cmp partition.old partition.new }
         ensures cleared { partition.new.cleared ≡ partition.old.cleared }
         ensures none { (c : ℕ) → relocation_at partition.new self.now c ≡ None }
         ensures others { (s d : ℕ) → s ≢ self.now → asked partition.new s d ≡ asked partition.old s d }
-        ensures past { partition.new.core.moment ≤ clock.new }
+        ensures past { partition.new.moment ≤ clock.new }
         ensures spare { clock.new ≤ clock.old + 8 }
     {
         for context in 0..CONTEXTS {

@@ -34,7 +34,7 @@ pub struct Store {
     pub reader: FileReader<File>,
     writer: FileWriter<File>,
     pub clock: Clock,
-    ghost timely: { partition.core.moment ≤ clock },
+    ghost timely: { partition.moment ≤ clock },
 }
 
 impl Store {

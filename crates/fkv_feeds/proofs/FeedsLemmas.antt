@@ -176,7 +176,7 @@ feed-told fault feed limit bytes old new e shape (inr t) = unread-told fault fee
 opens-by : (old new : ℕ) (e : Refused) → FailsOnlyBy 1 0 old new e → IsOfDevice e
 opens-by old new e f = elim f [ inl a ↦ inl a.0 | inr b ↦ inr (inl (1, 0, b.0)) ]
 
-reads-by : (page old new : ℕ) (e : Refused) → ReadFailsBy page old new e → IsOfDevice e
+pub reads-by : (page old new : ℕ) (e : Refused) → ReadFailsBy page old new e → IsOfDevice e
 reads-by page old new e f = elim f [
   | inl a ↦ elim a [ inl b ↦ inl b.0 | inr b ↦ inr (inl (3, page, b.0)) ]
   | inr b ↦ inr (inr (page, b.0))

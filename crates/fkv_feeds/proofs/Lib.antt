@@ -1,4 +1,5 @@
 pub mod RunLemmas
 pub mod FeedsLemmas
+mod SpilledLemmas
 mod TableLemmas
 mod WritingLemmas

@@ -3,3 +3,4 @@ pub mod Writing
 pub mod Refusing
 pub mod Faults
 pub mod Keeping
+pub mod Spilling

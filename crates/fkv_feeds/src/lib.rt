@@ -6,6 +6,7 @@ pub mod modes;
 pub mod reading;
 pub mod running;
 pub mod shown;
+pub mod spilling;
 mod tabling;
 pub mod writing;
 
@@ -14,4 +15,5 @@ pub use fkv_runs::{Pairs, Table};
 pub use modes::RowMode;
 pub use running::{LIMIT, run_alone, run_alone_by, run_one, run_one_by};
 pub use shown::Shown;
+pub use spilling::{SpilledRun, spill_alone_by, spill_one_by};
 pub use writing::{write_pairs, write_table};

@@ -31,10 +31,10 @@ use std::alloc::Global;
 pub const LIMIT: u64 = 1_099_511_627_776;
 
 /// The most feeds of a run.
-const MOST: usize = 64;
+pub(crate) const MOST: usize = 64;
 
 /// A store that stands for no rows. Where rows are made merges its logs are kept whole, so that no row reads a page.
-fn opened<F: Mergeable<Key = Name, Input = i64>, D: Disk>(
+pub(crate) fn opened<F: Mergeable<Key = Name, Input = i64>, D: Disk>(
     alloc: Global,
     functions: F,
     config: &Config,
@@ -95,7 +95,7 @@ fn finish<F: Mergeable<Key = Name, Input = i64>, D: Disk>(
 }
 
 /// Reads feeds, one after the other, into a store that stands for no rows. Answers how many rows they have.
-fn read_feeds<S: Source, F: Mergeable<Key = Name, Input = i64>, D: Disk>(
+pub(crate) fn read_feeds<S: Source, F: Mergeable<Key = Name, Input = i64>, D: Disk>(
     alloc: Global,
     feeds: &mut [S],
     store: &mut RowStore<F, D>,

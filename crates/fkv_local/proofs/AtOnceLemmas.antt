@@ -14,12 +14,11 @@ use Rattle.fkv_operations.specs.declared.operations.KeyedOp.TheVariants as keyed
 use Rattle.fkv_operations.specs.declared.operations.Op.TheVariants.{Rmw}
 use Rattle.fkv_operations.specs.declared.operations.Answer.{Answer}
 use Rattle.fkv_operations.specs.declared.operations.Answer.TheVariants.{Value}
-use Rattle.fkv_partition.specs.CoreContexts.{is_session}
-use Rattle.fkv_partition.specs.CoreViews.{context_at, live_of}
-use Rattle.fkv_partition.specs.CoreEffect as key_effect
+use Rattle.fkv_partition.specs.Contexts.{is_session}
+use Rattle.fkv_partition.specs.Views.{context_at, live_of, PartitionView, relocation_at}
+use Rattle.fkv_partition.specs.KeyEffect as key_effect
 use Rattle.fkv_partition.specs.AtOnce.{IsDoneAtOnce, IsReadAtOnce}
 use Rattle.fkv_partition.specs.Effect.{Asked, asked, asked_of}
-use Rattle.fkv_partition.specs.Views.{PartitionView, relocation_at}
 use Rattle.fkv_partition.specs.declared.relocations.Relocation.{Relocation}
 use Rattle.fkv_local.specs.Resting.{IsIdle}
 use Rattle.fkv_local.specs.Storing.{Runs}
@@ -46,10 +45,10 @@ at-once_runs {K} {V} {I} stands cmp join f code v w key input issued now shown i
   idle = record {
     entered = ap (λ r. is_session r.epochs.slots 0) (d.event.frame.regions ∙ d.issue.frame.regions) ∙ i.entered;
     settled = subst IsSettled (sym (d.event.frame.regions ∙ d.issue.frame.regions)) i.settled;
-    free = λ c. none-mapped key_effect.asked_by (context_at w.core 0 c) (no-operation (key_effect.asked w.core 0 c) (relocation_at w 0 c) (none c));
-    relocations = λ c. no-relocation (key_effect.asked w.core 0 c) (relocation_at w 0 c) (none c);
+    free = λ c. none-mapped key_effect.asked_by (context_at w 0 c) (no-operation (key_effect.asked w 0 c) (relocation_at w 0 c) (none c));
+    relocations = λ c. no-relocation (key_effect.asked w 0 c) (relocation_at w 0 c) (none c);
   };
-  effect = λ _. (subst (λ t. Same (live_of cmp w.core) (after cmp f (live cmp t) (keyed.Rmw key input))) d.issue.text done, subst (λ t. Value shown ≡ answer f (live cmp t) (keyed.Rmw key input)) d.issue.text told);
+  effect = λ _. (subst (λ t. Same (live_of cmp w) (after cmp f (live cmp t) (keyed.Rmw key input))) d.issue.text done, subst (λ t. Value shown ≡ answer f (live cmp t) (keyed.Rmw key input)) d.issue.text told);
 }
   where
     here : ℕ
@@ -69,11 +68,11 @@ at-once_runs {K} {V} {I} stands cmp join f code v w key input issued now shown i
     question : d.event.question.op ≡ Rmw key input
     question = ap (λ (q : Asked K V I). q.op) (same_Some d.event.question (record { number = issued; op = Rmw key input }) (sym d.event.was ∙ d.issue.opened))
 
-    done : Same (live_of cmp w.core) (map_after cmp f (live_of cmp d.between.core) (Rmw key input))
-    done = subst (λ q. Same (live_of cmp w.core) (map_after cmp f (live_of cmp d.between.core) q)) question d.event.effect.2
+    done : Same (live_of cmp w) (map_after cmp f (live_of cmp d.between) (Rmw key input))
+    done = subst (λ q. Same (live_of cmp w) (map_after cmp f (live_of cmp d.between) q)) question d.event.effect.2
 
-    told : Value shown ≡ answer_to f (live_of cmp d.between.core) (Rmw key input)
-    told = subst (λ q. Value shown ≡ answer_to f (live_of cmp d.between.core) q) question d.event.effect.3
+    told : Value shown ≡ answer_to f (live_of cmp d.between) (Rmw key input)
+    told = subst (λ q. Value shown ≡ answer_to f (live_of cmp d.between) q) question d.event.effect.3
 
 pub read_runs : {K V I O : Type 0} (keeps : Bool) (cmp : K → K → Ordering) (join : V → V → V) (f : Meanings K V I O) (code : K → ℕ) (v : PartitionView K V I) (key : K) (input : I) (told : Answer O)
     → IsIdle v 0 → IsReadAtOnce cmp join f code v 0 key input told → Runs keeps cmp f v v (keyed.Read key input) (Ok told)

@@ -5,14 +5,13 @@ use Rattle.std.specs.declared.cmp.Ordering.{Ordering}
 use Rattle.fkv_functions.specs.declared.refusals.Refused.{Refused}
 use Rattle.fkv_texts.specs.Text.{live}
 use Rattle.fkv_regions.specs.Settled.{IsSettled}
-use Rattle.fkv_partition.specs.CoreContexts.{is_session}
-use Rattle.fkv_partition.specs.CoreEffect as key_effect
-use Rattle.fkv_partition.specs.CoreViews.{slots_of, context_at}
+use Rattle.fkv_partition.specs.Contexts.{is_session}
+use Rattle.fkv_partition.specs.KeyEffect as key_effect
+use Rattle.fkv_partition.specs.Views.{slots_of, context_at, PartitionView, relocation_at}
 use Rattle.fkv_partition.specs.Beginning.{Drops}
 use Rattle.fkv_partition.specs.Effect.{asked, asked_of, IsGiveUp, IsTruncation}
 use Rattle.fkv_partition.specs.Events.{GivesUp}
 use Rattle.fkv_partition.specs.Relocating.{IsRelocating}
-use Rattle.fkv_partition.specs.Views.{PartitionView, relocation_at}
 use Rattle.fkv_partition.specs.declared.relocations.Relocation.{Relocation}
 use Rattle.fkv_local.specs.Resting.{IsIdle, IsIdleBut, StaysIdle, StaysIdleBut}
 use Rattle.fkv_local.proofs.DriveLemmas.{none-mapped}
@@ -20,12 +19,12 @@ use Rattle.fkv_local.proofs.AtOnceLemmas.{no-operation, no-relocation, unasked}
 
 module _ {K V I : Type 0} where
   -- what asks nothing is open for nothing
-  pub asks-nothing : (w : PartitionView K V I) → is_session (slots_of w.core) 0 ≡ true → IsSettled w.core.records.log.regions → ((d : ℕ) → asked w 0 d ≡ None) → IsIdle w 0
+  pub asks-nothing : (w : PartitionView K V I) → is_session (slots_of w) 0 ≡ true → IsSettled w.records.log.regions → ((d : ℕ) → asked w 0 d ≡ None) → IsIdle w 0
   asks-nothing w entered settled none = record {
     entered = entered;
     settled = settled;
-    free = λ c. none-mapped key_effect.asked_by (context_at w.core 0 c) (no-operation (key_effect.asked w.core 0 c) (relocation_at w 0 c) (none c));
-    relocations = λ c. no-relocation (key_effect.asked w.core 0 c) (relocation_at w 0 c) (none c);
+    free = λ c. none-mapped key_effect.asked_by (context_at w 0 c) (no-operation (key_effect.asked w 0 c) (relocation_at w 0 c) (none c));
+    relocations = λ c. no-relocation (key_effect.asked w 0 c) (relocation_at w 0 c) (none c);
   }
 
   pub idle-but : (v : PartitionView K V I) (c : ℕ) → IsIdle v 0 → IsIdleBut v 0 c
@@ -82,7 +81,7 @@ module _ {K V I : Type 0} {keeps : Bool} {cmp : K → K → Ordering} where
     idle = record {
       entered = ap (λ x. is_session x.epochs.slots 0) r.regions ∙ i.entered;
       settled = subst IsSettled (sym r.regions) i.settled;
-      free = λ d. none-mapped key_effect.asked_by (context_at w.core 0 d) (r.same 0 d ∙ ap (option_map key_effect.asked_by) (i.free d));
+      free = λ d. none-mapped key_effect.asked_by (context_at w 0 d) (r.same 0 d ∙ ap (option_map key_effect.asked_by) (i.free d));
       relocations = λ d n. r.others 0 d (inr n) ∙ i.relocations d n;
     };
     live = r.live;

@@ -7,9 +7,8 @@ use Rattle.fkv_functions.specs.declared.refusals.Refused.{Refused}
 use Rattle.fkv_functions.proofs.ListLemmas.{get-set_same}
 use Rattle.fkv_hybrid.specs.Scans.{IsScanRefusal}
 use Rattle.fkv_records.specs.Places.{page_at}
-use Rattle.fkv_partition.specs.CoreViews.{partition_of, live_of}
+use Rattle.fkv_partition.specs.Views.{partition_of, live_of, PartitionView}
 use Rattle.fkv_partition.specs.Unions.{live_at}
-use Rattle.fkv_partition.specs.Views.{PartitionView}
 use Rattle.fkv_local.specs.Listing.{ListsView, AreLeft, IsNextList, IsUnlistedAt, behind_next}
 use Rattle.fkv_local.specs.Resting.{AreAtRest}
 use Rattle.fkv_local.proofs.PartLemmas.{view-get, view-set, view-same}
@@ -47,7 +46,7 @@ module _ {P : Type 0} (reads : P → ℕ) (old now : List P) (i : ℕ) (r r_now 
   readers-counted e = view-same reads now i r r_now here e ∙ counts
 
   pub unlisted-here : {K V I : Type 0} (keeps : Bool) (parts : List (PartitionView K V I)) (v : PartitionView K V I) (why : Refused) → slice_get parts i ≡ Some v
-      → IsScanRefusal keeps (page_at v.core.records.log.bits v.core.records.log.begin) (length v.core.records.log.receipts) (reads r) (reads r_now) why
+      → IsScanRefusal keeps (page_at v.records.log.bits v.records.log.begin) (length v.records.log.receipts) (reads r) (reads r_now) why
       → IsUnlistedAt keeps reads parts old (slice_set now i r_now) i why
   unlisted-here keeps parts v why at refused = record {
     view = v;
@@ -91,8 +90,8 @@ get-but_last (x ∷ xs) (suc n) (suc p) e other = get-but_last xs n p (omega ari
 
 module _ {K V I P : Type 0} (cmp : K → K → Ordering) (code : K → ℕ) (l new : ListsView K V I P) (last : ℕ) (v : PartitionView K V I) (list : PlainMap K V) where
   pub next-list : AreLeft l.parts l.count → length l.parts ≡ last + 1 → slice_get l.parts last ≡ Some v → new.parts ≡ take last l.parts → new.count ≡ l.count
-      → ((k : K) → list k ≡ live_of cmp v.core k)
-      → ((k : K) → partition_of v.core.count (code k) ≢ v.core.number → list k ≡ None)
+      → ((k : K) → list k ≡ live_of cmp v k)
+      → ((k : K) → partition_of v.count (code k) ≢ v.number → list k ≡ None)
       → IsNextList cmp code l new list
   next-list h sized here parts count live none = record {
     own = λ k e. live k ∙ sym (ap (λ p. live_at cmp (slice_get l.parts p) k) (e ∙ long) ∙ ap (λ o. live_at cmp o k) here);
@@ -142,7 +141,7 @@ module _ {S K V I P : Type 0} (part : S → PartitionView K V I) (reader : S →
         ∙ front-view items n (take n items) last refl
 
     pub read-unlisted : (keeps : Bool) (reads : P → ℕ) (why : Refused) → n ≡ length items - 1
-        → IsScanRefusal keeps (page_at (part x).core.records.log.bits (part x).core.records.log.begin) (length (part x).core.records.log.receipts) (reads (reader x)) (reads (reader y)) why
+        → IsScanRefusal keeps (page_at (part x).records.log.bits (part x).records.log.begin) (length (part x).records.log.receipts) (reads (reader x)) (reads (reader y)) why
         → IsUnlistedAt keeps reads (listed items).parts (listed items).readers (map reader (slice_set items n y)) (length (listed items).parts - 1) why
     read-unlisted keeps reads why last refused =
         subst (λ rs. IsUnlistedAt keeps reads (map part items) (map reader items) rs (length (map part items) - 1) why) (sym (view-set reader items n y))
@@ -152,8 +151,8 @@ module _ {S K V I P : Type 0} (part : S → PartitionView K V I) (reader : S →
   -- the last has gone
   module _ (cmp : K → K → Ordering) (code : K → ℕ) (items : List S) (n : ℕ) (x : S) (ys : List S) (list : PlainMap K V) where
     pub gone-list : AreLeft (map part items) count → length items ≡ n + 1 → slice_get items n ≡ Some x → ys ≡ take n items
-        → ((k : K) → list k ≡ live_of cmp (part x).core k)
-        → ((k : K) → partition_of (part x).core.count (code k) ≢ (part x).core.number → list k ≡ None)
+        → ((k : K) → list k ≡ live_of cmp (part x) k)
+        → ((k : K) → partition_of (part x).count (code k) ≢ (part x).number → list k ≡ None)
         → IsNextList cmp code (listed items) (listed ys) list
     gone-list h long here e live none =
         next-list cmp code (listed items) (listed ys) n (part x) list h (length-map items part ∙ long) (view-get part items n x here) (ap (map part) e ∙ sym (take-map part n items)) refl live none

@@ -15,11 +15,11 @@ use Rattle.fkv_local.proofs.WorkLemmas.{both, same-both}
 
 module _ {K V I : Type 0} {keeps : Bool} {cmp : K → K → Ordering} where
   -- what every end of it leaves
-  pub updates-number : {O : Type 0} {f : Meanings K V I O} {k : K} {i : I} {u w : PartitionView K V I} {r : Result (Answer O) Refused} → Updates keeps cmp f u w k i r → w.core.number ≡ u.core.number
+  pub updates-number : {O : Type 0} {f : Meanings K V I O} {k : K} {i : I} {u w : PartitionView K V I} {r : Result (Answer O) Refused} → Updates keeps cmp f u w k i r → w.number ≡ u.number
   updates-number (inl h) = h.number
   updates-number (inr h) = h.number
 
-  pub updates-count : {O : Type 0} {f : Meanings K V I O} {k : K} {i : I} {u w : PartitionView K V I} {r : Result (Answer O) Refused} → Updates keeps cmp f u w k i r → w.core.count ≡ u.core.count
+  pub updates-count : {O : Type 0} {f : Meanings K V I O} {k : K} {i : I} {u w : PartitionView K V I} {r : Result (Answer O) Refused} → Updates keeps cmp f u w k i r → w.count ≡ u.count
   updates-count (inl h) = h.count
   updates-count (inr h) = h.count
 

@@ -7,11 +7,10 @@ use Rattle.fkv_regions.specs.RegionsView.{fresh_regions, entered}
 use Rattle.fkv_regions.specs.Settled.{IsSettled}
 use Rattle.fkv_regions.proofs.SettledLemmas.{enter-settles}
 use Rattle.fkv_partition.specs.declared.limits.Config.{Config}
-use Rattle.fkv_partition.specs.CoreBeginning as beginning
-use Rattle.fkv_partition.specs.CoreContexts.{joined, is_session, context_in, on_key, relocating}
-use Rattle.fkv_partition.specs.CoreViews.{CoreView, slots_of, context_at, relocation_in, live_of, empty_core}
+use Rattle.fkv_partition.specs.KeyBeginning as beginning
+use Rattle.fkv_partition.specs.Contexts.{joined, is_session, context_in, on_key, relocating}
+use Rattle.fkv_partition.specs.Views.{PartitionView, slots_of, context_at, relocation_at, live_of, empty_partition}
 use Rattle.fkv_partition.specs.Events.{Enters}
-use Rattle.fkv_partition.specs.Views.{PartitionView, empty_partition}
 use Rattle.fkv_local.specs.Resting.{IsSeatedIn, AreNew}
 
 -- ---- a partition with nothing in it but a session
@@ -36,36 +35,36 @@ unopened {A = A} slots slot c = ap (λ o. cond (is_session slots slot && nat_lt 
     either false = refl
 
 module _ {K V I : Type 0} (cmp : K → K → Ordering) (merges : Bool) (config : Config) (size number now : ℕ) where
-  core-enters : (w : CoreView K V I) (e : Refused) → beginning.Enters (empty_core merges config size number) w now (Err e) → ⊥
+  core-enters : (w : PartitionView K V I) (e : Refused) → beginning.Enters (empty_partition merges config size number) w now (Err e) → ⊥
   core-enters w e (beginning.Enters.full f n r) = absurd (cc)
   core-enters w e (beginning.Enters.enters slot f n r) = absurd (cc)
 
   pub enters-always : (w : PartitionView K V I) (e : Refused) → Enters (empty_partition merges config size number) w now (Err e) → ⊥
-  enters-always w e h = core-enters w.core e h.does
+  enters-always w e h = core-enters w e h.does
 
-  seated-in : (w : PartitionView K V I) (slot : ℕ) → now ≡ number + 1 → w.core.moment ≤ now → beginning.Enters (empty_core merges config size number) w.core now (Ok slot) → IsSeatedIn cmp config number w
+  seated-in : (w : PartitionView K V I) (slot : ℕ) → now ≡ number + 1 → w.moment ≤ now → beginning.Enters (empty_partition merges config size number) w now (Ok slot) → IsSeatedIn cmp config number w
   seated-in w slot e past (beginning.Enters.full f n r) = absurd (cc)
   seated-in w slot e past (beginning.Enters.enters s f n r) =
       let zero_slot : 0 ≡ s = cc in
       record {
-        numbered = ap (λ (u : CoreView K V I). u.number) n;
-        counted = ap (λ (u : CoreView K V I). u.count) n;
+        numbered = ap (λ (u : PartitionView K V I). u.number) n;
+        counted = ap (λ (u : PartitionView K V I). u.count) n;
         made = record {
-          page_bits = ap (λ (u : CoreView K V I). u.records.log.bits) n;
-          frames = ap (λ (u : CoreView K V I). u.records.log.frames) n;
-          bucket_bits = ap (λ (u : CoreView K V I). u.records.bucket_bits) n;
+          page_bits = ap (λ (u : PartitionView K V I). u.records.log.bits) n;
+          frames = ap (λ (u : PartitionView K V I). u.records.log.frames) n;
+          bucket_bits = ap (λ (u : PartitionView K V I). u.records.bucket_bits) n;
         };
         past = omega arith;
         idle = record {
-          entered = ap (λ (u : CoreView K V I). is_session (slots_of u) 0) n ∙ ap (λ t. is_session (slice_set (replicate 16 None) t (Some 1)) 0) (sym zero_slot);
-          settled = subst (λ (u : CoreView K V I). IsSettled u.records.log.regions) (sym n) (subst (λ t. IsSettled (entered (fresh_regions config.page_bits) t)) zero_slot (enter-settles config.page_bits));
-          free = λ c. ap (λ (u : CoreView K V I). context_at u 0 c) n ∙ ap on_key (unopened (slice_set (replicate 16 None) s (Some 1)) 0 c);
-          relocations = λ d. ap (λ (u : CoreView K V I). relocation_in u 0 d) n ∙ ap relocating (unopened (slice_set (replicate 16 None) s (Some 1)) 0 d);
+          entered = ap (λ (u : PartitionView K V I). is_session (slots_of u) 0) n ∙ ap (λ t. is_session (slice_set (replicate 16 None) t (Some 1)) 0) (sym zero_slot);
+          settled = subst (λ (u : PartitionView K V I). IsSettled u.records.log.regions) (sym n) (subst (λ t. IsSettled (entered (fresh_regions config.page_bits) t)) zero_slot (enter-settles config.page_bits));
+          free = λ c. ap (λ (u : PartitionView K V I). context_at u 0 c) n ∙ ap on_key (unopened (slice_set (replicate 16 None) s (Some 1)) 0 c);
+          relocations = λ d. ap (λ (u : PartitionView K V I). relocation_at u 0 d) n ∙ ap relocating (unopened (slice_set (replicate 16 None) s (Some 1)) 0 d);
         };
-        empty = λ k. ap (λ (u : CoreView K V I). live_of cmp u k) n;
+        empty = λ k. ap (λ (u : PartitionView K V I). live_of cmp u k) n;
       }
 
-  pub seated-new : (w : PartitionView K V I) (slot : ℕ) → now ≡ number + 1 → w.core.moment ≤ now → Enters (empty_partition merges config size number) w now (Ok slot) → IsSeatedIn cmp config number w
+  pub seated-new : (w : PartitionView K V I) (slot : ℕ) → now ≡ number + 1 → w.moment ≤ now → Enters (empty_partition merges config size number) w now (Ok slot) → IsSeatedIn cmp config number w
   seated-new w slot e past h = seated-in w slot e past h.does
 
   pub new-none : AreNew {K = K} {V = V} {I = I} cmp config [] 0

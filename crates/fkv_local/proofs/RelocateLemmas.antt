@@ -19,15 +19,14 @@ use Rattle.fkv_partition.specs.declared.contexts.Wait.{Wait}
 use Rattle.fkv_partition.specs.declared.contexts.Wait.TheVariants.{Full}
 use Rattle.fkv_partition.specs.declared.contexts.Progress.{Progress}
 use Rattle.fkv_partition.specs.declared.contexts.Progress.TheVariants.{Done, Next, NeedsLoad, Waits}
-use Rattle.fkv_partition.specs.CoreContexts.{joined, relocating}
+use Rattle.fkv_partition.specs.Contexts.{joined, relocating}
 use Rattle.fkv_partition.specs.declared.contexts.OpenWork.TheVariants.{Relocating}
-use Rattle.fkv_partition.specs.CoreViews.{slots_of}
+use Rattle.fkv_partition.specs.Views.{slots_of, PartitionView, relocation_at, with_relocation, at_stage}
 use Rattle.fkv_partition.specs.Beginning.{Relocates}
 use Rattle.fkv_partition.specs.Checking.{Ends, Asks, ChecksLiveness, renewed}
 use Rattle.fkv_partition.specs.Events.{Issues, Goes, Loads}
 use Rattle.fkv_partition.specs.Going.{Awaited, awaited, awaited_by, GoesOn}
 use Rattle.fkv_partition.specs.Reading.{LoadsOn, WaitsOn}
-use Rattle.fkv_partition.specs.Views.{PartitionView, relocation_at, with_relocation, at_stage}
 use Rattle.fkv_partition.specs.declared.relocations.Relocation.{Relocation}
 use Rattle.fkv_partition.specs.declared.relocations.Stage.TheVariants.{Fresh, Tracing}
 use Rattle.fkv_partition.proofs.EffectLemmas.{set-here}
@@ -40,18 +39,18 @@ use Rattle.fkv_local.proofs.DriveLemmas.{inside, zero-free}
 -- what it waits for then, and that the receipts are those of before
 pub record IsOn {K V I O R : Type 0} (stands : R → Standing) (v w : PartitionView K V I) (c : ℕ) (p : Progress K V I O R) : Type 0 where
   pub wants : WantsThen stands w c p
-  pub receipts : w.core.records.log.receipts ≡ v.core.records.log.receipts
+  pub receipts : w.records.log.receipts ≡ v.records.log.receipts
 
 misspelled-at : {keeps : Bool} {tail clock : ℕ} {f : Failures} {why : Refused} {page : ℕ} → (IsTrue keeps → (page : ℕ) → why ≢ Damaged page) → why ≡ Damaged page → IsWorkRefusal keeps tail clock f f why
 misspelled-at {page = page} fine is = IsWorkRefusal.misspelled page (λ yes_keeps. fine yes_keeps page is) is refl
 
 module _ {K V I O R : Type 0} (stands : R → Standing) (v : PartitionView K V I) (c : ℕ) where
   -- it is done, or is to wait
-  done-on : (w u : PartitionView K V I) (a : Answer O) (at : ℕ) (p : Progress K V I O R) → w ≡ u → u.core.records.log.receipts ≡ v.core.records.log.receipts → ◌≡◌ {A = Result (Progress K V I O R) Refused} (Ok p) (Ok (Done a at)) → IsOn stands v w c p
-  done-on w u a at p is same told = let q : Done a at ≡ p = cc in subst (IsOn stands v w c) q (record { wants = tt; receipts = ap (λ (x : PartitionView K V I). x.core.records.log.receipts) is ∙ same })
+  done-on : (w u : PartitionView K V I) (a : Answer O) (at : ℕ) (p : Progress K V I O R) → w ≡ u → u.records.log.receipts ≡ v.records.log.receipts → ◌≡◌ {A = Result (Progress K V I O R) Refused} (Ok p) (Ok (Done a at)) → IsOn stands v w c p
+  done-on w u a at p is same told = let q : Done a at ≡ p = cc in subst (IsOn stands v w c) q (record { wants = tt; receipts = ap (λ (x : PartitionView K V I). x.records.log.receipts) is ∙ same })
 
-  waits-on : (w u : PartitionView K V I) (why : Wait) (p : Progress K V I O R) → w ≡ u → u.core.records.log.receipts ≡ v.core.records.log.receipts → ◌≡◌ {A = Result (Progress K V I O R) Refused} (Ok p) (Ok (Waits why)) → IsOn stands v w c p
-  waits-on w u why p is same told = let q : Waits why ≡ p = cc in subst (IsOn stands v w c) q (record { wants = tt; receipts = ap (λ (x : PartitionView K V I). x.core.records.log.receipts) is ∙ same })
+  waits-on : (w u : PartitionView K V I) (why : Wait) (p : Progress K V I O R) → w ≡ u → u.records.log.receipts ≡ v.records.log.receipts → ◌≡◌ {A = Result (Progress K V I O R) Refused} (Ok p) (Ok (Waits why)) → IsOn stands v w c p
+  waits-on w u why p is same told = let q : Waits why ≡ p = cc in subst (IsOn stands v w c) q (record { wants = tt; receipts = ap (λ (x : PartitionView K V I). x.records.log.receipts) is ∙ same })
 
 module _ {K V I O R : Type 0} (stands : R → Standing) (v w : PartitionView K V I) (c now : ℕ) (x : Relocation K V) (here : relocation_at v 0 c ≡ Some x) where
   next-on : (p : Progress K V I O R) → w ≡ with_relocation v 0 c (Some (at_stage x Fresh)) now → ◌≡◌ {A = Result (Progress K V I O R) Refused} (Ok p) (Ok Next) → IsOn stands v w c p
@@ -65,7 +64,7 @@ module _ {K V I O R : Type 0} (stands : R → Standing) (v w : PartitionView K V
   ends-on e kept p (Ends.full word full is told) = waits-on stands v c w _ Full p is refl told
   ends-on e kept p (Ends.appends word tail room is told) = done-on stands v c w _ Cleared now p is refl told
 
-  asks-on : (y : Relocation K V) (wanted : ℕ) (p : Progress K V I O R) → awaited y ≡ Some (record { begin = v.core.records.log.begin; wanted = wanted }) → Asks stands v w (with_relocation v 0 c (Some y) now) wanted (Ok p) → IsOn stands v w c p
+  asks-on : (y : Relocation K V) (wanted : ℕ) (p : Progress K V I O R) → awaited y ≡ Some (record { begin = v.records.log.begin; wanted = wanted }) → Asks stands v w (with_relocation v 0 c (Some y) now) wanted (Ok p) → IsOn stands v w c p
   asks-on y wanted p awaits (Asks.asks r held is told) =
       let q : NeedsLoad r wanted ≡ p = cc in
       subst (IsOn stands v w c) q (subst (λ u. IsOn {O = O} stands v u c (NeedsLoad r wanted)) (sym is) (record { wants = IsWanted.of_page y wanted (stands r) (set-here v 0 c now x here (Some y)) awaits held; receipts = refl }))
@@ -98,7 +97,7 @@ module _ {K V I O R : Type 0} {stands : R → Standing} {cmp : K → K → Order
   loads-on p (LoadsOn.newer x e l j r stage has came traces live is told) = done-on stands v c w _ Cleared now p is refl told
   loads-on p (LoadsOn.ends x e l j r parts stage has came traces live ends) = ends-on stands v w c now x has.awaits.here (renewed join e parts) l.kept p ends
   loads-on p (LoadsOn.further x e l j b parts stage has came traces above start asking) =
-      let begin : l.begin ≡ v.core.records.log.begin = ap (λ (a : Awaited). a.begin) (same_Some _ _ (sym (ap (awaited_by x.target) stage) ∙ has.awaits.awaits)) in
+      let begin : l.begin ≡ v.records.log.begin = ap (λ (a : Awaited). a.begin) (same_Some _ _ (sym (ap (awaited_by x.target) stage) ∙ has.awaits.awaits)) in
       asks-on stands v w c now x has.awaits.here (at_stage x (Tracing e (record l { wanted = b; parts = parts }))) b p (ap (λ n. Some (record { begin = n; wanted = b })) begin) asking
   loads-on p (LoadsOn.bad_record x e l j why stage has came traces is told) = absurd (cc)
   loads-on p (LoadsOn.bad_link x e l j b parts stage has came traces above start is told) = absurd (cc)
@@ -113,25 +112,25 @@ module _ {K V I O R : Type 0} {stands : R → Standing} {cmp : K → K → Order
 
 -- ---- why an event is refused
 module _ {K V I O R : Type 0} {v w : PartitionView K V I} {keeps : Bool} {clock : ℕ} {f : Failures} {why : Refused} where
-  ends-stop : {x : Relocation K V} {e : Entry K V} {kept : IndexEntry} {c now : ℕ} → Ends {O = O} {R = R} v w 0 c x e kept now (Err why) → IsWorkRefusal keeps w.core.records.log.tail clock f f why
+  ends-stop : {x : Relocation K V} {e : Entry K V} {kept : IndexEntry} {c now : ℕ} → Ends {O = O} {R = R} v w 0 c x e kept now (Err why) → IsWorkRefusal keeps w.records.log.tail clock f f why
   ends-stop (Ends.moved word is told) = absurd (cc)
-  ends-stop (Ends.worn word tail is told) = IsWorkRefusal.no_address (cc) (ap (λ (u : PartitionView K V I). u.core.records.log.tail) is ∙ tail) refl
+  ends-stop (Ends.worn word tail is told) = IsWorkRefusal.no_address (cc) (ap (λ (u : PartitionView K V I). u.records.log.tail) is ∙ tail) refl
   ends-stop (Ends.full word full is told) = absurd (cc)
   ends-stop (Ends.appends word tail room is told) = absurd (cc)
 
   module _ {stands : R → Standing} where
-    asks-stop : {asking : PartitionView K V I} {wanted : ℕ} → Asks {O = O} stands v w asking wanted (Err why) → IsWorkRefusal keeps w.core.records.log.tail clock f f why
+    asks-stop : {asking : PartitionView K V I} {wanted : ℕ} → Asks {O = O} stands v w asking wanted (Err why) → IsWorkRefusal keeps w.records.log.tail clock f f why
     asks-stop (Asks.asks r held is told) = absurd (cc)
     asks-stop (Asks.unshared is told) = IsWorkRefusal.no_memory (cc) refl
 
-    checks-stop : {cmp : K → K → Ordering} {join : V → V → V} {code : K → ℕ} {x : Relocation K V} {e : Entry K V} {c now : ℕ} → ChecksLiveness {O = O} stands cmp join code v w 0 c x e now (Err why) → IsWorkRefusal keeps w.core.records.log.tail clock f f why
+    checks-stop : {cmp : K → K → Ordering} {join : V → V → V} {code : K → ℕ} {x : Relocation K V} {e : Entry K V} {c now : ℕ} → ChecksLiveness {O = O} stands cmp join code v w 0 c x e now (Err why) → IsWorkRefusal keeps w.records.log.tail clock f f why
     checks-stop (ChecksLiveness.superseded needless is told) = absurd (cc)
     checks-stop (ChecksLiveness.last kept parts checked ends) = ends-stop ends
     checks-stop (ChecksLiveness.further kept b parts checked asking) = asks-stop asking
 
 module _ {K V I O R : Type 0} {stands : R → Standing} {cmp : K → K → Ordering} {join : V → V → V} {code : K → ℕ} {v w : PartitionView K V I} {c now : ℕ} where
   module _ {keeps : Bool} {clock : ℕ} {f : Failures} {why : Refused} where
-    goes-stop : {x : Relocation K V} → relocation_at v 0 c ≡ Some x → awaited x ≡ None → GoesOn {O = O} stands cmp join code v w 0 c now (Err why) → IsWorkRefusal keeps w.core.records.log.tail clock f f why
+    goes-stop : {x : Relocation K V} → relocation_at v 0 c ≡ Some x → awaited x ≡ None → GoesOn {O = O} stands cmp join code v w 0 c now (Err why) → IsWorkRefusal keeps w.records.log.tail clock f f why
     goes-stop {x} here awaits (GoesOn.unknown none is told) = absurd (let bad : None ≡ Some x = sym none ∙ here in cc)
     goes-stop {x} here awaits (GoesOn.not_ready y a there waits is told) =
         let same : x ≡ y = same_Some x y (sym here ∙ there) in
@@ -141,35 +140,35 @@ module _ {K V I O R : Type 0} {stands : R → Standing} {cmp : K → K → Order
     goes-stop here awaits (GoesOn.checks y e there stage at low entry checks) = checks-stop checks
     goes-stop here awaits (GoesOn.reads y there stage at low asking) = asks-stop asking
 
-    pub go-stop : {g : Meanings K V I O} → IsWanted v c None → Goes stands cmp join g code v w 0 c now (Err why) → IsWorkRefusal keeps w.core.records.log.tail clock f f why
+    pub go-stop : {g : Meanings K V I O} → IsWanted v c None → Goes stands cmp join g code v w 0 c now (Err why) → IsWorkRefusal keeps w.records.log.tail clock f f why
     go-stop (IsWanted.of_none x here awaits) (Goes.on_key none does rest) = absurd (let bad : None ≡ Some x = sym none ∙ here in cc)
     go-stop (IsWanted.of_none x here awaits) (Goes.relocation y there goes) = goes-stop here awaits goes
 
   module _ {keeps : Bool} {entry : ℕ → List ℕ → ℕ → Entry K V → Type 0} {clock : ℕ} {f : Failures} {why : Refused} {j : Joined R} {s : Standing} (own : stands j.receipt ≡ s) (fine : IsTrue keeps → (page : ℕ) → why ≢ Damaged page) where
-    loads-stop : {x : Relocation K V} {wanted : ℕ} → relocation_at v 0 c ≡ Some x → awaited x ≡ Some (record { begin = v.core.records.log.begin; wanted = wanted }) → IsHeldBy v.core.records.log.receipts (page_at v.core.records.log.bits wanted) s
-        → LoadsOn {O = O} stands entry cmp join code v w 0 c (Ok j) now (Err why) → IsWorkRefusal keeps w.core.records.log.tail clock f f why
+    loads-stop : {x : Relocation K V} {wanted : ℕ} → relocation_at v 0 c ≡ Some x → awaited x ≡ Some (record { begin = v.records.log.begin; wanted = wanted }) → IsHeldBy v.records.log.receipts (page_at v.records.log.bits wanted) s
+        → LoadsOn {O = O} stands entry cmp join code v w 0 c (Ok j) now (Err why) → IsWorkRefusal keeps w.records.log.tail clock f f why
     loads-stop {x} {wanted} here awaits held (LoadsOn.unknown none is told) = absurd (let bad : None ≡ Some x = sym none ∙ here in cc)
     loads-stop {x} {wanted} here awaits held (LoadsOn.not_ready y there none is told) =
         let same : y ≡ x = same_Some y x (sym there ∙ here) in
-        absurd (let bad : None ≡ Some (record { begin = v.core.records.log.begin; wanted = wanted }) = sym none ∙ ap awaited same ∙ awaits in cc)
+        absurd (let bad : None ≡ Some (record { begin = v.records.log.begin; wanted = wanted }) = sym none ∙ ap awaited same ∙ awaits in cc)
     loads-stop here awaits held (LoadsOn.moved y a there waits begin is told) = absurd (cc)
     loads-stop here awaits held (LoadsOn.failed y wanted2 why2 waits came other is told) = absurd (cc)
     loads-stop here awaits held (LoadsOn.unread y wanted2 waits came is told) = absurd (cc)
     loads-stop {x} {wanted} here awaits held (LoadsOn.stranger y wanted2 q t waits came there other is told) =
         let same : y ≡ x = same_Some y x (sym waits.here ∙ here) in
         let place : wanted2 ≡ wanted = ap (λ (a : Awaited). a.wanted) (same_Some _ _ (sym waits.awaits ∙ ap awaited same ∙ awaits)) in
-        let mine : t ≡ s = same_Some t s (sym there ∙ ap (λ n. receipt_at v.core.records.log.receipts (page_at v.core.records.log.bits n)) place ∙ held) in
+        let mine : t ≡ s = same_Some t s (sym there ∙ ap (λ n. receipt_at v.records.log.receipts (page_at v.records.log.bits n)) place ∙ held) in
         let page : j ≡ q = cc in
         absurd (other (mine ∙ sym own ∙ ap (λ (b : Joined R). stands b.receipt) page))
     loads-stop here awaits held (LoadsOn.checks y begin q e stage has came spells checks) = checks-stop checks
-    loads-stop here awaits held (LoadsOn.damaged y begin q stage has came none is told) = misspelled-at {page = page_at v.core.records.log.bits y.target} fine (cc)
+    loads-stop here awaits held (LoadsOn.damaged y begin q stage has came none is told) = misspelled-at {page = page_at v.records.log.bits y.target} fine (cc)
     loads-stop here awaits held (LoadsOn.newer y e l q r stage has came traces live is told) = absurd (cc)
     loads-stop here awaits held (LoadsOn.ends y e l q r parts stage has came traces live ends) = ends-stop ends
     loads-stop here awaits held (LoadsOn.further y e l q b parts stage has came traces above start asking) = asks-stop asking
-    loads-stop here awaits held (LoadsOn.bad_record y e l q why2 stage has came traces is told) = misspelled-at {page = page_at v.core.records.log.bits l.wanted} fine (cc)
-    loads-stop here awaits held (LoadsOn.bad_link y e l q b parts stage has came traces above start is told) = misspelled-at {page = page_at v.core.records.log.bits l.wanted} fine (cc)
+    loads-stop here awaits held (LoadsOn.bad_record y e l q why2 stage has came traces is told) = misspelled-at {page = page_at v.records.log.bits l.wanted} fine (cc)
+    loads-stop here awaits held (LoadsOn.bad_link y e l q b parts stage has came traces above start is told) = misspelled-at {page = page_at v.records.log.bits l.wanted} fine (cc)
 
-    pub load-stop : {g : Meanings K V I O} → IsWanted v c (Some s) → Loads stands entry cmp join g code v w 0 c (Ok j) now (Err why) → IsWorkRefusal keeps w.core.records.log.tail clock f f why
+    pub load-stop : {g : Meanings K V I O} → IsWanted v c (Some s) → Loads stands entry cmp join g code v w 0 c (Ok j) now (Err why) → IsWorkRefusal keeps w.records.log.tail clock f f why
     load-stop (IsWanted.of_page x wanted s here awaits held) (Loads.on_key none does rest) = absurd (let bad : None ≡ Some x = sym none ∙ here in cc)
     load-stop (IsWanted.of_page x wanted s here awaits held) (Loads.relocation y there loads) = loads-stop here awaits held loads
 
@@ -186,7 +185,7 @@ free-slot xs i low free = by_get (slice_get xs i) refl
     by_get (Some (Some x)) e = absurd (let bad : Some x ≡ None = sym (ap joined e) ∙ free in cc)
 
 module _ {K V I : Type 0} {code : K → ℕ} {v w : PartitionView K V I} {now : ℕ} (idle : IsIdle v 0) where
-  pub issued : {c : ℕ} → length v.core.contexts ≡ 128 → Issues code v w 0 Relocate now (Ok c) → IsWanted w c None
+  pub issued : {c : ℕ} → length v.contexts ≡ 128 → Issues code v w 0 Relocate now (Ok c) → IsWanted w c None
   issued places (Issues.on_key o key h) = absurd (cc)
   issued {c} places (Issues.relocation op (Relocates.unknown none is told)) = absurd (cc)
   issued {c} places (Issues.relocation op (Relocates.not_due entered low is told)) = absurd (cc)
@@ -194,10 +193,10 @@ module _ {K V I : Type 0} {code : K → ℕ} {v w : PartitionView K V I} {now : 
   issued {c} places (Issues.relocation op (Relocates.relocates d entered low free is told)) =
       let same : d ≡ c = cc in
       let y : Relocation K V = record { number = now; target = v.cleared; stage = Fresh } in
-      let inside_it = inside (slots_of v.core) (slice_set v.core.contexts (0 * 8 + d) (Some (Relocating y))) d entered free.0 in
-      let none = free-slot v.core.contexts (0 * 8 + d) (let small = free.0 in omega (arith, places)) free.1 in
+      let inside_it = inside (slots_of v) (slice_set v.contexts (0 * 8 + d) (Some (Relocating y))) d entered free.0 in
+      let none = free-slot v.contexts (0 * 8 + d) (let small = free.0 in omega (arith, places)) free.1 in
       subst (λ n. IsWanted w n None) same (subst (λ u. IsWanted u d None) (sym is)
-      (IsWanted.of_none y (ap relocating (inside_it ∙ ap joined (get-set_same v.core.contexts (0 * 8 + d) None (Some (Relocating y)) none))) refl))
+      (IsWanted.of_none y (ap relocating (inside_it ∙ ap joined (get-set_same v.contexts (0 * 8 + d) None (Some (Relocating y)) none))) refl))
 
   pub not-issued : {why : Refused} → Issues code v w 0 Relocate now (Err why) → why ≡ NotDue
   not-issued (Issues.on_key o key h) = absurd (cc)
@@ -212,17 +211,17 @@ wanted-here (IsWanted.of_none x here awaits) = subst IsSome (sym here) refl
 wanted-here (IsWanted.of_page x wanted s here awaits held) = subst IsSome (sym here) refl
 
 -- where a page is kept by receipts, each by that of its page, it stands for its page's
-pub wanted-held : {K V I : Type 0} {v : PartitionView K V I} {c : ℕ} {s : Standing} → ((n : ℕ) (t : Standing) → IsHeldBy v.core.records.log.receipts n t → (t.page ≡ n) × (t.length ≡ 2 ^ v.core.records.log.bits)) → IsWanted v c (Some s) → IsHeldBy v.core.records.log.receipts s.page s
+pub wanted-held : {K V I : Type 0} {v : PartitionView K V I} {c : ℕ} {s : Standing} → ((n : ℕ) (t : Standing) → IsHeldBy v.records.log.receipts n t → (t.page ≡ n) × (t.length ≡ 2 ^ v.records.log.bits)) → IsWanted v c (Some s) → IsHeldBy v.records.log.receipts s.page s
 wanted-held {K} {V} {I} {v} {c} known (IsWanted.of_page x wanted s here awaits held) =
-    subst (λ n. IsHeldBy v.core.records.log.receipts n s) (sym (known (page_at v.core.records.log.bits wanted) s held).0) held
+    subst (λ n. IsHeldBy v.records.log.receipts n s) (sym (known (page_at v.records.log.bits wanted) s held).0) held
 
 -- so the page that stands for the wanted one is the one that is kept, of any page that is waited for
-pub own-waits : {K V I : Type 0} {v : PartitionView K V I} {c page : ℕ} {s t : Standing} → t ≡ s → IsWanted v c (Some s) → WaitsOn v 0 c page → IsHeldBy v.core.records.log.receipts page t
+pub own-waits : {K V I : Type 0} {v : PartitionView K V I} {c page : ℕ} {s t : Standing} → t ≡ s → IsWanted v c (Some s) → WaitsOn v 0 c page → IsHeldBy v.records.log.receipts page t
 own-waits {v = v} {page = page} {t = t} own (IsWanted.of_page x wanted s here awaits held) w =
     let same : w.relocation ≡ x = same_Some w.relocation x (sym w.awaits.here ∙ here) in
     let place : w.wanted ≡ wanted = ap (λ (a : Awaited). a.wanted) (same_Some _ _ (sym w.awaits.awaits ∙ ap awaited same ∙ awaits)) in
-    let at : page_at v.core.records.log.bits wanted ≡ page = sym (w.page_is ∙ ap (page_at v.core.records.log.bits) place) in
-    subst (λ n. IsHeldBy v.core.records.log.receipts n t) at (subst (IsHeldBy v.core.records.log.receipts (page_at v.core.records.log.bits wanted)) (sym own) held)
+    let at : page_at v.records.log.bits wanted ≡ page = sym (w.page_is ∙ ap (page_at v.records.log.bits) place) in
+    subst (λ n. IsHeldBy v.records.log.receipts n t) at (subst (IsHeldBy v.records.log.receipts (page_at v.records.log.bits wanted)) (sym own) held)
 
 -- a page that is kept by the same receipts
 pub kept-then : {R A : Type 0} (stands : R → Standing) (receipts receipts_now : List (Option Standing)) (sure : Bool) (kept : Option (Joined R)) (r : Result A Refused) → OnOk r (receipts_now ≡ receipts) → IsKeptBy stands receipts sure kept → OnOk r (IsKeptBy stands receipts_now sure kept)
@@ -239,17 +238,17 @@ module _ {K V I O R : Type 0} {stands : R → Standing} {cmp : K → K → Order
         by (Ok p) h = (go-on p wanted h).wants
         by (Err e) h = tt
 
-    pub go-receipts : OnOk r (w.core.records.log.receipts ≡ v.core.records.log.receipts)
+    pub go-receipts : OnOk r (w.records.log.receipts ≡ v.records.log.receipts)
     go-receipts = by r goes
       where
-        by : (q : Result (Progress K V I O R) Refused) → Goes stands cmp join g code v w 0 c now q → OnOk q (w.core.records.log.receipts ≡ v.core.records.log.receipts)
+        by : (q : Result (Progress K V I O R) Refused) → Goes stands cmp join g code v w 0 c now q → OnOk q (w.records.log.receipts ≡ v.records.log.receipts)
         by (Ok p) h = (go-on p wanted h).receipts
         by (Err e) h = tt
 
-    pub go-told : (keeps : Bool) (clock : ℕ) (f : Failures) → IfErr r (IsWorkRefusal keeps w.core.records.log.tail clock f f)
+    pub go-told : (keeps : Bool) (clock : ℕ) (f : Failures) → IfErr r (IsWorkRefusal keeps w.records.log.tail clock f f)
     go-told keeps clock f = by r goes
       where
-        by : (q : Result (Progress K V I O R) Refused) → Goes stands cmp join g code v w 0 c now q → IfErr q (IsWorkRefusal keeps w.core.records.log.tail clock f f)
+        by : (q : Result (Progress K V I O R) Refused) → Goes stands cmp join g code v w 0 c now q → IfErr q (IsWorkRefusal keeps w.records.log.tail clock f f)
         by (Ok p) h = tt
         by (Err e) h = go-stop wanted h
 
@@ -261,16 +260,16 @@ module _ {K V I O R : Type 0} {stands : R → Standing} {cmp : K → K → Order
         by (Ok p) h = (load-on p wanted h).wants
         by (Err e) h = tt
 
-    pub load-receipts : OnOk r (w.core.records.log.receipts ≡ v.core.records.log.receipts)
+    pub load-receipts : OnOk r (w.records.log.receipts ≡ v.records.log.receipts)
     load-receipts = by r loads
       where
-        by : (q : Result (Progress K V I O R) Refused) → Loads stands entry cmp join g code v w 0 c (Ok j) now q → OnOk q (w.core.records.log.receipts ≡ v.core.records.log.receipts)
+        by : (q : Result (Progress K V I O R) Refused) → Loads stands entry cmp join g code v w 0 c (Ok j) now q → OnOk q (w.records.log.receipts ≡ v.records.log.receipts)
         by (Ok p) h = (load-on p wanted h).receipts
         by (Err e) h = tt
 
-    pub load-told : (keeps : Bool) (clock : ℕ) (f : Failures) → (IsTrue keeps → (page : ℕ) → r ≢ Err (Damaged page)) → IfErr r (IsWorkRefusal keeps w.core.records.log.tail clock f f)
+    pub load-told : (keeps : Bool) (clock : ℕ) (f : Failures) → (IsTrue keeps → (page : ℕ) → r ≢ Err (Damaged page)) → IfErr r (IsWorkRefusal keeps w.records.log.tail clock f f)
     load-told keeps clock f fine = by r fine loads
       where
-        by : (q : Result (Progress K V I O R) Refused) → (IsTrue keeps → (page : ℕ) → q ≢ Err (Damaged page)) → Loads stands entry cmp join g code v w 0 c (Ok j) now q → IfErr q (IsWorkRefusal keeps w.core.records.log.tail clock f f)
+        by : (q : Result (Progress K V I O R) Refused) → (IsTrue keeps → (page : ℕ) → q ≢ Err (Damaged page)) → Loads stands entry cmp join g code v w 0 c (Ok j) now q → IfErr q (IsWorkRefusal keeps w.records.log.tail clock f f)
         by (Ok p) ok h = tt
         by (Err e) ok h = load-stop own (λ yes_keeps page is. ok yes_keeps page (ap Err is)) wanted h

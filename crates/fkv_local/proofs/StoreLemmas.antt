@@ -15,9 +15,8 @@ use Rattle.fkv_operations.specs.declared.operations.KeyedOp.{KeyedOp}
 use Rattle.fkv_operations.specs.declared.operations.KeyedOp.TheVariants.{Rmw, Merge}
 use Rattle.fkv_operations.specs.declared.operations.Answer.{Answer}
 use Rattle.fkv_partition.specs.declared.limits.Config.{Config}
-use Rattle.fkv_partition.specs.CoreViews.{live_of, partition_of}
+use Rattle.fkv_partition.specs.Views.{live_of, partition_of, PartitionView}
 use Rattle.fkv_partition.specs.Unions.{live_at, union_of}
-use Rattle.fkv_partition.specs.Views.{PartitionView}
 use Rattle.fkv_partition.proofs.UnionLemmas.{live-after, live-quiet, answer-here}
 use Rattle.fkv_functions.specs.Plain.{Same}
 use Rattle.fkv_local.specs.Resting.{IsIdle, StaysIdle, AreNew, AreAtRest}
@@ -29,7 +28,7 @@ use Rattle.fkv_local.specs.Reading.{records_of, ReadsFew}
 use Rattle.fkv_local.proofs.PartLemmas.{view-get, view-length, view-set}
 
 module _ {K V I : Type 0} where
-  none-live : (cmp : K → K → Ordering) (o : Option (PartitionView K V I)) (k : K) → ((v : PartitionView K V I) → o ≡ Some v → live_of cmp v.core k ≡ None) → live_at cmp o k ≡ None
+  none-live : (cmp : K → K → Ordering) (o : Option (PartitionView K V I)) (k : K) → ((v : PartitionView K V I) → o ≡ Some v → live_of cmp v k ≡ None) → live_at cmp o k ≡ None
   none-live cmp None k h = refl
   none-live cmp (Some v) k h = h v refl
 
@@ -47,21 +46,21 @@ module _ {K V I : Type 0} where
   }
 
   pub rests-set : (views : List (PartitionView K V I)) (now then p : ℕ) (old new : PartitionView K V I) → AreAtRest views now → slice_get views p ≡ Some old
-      → new.core.number ≡ old.core.number → new.core.count ≡ old.core.count → new.core.moment ≤ then → now ≤ then → IsIdle new 0 → AreAtRest (slice_set views p new) then
+      → new.number ≡ old.number → new.count ≡ old.count → new.moment ≤ then → now ≤ then → IsIdle new 0 → AreAtRest (slice_set views p new) then
   rests-set views now then p old new rest here number count past later idle = record {
     some = rw (length-set views p new) rest.some;
     begun = (let b = rest.begun in omega arith);
     numbered = λ q v h. elim (get-set_cases views p q new v h) [
-      | inl c ↦ ap (λ (u : PartitionView K V I). u.core.number) (sym c.1) ∙ number ∙ rest.numbered p old here ∙ sym c.0
+      | inl c ↦ ap (λ (u : PartitionView K V I). u.number) (sym c.1) ∙ number ∙ rest.numbered p old here ∙ sym c.0
       | inr c ↦ rest.numbered q v c
     ];
     counted = λ q v h. elim (get-set_cases views p q new v h) [
-      | inl c ↦ ap (λ (u : PartitionView K V I). u.core.count) (sym c.1) ∙ count ∙ rest.counted p old here ∙ sym (length-set views p new)
+      | inl c ↦ ap (λ (u : PartitionView K V I). u.count) (sym c.1) ∙ count ∙ rest.counted p old here ∙ sym (length-set views p new)
       | inr c ↦ rest.counted q v c ∙ sym (length-set views p new)
     ];
     past = λ q v h. elim (get-set_cases views p q new v h) [
-      | inl c ↦ (let m : v.core.moment ≡ new.core.moment = ap (λ (u : PartitionView K V I). u.core.moment) (sym c.1) in omega arith)
-      | inr c ↦ (let m : v.core.moment ≤ now = rest.past q v c in omega arith)
+      | inl c ↦ (let m : v.moment ≡ new.moment = ap (λ (u : PartitionView K V I). u.moment) (sym c.1) in omega arith)
+      | inr c ↦ (let m : v.moment ≤ now = rest.past q v c in omega arith)
     ];
     idle = λ q v h. elim (get-set_cases views p q new v h) [
       | inl c ↦ subst (λ (u : PartitionView K V I). IsIdle u 0) c.1 idle
@@ -111,18 +110,18 @@ module _ {K V I S : Type 0} (view : S → PartitionView K V I) (code : K → ℕ
     pub home-idle : IsIdle (view x) 0
     home-idle = rest.idle home (view x) there
 
-    pub home-past : (view x).core.moment ≤ now
+    pub home-past : (view x).moment ≤ now
     home-past = rest.past home (view x) there
 
     at-views : (k : K) → home ≡ partition_of (length views) (code k) → partition_of (length (map view items)) (code k) ≡ home
     at-views k at = ap (λ vs. partition_of (length vs) (code k)) is ∙ sym at
 
-    pub home-own : (k : K) → home ≡ partition_of (length views) (code k) → partition_of (view x).core.count (code k) ≡ (view x).core.number
+    pub home-own : (k : K) → home ≡ partition_of (length views) (code k) → partition_of (view x).count (code k) ≡ (view x).number
     home-own k at = ap (λ n. partition_of n (code k)) (rest.counted home (view x) there) ∙ at-views k at ∙ sym (rest.numbered home (view x) there)
 
     -- with the partition as a call leaves it
     module _ (y : S) (then : ℕ) where
-      pub home-rests : (view y).core.number ≡ (view x).core.number → (view y).core.count ≡ (view x).core.count → IsIdle (view y) 0 → (view y).core.moment ≤ then → now ≤ then → AreAtRest (map view (slice_set items home y)) then
+      pub home-rests : (view y).number ≡ (view x).number → (view y).count ≡ (view x).count → IsIdle (view y) 0 → (view y).moment ≤ then → now ≤ then → AreAtRest (map view (slice_set items home y)) then
       home-rests number count idle past later =
           subst (λ vs. AreAtRest vs then) (sym (view-set view items home y)) (rests-set (map view items) now then home (view x) (view y) rest there number count past later idle)
 
@@ -183,7 +182,7 @@ module _ {K V I W P S : Type 0} (view : S → PartitionView K V I) (writer : S �
   module _ (writes : W → ℕ) (reads : P → ℕ) where
     -- why an operation is refused
     pub home-refusal : {keeps merges : Bool} (code : K → ℕ) (op : KeyedOp K V I) (k : K) → home ≡ partition_of (length self.parts) (code k) → k ≡ key_of op
-        → (e : Refused) → IsRefusedBy keeps merges keeps_log writes reads op (view y).core.records.log.tail then (writer x) (reader x) (writer y) (reader y) e
+        → (e : Refused) → IsRefusedBy keeps merges keeps_log writes reads op (view y).records.log.tail then (writer x) (reader x) (writer y) (reader y) e
         → IsRefusal keeps merges code writes reads self (of_items view writer reader (slice_set items home y) config keeps_log then) op e
     home-refusal {keeps} {merges} code op k at key e h =
         let sized : length (map view (slice_set items home y)) ≡ length self.parts = view-length view (slice_set items home y) ∙ length-set items home y ∙ sym (view-length view items) ∙ ap length (parts-is is) in
@@ -198,21 +197,21 @@ module _ {K V I W P S : Type 0} (view : S → PartitionView K V I) (writer : S �
           ends = subst (λ p. HasEnds self p (writer x) (reader x)) (sym own) ends-were;
           ends_now = subst (λ p. HasEnds (of_items view writer reader (slice_set items home y) config keeps_log then) p (writer y) (reader y)) (sym own) ends-are;
           others = λ p apart. others-stay p (λ same. apart (same ∙ sym own));
-          refused = subst (λ (s : StoreView K V I W P). IsRefusedBy keeps merges s.keeps_log writes reads op (view y).core.records.log.tail then (writer x) (reader x) (writer y) (reader y) e) is h;
+          refused = subst (λ (s : StoreView K V I W P). IsRefusedBy keeps merges s.keeps_log writes reads op (view y).records.log.tail then (writer x) (reader x) (writer y) (reader y) e) is h;
         }
 
     -- how many pages it reads
     pub home-loads : (code : K → ℕ) (op : KeyedOp K V I) (k : K) → home ≡ partition_of (length self.parts) (code k) → k ≡ key_of op
-        → reads (reader y) ≤ reads (reader x) + 2 * records_of code (view x).core.records (key_of op)
+        → reads (reader y) ≤ reads (reader x) + 2 * records_of code (view x).records (key_of op)
         → ReadsFew code reads self (of_items view writer reader (slice_set items home y) config keeps_log then) op
     home-loads code op k at key few = record {
       here = λ part r r_now p q s.
           (let was : view x ≡ part = same_Some (view x) part (sym (subst (λ (t : StoreView K V I W P). slice_get t.parts home ≡ Some (view x)) is (view-get view items home x here)) ∙ sym (ap (slice_get self.parts) own) ∙ p) in
           let read : reader x ≡ r = same_Some (reader x) r (sym ends-were.1 ∙ sym (ap (slice_get self.readers) own) ∙ q) in
           let read_now : reader y ≡ r_now = same_Some (reader y) r_now (sym ends-are.1 ∙ sym (ap (slice_get (map reader (slice_set items home y))) own) ∙ s) in
-          subst (λ (v : PartitionView K V I). reads r_now ≤ reads r + 2 * records_of code v.core.records (key_of op)) was
-          (subst (λ a. reads r_now ≤ reads a + 2 * records_of code (view x).core.records (key_of op)) read
-          (subst (λ a. reads a ≤ reads (reader x) + 2 * records_of code (view x).core.records (key_of op)) read_now few)));
+          subst (λ (v : PartitionView K V I). reads r_now ≤ reads r + 2 * records_of code v.records (key_of op)) was
+          (subst (λ a. reads r_now ≤ reads a + 2 * records_of code (view x).records (key_of op)) read
+          (subst (λ a. reads a ≤ reads (reader x) + 2 * records_of code (view x).records (key_of op)) read_now few)));
       others = λ p apart. (others-stay p (λ same. apart (same ∙ sym own))).reader;
     }
       where
@@ -220,7 +219,7 @@ module _ {K V I W P S : Type 0} (view : S → PartitionView K V I) (writer : S �
         own = ap (λ q. partition_of (length self.parts) (code q)) (sym key) ∙ sym at
 
     -- why a log is not compacted
-    pub home-uncompacted : {keeps : Bool} (e : Refused) → IsWorkRefusal keeps (view y).core.records.log.tail then (failures_of writes reads (writer x) (reader x)) (failures_of writes reads (writer y) (reader y)) e
+    pub home-uncompacted : {keeps : Bool} (e : Refused) → IsWorkRefusal keeps (view y).records.log.tail then (failures_of writes reads (writer x) (reader x)) (failures_of writes reads (writer y) (reader y)) e
         → IsUncompactedAt keeps writes reads self (of_items view writer reader (slice_set items home y) config keeps_log then) home e
     home-uncompacted e h = record {
       part = view y;
@@ -241,14 +240,14 @@ module _ {K V I W P S : Type 0} (view : S → PartitionView K V I) (writer : S �
     )
 
   -- what a compaction leaves there
-  begun : begin_at self home ≡ Some (view x).core.records.log.begin
-  begun = subst (λ (s : StoreView K V I W P). begin_at s home ≡ Some (view x).core.records.log.begin) is (ap (option_map (λ (v : PartitionView K V I). v.core.records.log.begin)) (view-get view items home x here))
+  begun : begin_at self home ≡ Some (view x).records.log.begin
+  begun = subst (λ (s : StoreView K V I W P). begin_at s home ≡ Some (view x).records.log.begin) is (ap (option_map (λ (v : PartitionView K V I). v.records.log.begin)) (view-get view items home x here))
 
-  begins : begin_at (of_items view writer reader (slice_set items home y) config keeps_log then) home ≡ Some (view y).core.records.log.begin
-  begins = ap (option_map (λ (v : PartitionView K V I). v.core.records.log.begin)) (view-get view (slice_set items home y) home y now-there)
+  begins : begin_at (of_items view writer reader (slice_set items home y) config keeps_log then) home ≡ Some (view y).records.log.begin
+  begins = ap (option_map (λ (v : PartitionView K V I). v.records.log.begin)) (view-get view (slice_set items home y) home y now-there)
 
   pub home-cut : WasCut (view x) (view y) true → IsCutAt self (of_items view writer reader (slice_set items home y) config keeps_log then) home
-  home-cut risen = record { begin = (view x).core.records.log.begin; begin_now = (view y).core.records.log.begin; was = begun; is = begins; risen = risen }
+  home-cut risen = record { begin = (view x).records.log.begin; begin_now = (view y).records.log.begin; was = begun; is = begins; risen = risen }
 
   pub home-uncut : WasCut (view x) (view y) false → begin_at (of_items view writer reader (slice_set items home y) config keeps_log then) home ≡ begin_at self home
   home-uncut same = begins ∙ ap Some same ∙ sym begun
@@ -275,7 +274,7 @@ module _ {K V I W P : Type 0} {v w : StoreView K V I W P} {home : ℕ} where
   begin-stays others same p = by (nat_lt p home) (nat_lt home p) refl refl
     where
       other : p ≢ home → begin_at w p ≡ begin_at v p
-      other apart = ap (option_map (λ (x : PartitionView K V I). x.core.records.log.begin)) (others p apart).part
+      other apart = ap (option_map (λ (x : PartitionView K V I). x.records.log.begin)) (others p apart).part
 
       by : (a b : Bool) → nat_lt p home ≡ a → nat_lt home p ≡ b → begin_at w p ≡ begin_at v p
       by true b q r = other (λ e. absurd (let l : p < home = grind (arith, nat_tests) in omega arith))
@@ -284,7 +283,7 @@ module _ {K V I W P : Type 0} {v w : StoreView K V I W P} {home : ℕ} where
 
   -- the log at a place is the first of which the start is cut there
   pub cut-here : {u : StoreView K V I W P} → StaysAt u v home → IsCutAt v w home → IsCutAt u w home
-  cut-here stays c = record { begin = c.begin; begin_now = c.begin_now; was = sym (ap (option_map (λ (x : PartitionView K V I). x.core.records.log.begin)) stays.part) ∙ c.was; is = c.is; risen = c.risen }
+  cut-here stays c = record { begin = c.begin; begin_now = c.begin_now; was = sym (ap (option_map (λ (x : PartitionView K V I). x.records.log.begin)) stays.part) ∙ c.was; is = c.is; risen = c.risen }
 
   pub cut-still : (u : StoreView K V I W P) (b : Bool) → AnyIsCut u v b → ((p : ℕ) → p ≢ home → StaysAt v w p) → begin_at w home ≡ begin_at v home → AnyIsCut u w b
   cut-still u true c others same = (c.0, record { begin = c.1.begin; begin_now = c.1.begin_now; was = c.1.was; is = begin-stays others same c.0 ∙ c.1.is; risen = c.1.risen })

@@ -5,11 +5,10 @@ use Rattle.fkv_functions.specs.declared.refusals.Refused.{Refused}
 use Rattle.fkv_functions.specs.declared.refusals.Refused.TheVariants.{Worn}
 use Rattle.fkv_texts.specs.Text.{live}
 use Rattle.fkv_device.specs.Standing.{Standing}
-use Rattle.fkv_partition.specs.CoreContexts.{is_session}
-use Rattle.fkv_partition.specs.CoreFlushing as flushing
-use Rattle.fkv_partition.specs.CoreViews.{CoreView, slots_of}
+use Rattle.fkv_partition.specs.Contexts.{is_session}
+use Rattle.fkv_partition.specs.Flushing as flushing
+use Rattle.fkv_partition.specs.Views.{PartitionView, slots_of, at_moment}
 use Rattle.fkv_partition.specs.Events.{Flushes}
-use Rattle.fkv_partition.specs.Views.{PartitionView, at_moment}
 use Rattle.fkv_local.specs.Causing.{IsCausedBy}
 use Rattle.fkv_local.specs.Clearing.{WasCut}
 use Rattle.fkv_local.specs.Failures.{Failures}
@@ -46,31 +45,31 @@ module _ {K V I : Type 0} {keeps : Bool} {cmp : K → K → Ordering} where
   pub flush-tidied : {v w : PartitionView K V I} {s : Standing} {bytes : List ℕ} {now : ℕ} {r : Result _ Refused} → Flushes v w s bytes now r → IsTidied keeps cmp v w
   flush-tidied {v} {w} {s} {bytes} {now} {r} h = by h.does
     where
-      same-core : w.core ≡ v.core → IsTidied keeps cmp v w
+      same-core : w ≡ v → IsTidied keeps cmp v w
       same-core same = record {
-        number = ap (λ (u : CoreView K V I). u.number) same;
-        count = ap (λ (u : CoreView K V I). u.count) same;
-        sessions = λ s. ap (λ (u : CoreView K V I). is_session (slots_of u) s) same;
-        contexts = ap (λ (u : CoreView K V I). u.contexts) same;
-        begin = ap (λ (u : CoreView K V I). u.records.log.begin) same;
-        live = λ k q. ap (λ (u : CoreView K V I). live cmp u.records.text q) same;
+        number = ap (λ (u : PartitionView K V I). u.number) same;
+        count = ap (λ (u : PartitionView K V I). u.count) same;
+        sessions = λ s. ap (λ (u : PartitionView K V I). is_session (slots_of u) s) same;
+        contexts = ap (λ (u : PartitionView K V I). u.contexts) same;
+        begin = ap (λ (u : PartitionView K V I). u.records.log.begin) same;
+        live = λ k q. ap (λ (u : PartitionView K V I). live cmp u.records.text q) same;
       }
 
-      by : flushing.Flushes v.core w.core s bytes now r → IsTidied keeps cmp v w
+      by : flushing.Flushes v w s bytes now r → IsTidied keeps cmp v w
       by (flushing.Flushes.refused why a same t) = same-core same
       by (flushing.Flushes.unkept a same t) = same-core same
       by (flushing.Flushes.keeps a is t) = record {
-        number = ap (λ (u : CoreView K V I). u.number) is;
-        count = ap (λ (u : CoreView K V I). u.count) is;
-        sessions = λ s. ap (λ (u : CoreView K V I). is_session (slots_of u) s) is;
-        contexts = ap (λ (u : CoreView K V I). u.contexts) is;
-        begin = ap (λ (u : CoreView K V I). u.records.log.begin) is;
-        live = λ k q. ap (λ (u : CoreView K V I). live cmp u.records.text q) is;
+        number = ap (λ (u : PartitionView K V I). u.number) is;
+        count = ap (λ (u : PartitionView K V I). u.count) is;
+        sessions = λ s. ap (λ (u : PartitionView K V I). is_session (slots_of u) s) is;
+        contexts = ap (λ (u : PartitionView K V I). u.contexts) is;
+        begin = ap (λ (u : PartitionView K V I). u.records.log.begin) is;
+        live = λ k q. ap (λ (u : PartitionView K V I). live cmp u.records.text q) is;
       }
 
 -- the start of a log was cut, from where it began before pages moved
-pub cut-since : {K V I : Type 0} (u v w : PartitionView K V I) (r : Result Bool Refused) → v.core.records.log.begin ≡ u.core.records.log.begin → IfOk r (WasCut v w) → IfOk r (WasCut u w)
-cut-since u v w (Ok true) same h = subst (λ n. n < w.core.records.log.begin) same h
+pub cut-since : {K V I : Type 0} (u v w : PartitionView K V I) (r : Result Bool Refused) → v.records.log.begin ≡ u.records.log.begin → IfOk r (WasCut v w) → IfOk r (WasCut u w)
+cut-since u v w (Ok true) same h = subst (λ n. n < w.records.log.begin) same h
 cut-since u v w (Ok false) same h = h ∙ same
 cut-since u v w (Err e) same h = tt
 

@@ -15,7 +15,7 @@ use Rattle.fkv_lookups.specs.declared.decisions.LookupResult.{LookupResult}
 use Rattle.fkv_lookups.specs.declared.decisions.LookupResult.TheVariants.{NoEntry, NoValue, ReadOnly, Fuzzy, Mutable, OnDisk}
 use Rattle.fkv_lookups.specs.declared.decisions.Decision.{Decision}
 use Rattle.fkv_lookups.specs.declared.decisions.Decision.TheVariants as decided
-use Rattle.fkv_partition.specs.CoreViews.{CoreView, seen_at}
+use Rattle.fkv_partition.specs.Views.{PartitionView, seen_at}
 use Rattle.fkv_partition.specs.declared.contexts.Context.{Context}
 use Rattle.fkv_partition.specs.declared.contexts.Wait.{Wait}
 use Rattle.fkv_alone.specs.Stages.{IsHeldUp}
@@ -98,7 +98,7 @@ module _ {K V I O : Type 0} (f : Meanings K V I O) where
   never-waits (Merge k i) (Mutable w) n h = not-merged (f.next k w i) h
   never-waits (Merge k i) (OnDisk b c) n h = not-parted (f.first k i) h
 
-module _ {K V I O : Type 0} (cmp : K → K → Ordering) (join : V → V → V) (f : Meanings K V I O) (code : K → ℕ) (v : CoreView K V I) (slot : ℕ) (same : (seen_at v slot).safe_read_only ≡ (seen_at v slot).read_only) where
+module _ {K V I O : Type 0} (cmp : K → K → Ordering) (join : V → V → V) (f : Meanings K V I O) (code : K → ℕ) (v : PartitionView K V I) (slot : ℕ) (same : (seen_at v slot).safe_read_only ≡ (seen_at v slot).read_only) where
   met-safe : (k : K) (o : Option ℕ) → IsSafe (met_from cmp join code v.records (seen_at v slot) k o)
   met-safe k None = tt
   met-safe k (Some a) = on-chain join v.records.log.begin (seen_at v slot) same _ _

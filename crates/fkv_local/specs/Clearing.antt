@@ -17,8 +17,8 @@ pub data IsWanted {K V I : Type 0} (v : PartitionView K V I) (c : ℕ) : Option 
   of_none : (x : Relocation K V) → relocation_at v 0 c ≡ Some x → awaited x ≡ None → IsWanted v c None
   of_page : (x : Relocation K V) (wanted : ℕ) (s : Standing)
       → relocation_at v 0 c ≡ Some x
-      → awaited x ≡ Some (record { begin = v.core.records.log.begin; wanted = wanted })
-      → IsHeldBy v.core.records.log.receipts (page_at v.core.records.log.bits wanted) s
+      → awaited x ≡ Some (record { begin = v.records.log.begin; wanted = wanted })
+      → IsHeldBy v.records.log.receipts (page_at v.records.log.bits wanted) s
       → IsWanted v c (Some s)
 
 -- by what an event told, where the relocation is to go on
@@ -35,8 +35,8 @@ IsKeptBy stands receipts sure kept = IsTrue sure → IfSome kept (λ p. IsHeldBy
 
 -- whether the start of a log was cut: Begin has risen, or stays
 abbrev pub WasCut : {K V I : Type 0} → PartitionView K V I → PartitionView K V I → Bool → Type 0
-WasCut old new true = old.core.records.log.begin < new.core.records.log.begin
-WasCut old new false = new.core.records.log.begin ≡ old.core.records.log.begin
+WasCut old new true = old.records.log.begin < new.records.log.begin
+WasCut old new false = new.records.log.begin ≡ old.records.log.begin
 
 -- no more of a log can be cut: no page starts above Begin whose records below are cleared and left memory
 abbrev pub IsAllCut : {K V I : Type 0} → PartitionView K V I → Type 0
@@ -45,8 +45,8 @@ IsAllCut v = (page : ℕ) → ¬ IsDue v page
 -- WHAT HAD LEFT MEMORY IS GIVEN BACK: Begin has come to the page where Head was, so each page below that is dropped
 abbrev pub IsGivenBack : {K V I : Type 0} → PartitionView K V I → PartitionView K V I → Type 0
 IsGivenBack old new =
-    start_at old.core.records.log.bits (page_at old.core.records.log.bits old.core.records.log.regions.offsets.head)
-    ≤ new.core.records.log.begin
+    start_at old.records.log.bits (page_at old.records.log.bits old.records.log.regions.offsets.head)
+    ≤ new.records.log.begin
 
 -- of each log
 abbrev pub IsAllGivenBack : {K V I W P : Type 0} → StoreView K V I W P → StoreView K V I W P → Type 0
@@ -57,7 +57,7 @@ IsAllGivenBack {K} {V} {I} old new = (place : ℕ) (v w : PartitionView K V I)
 
 -- whether the start of any log was cut
 abbrev pub begin_at : {K V I W P : Type 0} → StoreView K V I W P → ℕ → Option ℕ
-begin_at s place = option_map (λ v. v.core.records.log.begin) (slice_get s.parts place)
+begin_at s place = option_map (λ v. v.records.log.begin) (slice_get s.parts place)
 
 pub record IsCutAt {K V I W P : Type 0} (old new : StoreView K V I W P) (place : ℕ) : Type 0 where
   pub begin : ℕ

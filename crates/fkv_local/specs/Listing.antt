@@ -5,9 +5,8 @@ use Rattle.fkv_functions.specs.Plain.{PlainMap}
 use Rattle.fkv_functions.specs.declared.refusals.Refused.{Refused}
 use Rattle.fkv_records.specs.Places.{page_at}
 use Rattle.fkv_hybrid.specs.Scans.{IsScanRefusal}
-use Rattle.fkv_partition.specs.CoreViews.{partition_of}
+use Rattle.fkv_partition.specs.Views.{partition_of, PartitionView}
 use Rattle.fkv_partition.specs.Unions.{live_at}
-use Rattle.fkv_partition.specs.Views.{PartitionView}
 use Rattle.fkv_local.specs.Storing.{StoreView}
 
 -- lists that are still to come: the partitions that are left, what reads their pages, and how many partitions the store had
@@ -31,8 +30,8 @@ left cmp code l k = live_at cmp (slice_get l.parts (partition_of l.count (code k
 -- the partitions that are left stand in their places, and say how many there were
 pub record AreLeft {K V I : Type 0} (views : List (PartitionView K V I)) (count : ℕ) : Type 0 where
   pub some : 0 < count
-  pub numbered : (p : ℕ) (v : PartitionView K V I) → slice_get views p ≡ Some v → v.core.number ≡ p
-  pub counted : (p : ℕ) (v : PartitionView K V I) → slice_get views p ≡ Some v → v.core.count ≡ count
+  pub numbered : (p : ℕ) (v : PartitionView K V I) → slice_get views p ≡ Some v → v.number ≡ p
+  pub counted : (p : ℕ) (v : PartitionView K V I) → slice_get views p ≡ Some v → v.count ≡ count
 
 -- A LIST IS ITS PARTITION'S PART OF THE MAP. Each key whose hash names that partition has in it what it had in what was to be
 -- listed, and no other key is in it; what is left has the other keys as before.
@@ -54,8 +53,8 @@ pub record IsUnlistedAt {K V I P : Type 0} (keeps : Bool) (reads : P → ℕ) (p
   pub now : slice_get readers_now place ≡ Some reader_now
   pub before : map reads (take place readers_now) ≡ map reads (take place readers)
   pub behind : drop (suc place) readers_now ≡ drop (suc place) readers
-  pub refused : IsScanRefusal keeps (page_at view.core.records.log.bits view.core.records.log.begin)
-      (length view.core.records.log.receipts) (reads reader) (reads reader_now) why
+  pub refused : IsScanRefusal keeps (page_at view.records.log.bits view.records.log.begin)
+      (length view.records.log.receipts) (reads reader) (reads reader_now) why
 
 -- why the live keys of a store are not listed: one of its partitions is not
 abbrev pub IsUnlisted : {K V I P : Type 0} → Bool → (P → ℕ) → List (PartitionView K V I) → List P → List P → Refused → Type 0

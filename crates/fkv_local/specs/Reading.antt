@@ -20,5 +20,5 @@ pub record ReadsFew {K V I W P : Type 0} (code : K → ℕ) (reads : P → ℕ) 
       → slice_get old.parts (home_of code old op) ≡ Some part
       → slice_get old.readers (home_of code old op) ≡ Some reader
       → slice_get new.readers (home_of code old op) ≡ Some reader_now
-      → reads reader_now ≤ reads reader + 2 * records_of code part.core.records (key_of op)
+      → reads reader_now ≤ reads reader + 2 * records_of code part.records (key_of op)
   pub others : (place : ℕ) → place ≢ home_of code old op → slice_get new.readers place ≡ slice_get old.readers place

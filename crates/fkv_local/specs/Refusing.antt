@@ -5,8 +5,7 @@ use Rattle.fkv_functions.specs.declared.refusals.Refused.TheVariants.{NoMemory, 
 use Rattle.fkv_device.specs.Failing.{FailsOnlyBy, ReadFailsBy}
 use Rattle.fkv_operations.specs.After.{key_of, is_merge}
 use Rattle.fkv_operations.specs.declared.operations.KeyedOp.{KeyedOp}
-use Rattle.fkv_partition.specs.CoreViews.{partition_of}
-use Rattle.fkv_partition.specs.Views.{PartitionView}
+use Rattle.fkv_partition.specs.Views.{partition_of, PartitionView}
 use Rattle.fkv_local.specs.Failures.{Failures, failures_of, IsBeside}
 use Rattle.fkv_local.specs.Storing.{StoreView}
 
@@ -91,7 +90,7 @@ pub record IsRefusal {K V I W P : Type 0} (keeps merges : Bool) (code : K → �
   pub ends : HasEnds old (home_of code new op) writer reader
   pub ends_now : HasEnds new (home_of code new op) writer_now reader_now
   pub others : (place : ℕ) → place ≢ home_of code new op → StaysAt old new place
-  pub refused : IsRefusedBy keeps merges old.keeps_log writes reads op part.core.records.log.tail new.moments
+  pub refused : IsRefusedBy keeps merges old.keeps_log writes reads op part.records.log.tail new.moments
       writer reader writer_now reader_now why
 
 -- why the log at this place is not compacted, and what its writer and its reader counted
@@ -105,7 +104,7 @@ pub record IsUncompactedAt {K V I W P : Type 0} (keeps : Bool) (writes : W → �
   pub here : slice_get new.parts place ≡ Some part
   pub ends : HasEnds old place writer reader
   pub ends_now : HasEnds new place writer_now reader_now
-  pub refused : IsWorkRefusal keeps part.core.records.log.tail new.moments (failures_of writes reads writer reader)
+  pub refused : IsWorkRefusal keeps part.records.log.tail new.moments (failures_of writes reads writer reader)
       (failures_of writes reads writer_now reader_now) why
 
 -- WHY A COMPACTION IS REFUSED: by the log at this place. No writer or reader before it has failed, and what is behind it is as it

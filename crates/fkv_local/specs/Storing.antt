@@ -11,8 +11,7 @@ use Rattle.fkv_operations.specs.declared.operations.KeyedOp.{KeyedOp}
 use Rattle.fkv_operations.specs.declared.operations.KeyedOp.TheVariants.{Rmw, Merge}
 use Rattle.fkv_operations.specs.declared.operations.Answer.{Answer}
 use Rattle.fkv_partition.specs.declared.limits.Config.{Config}
-use Rattle.fkv_partition.specs.CoreViews.{live_of}
-use Rattle.fkv_partition.specs.Views.{PartitionView}
+use Rattle.fkv_partition.specs.Views.{live_of, PartitionView}
 use Rattle.fkv_partition.specs.Unions.{union_of}
 use Rattle.fkv_local.specs.Resting.{IsIdle}
 
@@ -49,10 +48,10 @@ IsUpdateRun cmp f old new k i result = IsRun cmp f old new (Rmw k i) result ⊎ 
 -- the same of one partition, whose session has nothing open before and after
 pub record Runs {K V I O : Type 0} (keeps : Bool) (cmp : K → K → Ordering) (f : Meanings K V I O)
     (old new : PartitionView K V I) (op : KeyedOp K V I) (result : Result (Answer O) Refused) : Type 0 where
-  pub number : new.core.number ≡ old.core.number
-  pub count : new.core.count ≡ old.core.count
+  pub number : new.number ≡ old.number
+  pub count : new.count ≡ old.count
   pub idle : IsIdle new 0
-  pub effect : IsTrue keeps → IsRun cmp f (live_of cmp old.core) (live_of cmp new.core) op result
+  pub effect : IsTrue keeps → IsRun cmp f (live_of cmp old) (live_of cmp new) op result
 
 abbrev pub Updates : {K V I O : Type 0} → Bool → (K → K → Ordering) → Meanings K V I O → PartitionView K V I → PartitionView K V I
     → K → I → Result (Answer O) Refused → Type 0
@@ -60,10 +59,10 @@ Updates keeps cmp f old new k i result = Runs keeps cmp f old new (Rmw k i) resu
 
 -- the bytes of a log from its beginning to its tail, and those of them that are below Head
 abbrev pub log_bytes : {K V I : Type 0} → PartitionView K V I → ℕ
-log_bytes v = v.core.records.log.tail - v.core.records.log.begin
+log_bytes v = v.records.log.tail - v.records.log.begin
 
 abbrev pub evicted_bytes : {K V I : Type 0} → PartitionView K V I → ℕ
-evicted_bytes v = v.core.records.log.regions.offsets.head - v.core.records.log.begin
+evicted_bytes v = v.records.log.regions.offsets.head - v.records.log.begin
 
 -- Why a store is not opened, by the count of the device's failures: the configuration is outside its limits, which asks nothing
 -- of the device; there is no memory; or the device does not open the pages of a partition.

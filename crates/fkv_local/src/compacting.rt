@@ -159,26 +159,26 @@ fn event<F: Mergeable, D: Disk>(
 ) -> Result<ProgressOf<F, D::Receipt>, Refused>
     requires only { IsIdleBut shard.old.part.partition 0 context }
     requires wanted { IsWanted shard.old.part.partition context (option_map D.Receipt.stands wanted.now.receipt) }
-    requires kept { IsKeptBy D.Receipt.stands shard.old.part.partition.core.records.log.receipts
+    requires kept { IsKeptBy D.Receipt.stands shard.old.part.partition.records.log.receipts
         kept.old.is_sure kept.old.page }
-    requires past { shard.old.part.partition.core.moment ≤ clock.old }
+    requires past { shard.old.part.partition.moment ≤ clock.old }
     requires numbered { D.Writer.next shard.old.part.writer ≤ clock.old }
     requires spare { clock.old + 1 < 2 ^ 64 }
     ensures stays { StaysIdleBut D.Receipt.keeps F.Key.cmp shard.old.part.partition shard.new.part.partition context }
     ensures onward { IsOnward shard.old.part.partition shard.new.part.partition }
-    ensures passed { IsPassed shard.new.part.partition.core.moment clock.old clock.new }
+    ensures passed { IsPassed shard.new.part.partition.moment clock.old clock.new }
     ensures numbered { D.Writer.next shard.new.part.writer ≤ clock.new }
     ensures caused { IsTrue D.Receipt.keeps → IfErr result
         (IsCausedBy (CanFailToWrite D.Writer.next D.Writer.can_fail) (CanFailToRead D.Receipt.stands D.Reader.can_fail)) }
     ensures spare { clock.new + 1 < 2 ^ 64 }
     ensures wants { IfOk result (λ progress. WantsThen D.Receipt.stands shard.new.part.partition context progress) }
-    ensures kept { OnOk result (IsKeptBy D.Receipt.stands shard.new.part.partition.core.records.log.receipts
+    ensures kept { OnOk result (IsKeptBy D.Receipt.stands shard.new.part.partition.records.log.receipts
         kept.new.is_sure kept.new.page) }
     ensures same_writer { shard.new.part.writer ≡ shard.old.part.writer }
     ensures steady { OnOk result (D.Reader.failures shard.new.reader ≡ D.Reader.failures shard.old.reader) }
-    ensures same_begin { shard.new.part.partition.core.records.log.begin ≡ shard.old.part.partition.core.records.log.begin }
+    ensures same_begin { shard.new.part.partition.records.log.begin ≡ shard.old.part.partition.records.log.begin }
     ensures told { IfErr result (IsWorkRefusal D.Receipt.keeps
-        shard.new.part.partition.core.records.log.tail clock.new
+        shard.new.part.partition.records.log.tail clock.new
         (failures_of D.Writer.failures D.Reader.failures shard.old.part.writer shard.old.reader)
         (failures_of D.Writer.failures D.Reader.failures shard.new.part.writer shard.new.reader)) }
 {
@@ -213,25 +213,25 @@ fn go_on<F: Mergeable, D: Disk>(
 ) -> Result<Relocated, Refused>
     requires only { IsIdleBut shard.old.part.partition 0 context }
     requires fresh { IsWanted shard.old.part.partition context None }
-    requires kept { IsKeptBy D.Receipt.stands shard.old.part.partition.core.records.log.receipts
+    requires kept { IsKeptBy D.Receipt.stands shard.old.part.partition.records.log.receipts
         kept.old.is_sure kept.old.page }
-    requires past { shard.old.part.partition.core.moment ≤ clock.old }
+    requires past { shard.old.part.partition.moment ≤ clock.old }
     requires numbered { D.Writer.next shard.old.part.writer ≤ clock.old }
     requires spare { clock.old + 1 < 2 ^ 64 }
     ensures stays { StaysIdleBut D.Receipt.keeps F.Key.cmp shard.old.part.partition shard.new.part.partition context }
     ensures onward { IsOnward shard.old.part.partition shard.new.part.partition }
-    ensures passed { IsPassed shard.new.part.partition.core.moment clock.old clock.new }
+    ensures passed { IsPassed shard.new.part.partition.moment clock.old clock.new }
     ensures numbered { D.Writer.next shard.new.part.writer ≤ clock.new }
     ensures caused { IsTrue D.Receipt.keeps → IfErr result
         (IsCausedBy (CanFailToWrite D.Writer.next D.Writer.can_fail) (CanFailToRead D.Receipt.stands D.Reader.can_fail)) }
     ensures spare { clock.new + 1 < 2 ^ 64 }
-    ensures kept { OnOk result (IsKeptBy D.Receipt.stands shard.new.part.partition.core.records.log.receipts
+    ensures kept { OnOk result (IsKeptBy D.Receipt.stands shard.new.part.partition.records.log.receipts
         kept.new.is_sure kept.new.page) }
     ensures same_writer { shard.new.part.writer ≡ shard.old.part.writer }
     ensures steady { OnOk result (D.Reader.failures shard.new.reader ≡ D.Reader.failures shard.old.reader) }
-    ensures same_begin { shard.new.part.partition.core.records.log.begin ≡ shard.old.part.partition.core.records.log.begin }
+    ensures same_begin { shard.new.part.partition.records.log.begin ≡ shard.old.part.partition.records.log.begin }
     ensures told { IfErr result (IsWorkRefusal D.Receipt.keeps
-        shard.new.part.partition.core.records.log.tail clock.new
+        shard.new.part.partition.records.log.tail clock.new
         (failures_of D.Writer.failures D.Reader.failures shard.old.part.writer shard.old.reader)
         (failures_of D.Writer.failures D.Reader.failures shard.new.part.writer shard.new.reader)) }
 {
@@ -255,12 +255,12 @@ fn give_up<F: Mergeable, R: Receipt>(
     clock: &mut Clock,
 )
     requires only { IsIdleBut partition.old 0 context }
-    requires past { partition.old.core.moment ≤ clock.old }
+    requires past { partition.old.moment ≤ clock.old }
     requires spare { clock.old + 1 < 2 ^ 64 }
     ensures stays { StaysIdle R.keeps F.Key.cmp partition.old partition.new }
     ensures onward { IsOnward partition.old partition.new }
-    ensures same_records { partition.new.core.records ≡ partition.old.core.records }
-    ensures passed { IsPassed partition.new.core.moment clock.old clock.new }
+    ensures same_records { partition.new.records ≡ partition.old.records }
+    ensures passed { IsPassed partition.new.moment clock.old clock.new }
 {
     let Some(_relocation) = partition.relocation(SLOT, context) else {
         return;
@@ -279,24 +279,24 @@ fn relocate<F: Mergeable, D: Disk>(
     clock: &mut Clock,
 ) -> Result<Relocated, Refused>
     requires idle { IsIdle shard.old.part.partition 0 }
-    requires kept { IsKeptBy D.Receipt.stands shard.old.part.partition.core.records.log.receipts
+    requires kept { IsKeptBy D.Receipt.stands shard.old.part.partition.records.log.receipts
         kept.old.is_sure kept.old.page }
-    requires past { shard.old.part.partition.core.moment ≤ clock.old }
+    requires past { shard.old.part.partition.moment ≤ clock.old }
     requires numbered { D.Writer.next shard.old.part.writer ≤ clock.old }
     ensures stays { StaysIdle D.Receipt.keeps F.Key.cmp shard.old.part.partition shard.new.part.partition }
     ensures onward { IsOnward shard.old.part.partition shard.new.part.partition }
     ensures later { OnOk result (clock.old + 1 ≤ clock.new) }
-    ensures passed { IsPassed shard.new.part.partition.core.moment clock.old clock.new }
+    ensures passed { IsPassed shard.new.part.partition.moment clock.old clock.new }
     ensures numbered { D.Writer.next shard.new.part.writer ≤ clock.new }
     ensures caused { IsTrue D.Receipt.keeps → IfErr result
         (IsCausedBy (CanFailToWrite D.Writer.next D.Writer.can_fail) (CanFailToRead D.Receipt.stands D.Reader.can_fail)) }
-    ensures kept { OnOk result (IsKeptBy D.Receipt.stands shard.new.part.partition.core.records.log.receipts
+    ensures kept { OnOk result (IsKeptBy D.Receipt.stands shard.new.part.partition.records.log.receipts
         kept.new.is_sure kept.new.page) }
     ensures same_writer { shard.new.part.writer ≡ shard.old.part.writer }
     ensures steady { OnOk result (D.Reader.failures shard.new.reader ≡ D.Reader.failures shard.old.reader) }
-    ensures same_begin { shard.new.part.partition.core.records.log.begin ≡ shard.old.part.partition.core.records.log.begin }
+    ensures same_begin { shard.new.part.partition.records.log.begin ≡ shard.old.part.partition.records.log.begin }
     ensures told { IfErr result (IsWorkRefusal D.Receipt.keeps
-        shard.new.part.partition.core.records.log.tail clock.new
+        shard.new.part.partition.records.log.tail clock.new
         (failures_of D.Writer.failures D.Reader.failures shard.old.part.writer shard.old.reader)
         (failures_of D.Writer.failures D.Reader.failures shard.new.part.writer shard.new.reader)) }
 {
@@ -364,20 +364,20 @@ fn clear<F: Mergeable, D: Disk>(
     clock: &mut Clock,
 ) -> Result<(), Refused>
     requires idle { IsIdle shard.old.part.partition 0 }
-    requires past { shard.old.part.partition.core.moment ≤ clock.old }
+    requires past { shard.old.part.partition.moment ≤ clock.old }
     requires numbered { D.Writer.next shard.old.part.writer ≤ clock.old }
     ensures stays { StaysIdle D.Receipt.keeps F.Key.cmp shard.old.part.partition shard.new.part.partition }
     ensures onward { IsOnward shard.old.part.partition shard.new.part.partition }
     ensures whole { OnOk result (effort ≡ Effort.Whole → end ≤ shard.new.part.partition.cleared) }
-    ensures passed { IsPassed shard.new.part.partition.core.moment clock.old clock.new }
+    ensures passed { IsPassed shard.new.part.partition.moment clock.old clock.new }
     ensures numbered { D.Writer.next shard.new.part.writer ≤ clock.new }
     ensures caused { IsTrue D.Receipt.keeps → IfErr result
         (IsCausedBy (CanFailToWrite D.Writer.next D.Writer.can_fail) (CanFailToRead D.Receipt.stands D.Reader.can_fail)) }
     ensures steady { OnOk result (failures_of D.Writer.failures D.Reader.failures shard.new.part.writer shard.new.reader
         ≡ failures_of D.Writer.failures D.Reader.failures shard.old.part.writer shard.old.reader) }
-    ensures same_begin { shard.new.part.partition.core.records.log.begin ≡ shard.old.part.partition.core.records.log.begin }
+    ensures same_begin { shard.new.part.partition.records.log.begin ≡ shard.old.part.partition.records.log.begin }
     ensures told { IfErr result (IsWorkRefusal D.Receipt.keeps
-        shard.new.part.partition.core.records.log.tail clock.new
+        shard.new.part.partition.records.log.tail clock.new
         (failures_of D.Writer.failures D.Reader.failures shard.old.part.writer shard.old.reader)
         (failures_of D.Writer.failures D.Reader.failures shard.new.part.writer shard.new.reader)) }
 {
@@ -419,13 +419,13 @@ fn cut<F: Mergeable, R: Receipt>(
     clock: &mut Clock,
 ) -> Result<bool, Refused>
     requires idle { IsIdle partition.old 0 }
-    requires past { partition.old.core.moment ≤ clock.old }
+    requires past { partition.old.moment ≤ clock.old }
     ensures stays { StaysIdle R.keeps F.Key.cmp partition.old partition.new }
     ensures onward { IsOnward partition.old partition.new }
-    ensures same_tail { partition.new.core.records.log.tail ≡ partition.old.core.records.log.tail }
+    ensures same_tail { partition.new.records.log.tail ≡ partition.old.records.log.tail }
     ensures cut { IfOk result (WasCut partition.old partition.new) }
     ensures whole { OnOk result (IsAllCut partition.new) }
-    ensures passed { IsPassed partition.new.core.moment clock.old clock.new }
+    ensures passed { IsPassed partition.new.moment clock.old clock.new }
     ensures told { IfErr result (λ e. (e ≡ Refused.Worn) × (2 ^ 64 ≤ clock.new + 1)) }
 {
     let now = match clock.tick() {
@@ -449,10 +449,10 @@ pub fn compact<F: Mergeable, D: Disk>(
     clock: &mut Clock,
 ) -> Result<bool, Refused>
     requires idle { IsIdle shard.old.part.partition 0 }
-    requires past { shard.old.part.partition.core.moment ≤ clock.old }
+    requires past { shard.old.part.partition.moment ≤ clock.old }
     requires numbered { D.Writer.next shard.old.part.writer ≤ clock.old }
     ensures stays { StaysIdle D.Receipt.keeps F.Key.cmp shard.old.part.partition shard.new.part.partition }
-    ensures passed { IsPassed shard.new.part.partition.core.moment clock.old clock.new }
+    ensures passed { IsPassed shard.new.part.partition.moment clock.old clock.new }
     ensures numbered { D.Writer.next shard.new.part.writer ≤ clock.new }
     ensures caused { IsTrue D.Receipt.keeps → IfErr result
         (IsCausedBy (CanFailToWrite D.Writer.next D.Writer.can_fail) (CanFailToRead D.Receipt.stands D.Reader.can_fail)) }
@@ -464,7 +464,7 @@ pub fn compact<F: Mergeable, D: Disk>(
     ensures steady { OnOk result (failures_of D.Writer.failures D.Reader.failures shard.new.part.writer shard.new.reader
         ≡ failures_of D.Writer.failures D.Reader.failures shard.old.part.writer shard.old.reader) }
     ensures told { IfErr result (IsWorkRefusal D.Receipt.keeps
-        shard.new.part.partition.core.records.log.tail clock.new
+        shard.new.part.partition.records.log.tail clock.new
         (failures_of D.Writer.failures D.Reader.failures shard.old.part.writer shard.old.reader)
         (failures_of D.Writer.failures D.Reader.failures shard.new.part.writer shard.new.reader)) }
 {
@@ -502,14 +502,14 @@ pub fn compact_where_due<F: Mergeable, D: Disk>(
     clock: &mut Clock,
 )
     requires idle { IsIdle shard.old.part.partition 0 }
-    requires past { shard.old.part.partition.core.moment ≤ clock.old }
+    requires past { shard.old.part.partition.moment ≤ clock.old }
     requires numbered { D.Writer.next shard.old.part.writer ≤ clock.old }
     ensures stays { StaysIdle D.Receipt.keeps F.Key.cmp shard.old.part.partition shard.new.part.partition }
     ensures same { IsTrue terms.now.keeps_log → shard.new ≡ shard.old }
     ensures beside { IsBeside terms.now.keeps_log
         (failures_of D.Writer.failures D.Reader.failures shard.old.part.writer shard.old.reader)
         (failures_of D.Writer.failures D.Reader.failures shard.new.part.writer shard.new.reader) }
-    ensures passed { IsPassed shard.new.part.partition.core.moment clock.old clock.new }
+    ensures passed { IsPassed shard.new.part.partition.moment clock.old clock.new }
     ensures numbered { D.Writer.next shard.new.part.writer ≤ clock.new }
 {
     if terms.keeps_log || !is_due(&shard.part) {

@@ -4,7 +4,7 @@ ghost use Rattle.fkv_operations.specs.After.{key_of};
 ghost use Rattle.fkv_operations.specs.declared.operations.KeyedOp.TheVariants.{Read, Rmw};
 ghost use Rattle.fkv_operations.specs.declared.operations.Answer.TheVariants.{Value};
 ghost use Rattle.fkv_hybrid.specs.Views.{IsFull};
-ghost use Rattle.fkv_partition.specs.CoreViews.{partition_of};
+ghost use Rattle.fkv_partition.specs.Views.{partition_of};
 ghost use Rattle.fkv_partition.specs.Events.{IsPassedOn};
 ghost use Rattle.fkv_alone.specs.Ending.{Ends};
 ghost use Rattle.fkv_alone.specs.Bound.{may_load, loads_of, NoneClaims};
@@ -40,18 +40,18 @@ fn once<F: Mergeable, D: Disk, P: PageReader<Receipt = D::Receipt>>(
     op: KeyedOpOf<F>,
     clock: &mut Clock,
 ) -> Result<ProgressOf<F, D::Receipt>, Refused>
-    requires past { part.old.partition.core.moment ≤ clock.old }
+    requires past { part.old.partition.moment ≤ clock.old }
     ensures ends { Ends D.Receipt.keeps F.Key.cmp F.parts.joined F.meaning F.code op part.old.partition part.new.partition 0
         (2 ^ 64 - 1) clock.old clock.new (P.failures reader.old) (P.failures reader.new) result }
     ensures unread { may_load op ≡ false → reader.new ≡ reader.old }
-    ensures loads { IsTrue D.Receipt.keeps → NoneClaims part.old.partition.core
-        → P.reads reader.new ≤ P.reads reader.old + loads_of F.code part.old.partition.core.records op }
+    ensures loads { IsTrue D.Receipt.keeps → NoneClaims part.old.partition
+        → P.reads reader.new ≤ P.reads reader.old + loads_of F.code part.old.partition.records op }
     ensures caused { P.failures reader.new ≢ P.failures reader.old → CanFailToRead D.Receipt.stands P.can_fail }
     ensures rest { IsPassedOn part.old.partition part.new.partition }
-    ensures passed { IsPassed part.new.partition.core.moment clock.old clock.new }
+    ensures passed { IsPassed part.new.partition.moment clock.old clock.new }
     ensures small { clock.new < 2 ^ 64 }
     ensures same_writer { part.new.writer ≡ part.old.writer }
-    ensures merges { part.old.partition.core.merges ≡ F.MERGES }
+    ensures merges { part.old.partition.merges ≡ F.MERGES }
 {
     // which says that what it has of the functions is theirs
     let _merges = part.partition.merges();
@@ -80,28 +80,28 @@ fn try_by_events<F: Mergeable, D: Disk, P: PageReader<Receipt = D::Receipt>>(
     clock: &mut Clock,
 ) -> Result<Option<Answer<F::Output>>, Refused>
     requires idle { IsIdle part.old.partition 0 }
-    requires own { partition_of part.old.partition.core.count (F.code (key_of op)) ≡ part.old.partition.core.number }
-    requires past { part.old.partition.core.moment ≤ clock.old }
+    requires own { partition_of part.old.partition.count (F.code (key_of op)) ≡ part.old.partition.number }
+    requires past { part.old.partition.moment ≤ clock.old }
     requires numbered { D.Writer.next part.old.writer ≤ clock.old }
     requires begun { 0 < clock.old }
     ensures runs { IfOk result (λ told. IfSome told (λ answer.
         Runs D.Receipt.keeps F.Key.cmp F.meaning part.old.partition part.new.partition op (Ok answer))) }
     ensures stays { IfOk result (λ told. told ≡ None
         → StaysIdle D.Receipt.keeps F.Key.cmp part.old.partition part.new.partition) }
-    ensures full { IfOk result (λ told. told ≡ None → IsFull part.old.partition.core.records.log) }
+    ensures full { IfOk result (λ told. told ≡ None → IsFull part.old.partition.records.log) }
     ensures same_log { IfOk result (λ told. told ≡ None → IsSameLog D.Receipt.keeps part.old.partition part.new.partition) }
     ensures loads { IsTrue D.Receipt.keeps → P.reads reader.new
-        ≤ P.reads reader.old + records_of F.code part.old.partition.core.records (key_of op) }
+        ≤ P.reads reader.old + records_of F.code part.old.partition.records (key_of op) }
     ensures steady { OnOk result (P.failures reader.new ≡ P.failures reader.old) }
     ensures left { OnErr result (StaysIdle D.Receipt.keeps F.Key.cmp part.old.partition part.new.partition) }
-    ensures passed { IsPassed part.new.partition.core.moment clock.old clock.new }
+    ensures passed { IsPassed part.new.partition.moment clock.old clock.new }
     ensures numbered { D.Writer.next part.new.writer ≤ clock.new }
     ensures caused { IsTrue D.Receipt.keeps → IfErr result
         (IsCausedBy (CanFailToWrite D.Writer.next D.Writer.can_fail) (CanFailToRead D.Receipt.stands P.can_fail)) }
     ensures unread { may_load op ≡ false → reader.new ≡ reader.old }
     ensures same_writer { part.new.writer ≡ part.old.writer }
     ensures told { IfErr result (IsStopped D.Receipt.keeps F.MERGES
-        op part.new.partition.core.records.log.tail clock.new
+        op part.new.partition.records.log.tail clock.new
         (failures_of D.Writer.failures P.failures part.old.writer reader.old)
         (failures_of D.Writer.failures P.failures part.new.writer reader.new)) }
 {
@@ -131,21 +131,21 @@ pub fn run_by_events<F: Mergeable, D: Disk, P: PageReader<Receipt = D::Receipt>>
     clock: &mut Clock,
 ) -> Result<Answer<F::Output>, Refused>
     requires idle { IsIdle part.old.partition 0 }
-    requires own { partition_of part.old.partition.core.count (F.code (key_of op)) ≡ part.old.partition.core.number }
-    requires past { part.old.partition.core.moment ≤ clock.old }
+    requires own { partition_of part.old.partition.count (F.code (key_of op)) ≡ part.old.partition.number }
+    requires past { part.old.partition.moment ≤ clock.old }
     requires numbered { D.Writer.next part.old.writer ≤ clock.old }
     requires begun { 0 < clock.old }
     ensures runs { Runs D.Receipt.keeps F.Key.cmp F.meaning part.old.partition part.new.partition op result }
     // one for each record of the class, and once more where it begins anew
     ensures loads { IsTrue D.Receipt.keeps → P.reads reader.new
-        ≤ P.reads reader.old + 2 * records_of F.code part.old.partition.core.records (key_of op) }
-    ensures passed { IsPassed part.new.partition.core.moment clock.old clock.new }
+        ≤ P.reads reader.old + 2 * records_of F.code part.old.partition.records (key_of op) }
+    ensures passed { IsPassed part.new.partition.moment clock.old clock.new }
     ensures numbered { D.Writer.next part.new.writer ≤ clock.new }
     ensures caused { IsTrue D.Receipt.keeps → IfErr result
         (IsCausedBy (CanFailToWrite D.Writer.next D.Writer.can_fail) (CanFailToRead D.Receipt.stands P.can_fail)) }
     ensures unread { may_load op ≡ false → reader.new ≡ reader.old }
     ensures told { IfErr result (IsStopped D.Receipt.keeps F.MERGES
-        op part.new.partition.core.records.log.tail clock.new
+        op part.new.partition.records.log.tail clock.new
         (failures_of D.Writer.failures P.failures part.old.writer reader.old)
         (failures_of D.Writer.failures P.failures part.new.writer reader.new)) }
 {
@@ -177,14 +177,14 @@ pub fn try_update_in_place<F: Mergeable, D: Disk>(
     clock: &mut Clock,
 ) -> Result<Option<F::Output>, Refused>
     requires idle { IsIdle part.old.partition 0 }
-    requires past { part.old.partition.core.moment ≤ clock.old }
+    requires past { part.old.partition.moment ≤ clock.old }
     requires numbered { D.Writer.next part.old.writer ≤ clock.old }
     // on any device
     ensures done { IfOk result (λ answer. IfSome answer (λ shown. Runs true F.Key.cmp F.meaning
         part.old.partition part.new.partition (Rmw key.now input.now) (Ok (Value shown)))) }
     ensures same { IfOk result (λ answer. answer ≡ None → part.new.partition ≡ part.old.partition) }
     ensures refused { OnErr result (part.new.partition ≡ part.old.partition) }
-    ensures passed { IsPassed part.new.partition.core.moment clock.old clock.new }
+    ensures passed { IsPassed part.new.partition.moment clock.old clock.new }
     ensures numbered { D.Writer.next part.new.writer ≤ clock.new }
     ensures caused { IsTrue D.Receipt.keeps → IfErr result
         (IsCausedBy (CanFailToWrite D.Writer.next D.Writer.can_fail) (CanFailToRead D.Receipt.stands D.Reader.can_fail)) }
@@ -214,10 +214,10 @@ pub fn tidy_at_times<F: Mergeable, D: Disk>(
     clock: &mut Clock,
 ) -> Result<(), Refused>
     requires idle { IsIdle shard.old.part.partition 0 }
-    requires past { shard.old.part.partition.core.moment ≤ clock.old }
+    requires past { shard.old.part.partition.moment ≤ clock.old }
     requires numbered { D.Writer.next shard.old.part.writer ≤ clock.old }
     ensures stays { StaysIdle D.Receipt.keeps F.Key.cmp shard.old.part.partition shard.new.part.partition }
-    ensures passed { IsPassed shard.new.part.partition.core.moment clock.old clock.new }
+    ensures passed { IsPassed shard.new.part.partition.moment clock.old clock.new }
     ensures numbered { D.Writer.next shard.new.part.writer ≤ clock.new }
     ensures caused { IsTrue D.Receipt.keeps → IfErr result
         (IsCausedBy (CanFailToWrite D.Writer.next D.Writer.can_fail) (CanFailToRead D.Receipt.stands D.Reader.can_fail)) }
@@ -247,10 +247,10 @@ fn tidy_where_grown<F: Mergeable, D: Disk>(
     clock: &mut Clock,
 ) -> Result<(), Refused>
     requires idle { IsIdle shard.old.part.partition 0 }
-    requires past { shard.old.part.partition.core.moment ≤ clock.old }
+    requires past { shard.old.part.partition.moment ≤ clock.old }
     requires numbered { D.Writer.next shard.old.part.writer ≤ clock.old }
     ensures stays { StaysIdle D.Receipt.keeps F.Key.cmp shard.old.part.partition shard.new.part.partition }
-    ensures passed { IsPassed shard.new.part.partition.core.moment clock.old clock.new }
+    ensures passed { IsPassed shard.new.part.partition.moment clock.old clock.new }
     ensures numbered { D.Writer.next shard.new.part.writer ≤ clock.new }
     ensures caused { IsTrue D.Receipt.keeps → IfErr result
         (IsCausedBy (CanFailToWrite D.Writer.next D.Writer.can_fail) (CanFailToRead D.Receipt.stands D.Reader.can_fail)) }
@@ -285,20 +285,20 @@ pub fn operate<F: Mergeable, D: Disk>(
     clock: &mut Clock,
 ) -> Result<Answer<F::Output>, Refused>
     requires idle { IsIdle shard.old.part.partition 0 }
-    requires own { partition_of shard.old.part.partition.core.count (F.code (key_of op)) ≡ shard.old.part.partition.core.number }
-    requires past { shard.old.part.partition.core.moment ≤ clock.old }
+    requires own { partition_of shard.old.part.partition.count (F.code (key_of op)) ≡ shard.old.part.partition.number }
+    requires past { shard.old.part.partition.moment ≤ clock.old }
     requires numbered { D.Writer.next shard.old.part.writer ≤ clock.old }
     requires begun { 0 < clock.old }
     ensures runs { Runs D.Receipt.keeps F.Key.cmp F.meaning shard.old.part.partition shard.new.part.partition op result }
     ensures unread { may_load op ≡ false → IsTrue terms.now.keeps_log → shard.new.reader ≡ shard.old.reader }
     ensures loads { IsTrue D.Receipt.keeps → IsTrue terms.now.keeps_log → D.Reader.reads shard.new.reader
-        ≤ D.Reader.reads shard.old.reader + 2 * records_of F.code shard.old.part.partition.core.records (key_of op) }
-    ensures passed { IsPassed shard.new.part.partition.core.moment clock.old clock.new }
+        ≤ D.Reader.reads shard.old.reader + 2 * records_of F.code shard.old.part.partition.records (key_of op) }
+    ensures passed { IsPassed shard.new.part.partition.moment clock.old clock.new }
     ensures numbered { D.Writer.next shard.new.part.writer ≤ clock.new }
     ensures caused { IsTrue D.Receipt.keeps → IfErr result
         (IsCausedBy (CanFailToWrite D.Writer.next D.Writer.can_fail) (CanFailToRead D.Receipt.stands D.Reader.can_fail)) }
     ensures told { IfErr result (IsRefusedBy D.Receipt.keeps F.MERGES terms.now.keeps_log
-        D.Writer.failures D.Reader.failures op shard.new.part.partition.core.records.log.tail clock.new
+        D.Writer.failures D.Reader.failures op shard.new.part.partition.records.log.tail clock.new
         shard.old.part.writer shard.old.reader shard.new.part.writer shard.new.reader) }
 {
     match op {
@@ -318,20 +318,20 @@ fn operate_by_events<F: Mergeable, D: Disk>(
     clock: &mut Clock,
 ) -> Result<Answer<F::Output>, Refused>
     requires idle { IsIdle shard.old.part.partition 0 }
-    requires own { partition_of shard.old.part.partition.core.count (F.code (key_of op)) ≡ shard.old.part.partition.core.number }
-    requires past { shard.old.part.partition.core.moment ≤ clock.old }
+    requires own { partition_of shard.old.part.partition.count (F.code (key_of op)) ≡ shard.old.part.partition.number }
+    requires past { shard.old.part.partition.moment ≤ clock.old }
     requires numbered { D.Writer.next shard.old.part.writer ≤ clock.old }
     requires begun { 0 < clock.old }
     ensures runs { Runs D.Receipt.keeps F.Key.cmp F.meaning shard.old.part.partition shard.new.part.partition op result }
     ensures unread { may_load op ≡ false → IsTrue terms.now.keeps_log → shard.new.reader ≡ shard.old.reader }
     ensures loads { IsTrue D.Receipt.keeps → IsTrue terms.now.keeps_log → D.Reader.reads shard.new.reader
-        ≤ D.Reader.reads shard.old.reader + 2 * records_of F.code shard.old.part.partition.core.records (key_of op) }
-    ensures passed { IsPassed shard.new.part.partition.core.moment clock.old clock.new }
+        ≤ D.Reader.reads shard.old.reader + 2 * records_of F.code shard.old.part.partition.records (key_of op) }
+    ensures passed { IsPassed shard.new.part.partition.moment clock.old clock.new }
     ensures numbered { D.Writer.next shard.new.part.writer ≤ clock.new }
     ensures caused { IsTrue D.Receipt.keeps → IfErr result
         (IsCausedBy (CanFailToWrite D.Writer.next D.Writer.can_fail) (CanFailToRead D.Receipt.stands D.Reader.can_fail)) }
     ensures told { IfErr result (IsRefusedBy D.Receipt.keeps F.MERGES terms.now.keeps_log
-        D.Writer.failures D.Reader.failures op shard.new.part.partition.core.records.log.tail clock.new
+        D.Writer.failures D.Reader.failures op shard.new.part.partition.records.log.tail clock.new
         shard.old.part.writer shard.old.reader shard.new.part.writer shard.new.reader) }
 {
     let tidied = tidy_at_times(terms, shard, clock);
@@ -352,20 +352,20 @@ pub fn read<F: Mergeable, D: Disk>(
     clock: &mut Clock,
 ) -> Result<Answer<F::Output>, Refused>
     requires idle { IsIdle shard.old.part.partition 0 }
-    requires own { partition_of shard.old.part.partition.core.count (F.code key.now) ≡ shard.old.part.partition.core.number }
-    requires past { shard.old.part.partition.core.moment ≤ clock.old }
+    requires own { partition_of shard.old.part.partition.count (F.code key.now) ≡ shard.old.part.partition.number }
+    requires past { shard.old.part.partition.moment ≤ clock.old }
     requires numbered { D.Writer.next shard.old.part.writer ≤ clock.old }
     requires begun { 0 < clock.old }
     ensures runs { Runs D.Receipt.keeps F.Key.cmp F.meaning shard.old.part.partition shard.new.part.partition
         (Read key.now input.now) result }
     ensures loads { IsTrue D.Receipt.keeps → IsTrue terms.now.keeps_log → D.Reader.reads shard.new.reader
-        ≤ D.Reader.reads shard.old.reader + 2 * records_of F.code shard.old.part.partition.core.records key.now }
-    ensures passed { IsPassed shard.new.part.partition.core.moment clock.old clock.new }
+        ≤ D.Reader.reads shard.old.reader + 2 * records_of F.code shard.old.part.partition.records key.now }
+    ensures passed { IsPassed shard.new.part.partition.moment clock.old clock.new }
     ensures numbered { D.Writer.next shard.new.part.writer ≤ clock.new }
     ensures caused { IsTrue D.Receipt.keeps → IfErr result
         (IsCausedBy (CanFailToWrite D.Writer.next D.Writer.can_fail) (CanFailToRead D.Receipt.stands D.Reader.can_fail)) }
     ensures told { IfErr result (IsRefusedBy {V = F.Value} D.Receipt.keeps F.MERGES terms.now.keeps_log
-        D.Writer.failures D.Reader.failures (Read key.now input.now) shard.new.part.partition.core.records.log.tail clock.new
+        D.Writer.failures D.Reader.failures (Read key.now input.now) shard.new.part.partition.records.log.tail clock.new
         shard.old.part.writer shard.old.reader shard.new.part.writer shard.new.reader) }
 {
     match tidy_at_times(terms, shard, clock) {
@@ -396,20 +396,20 @@ pub fn update<F: Mergeable, D: Disk>(
     clock: &mut Clock,
 ) -> Result<Answer<F::Output>, Refused>
     requires idle { IsIdle shard.old.part.partition 0 }
-    requires own { partition_of shard.old.part.partition.core.count (F.code key.now) ≡ shard.old.part.partition.core.number }
-    requires past { shard.old.part.partition.core.moment ≤ clock.old }
+    requires own { partition_of shard.old.part.partition.count (F.code key.now) ≡ shard.old.part.partition.number }
+    requires past { shard.old.part.partition.moment ≤ clock.old }
     requires numbered { D.Writer.next shard.old.part.writer ≤ clock.old }
     requires begun { 0 < clock.old }
     ensures runs { Runs D.Receipt.keeps F.Key.cmp F.meaning shard.old.part.partition shard.new.part.partition
         (Rmw key.now input.now) result }
     ensures loads { IsTrue D.Receipt.keeps → IsTrue terms.now.keeps_log → D.Reader.reads shard.new.reader
-        ≤ D.Reader.reads shard.old.reader + 2 * records_of F.code shard.old.part.partition.core.records key.now }
-    ensures passed { IsPassed shard.new.part.partition.core.moment clock.old clock.new }
+        ≤ D.Reader.reads shard.old.reader + 2 * records_of F.code shard.old.part.partition.records key.now }
+    ensures passed { IsPassed shard.new.part.partition.moment clock.old clock.new }
     ensures numbered { D.Writer.next shard.new.part.writer ≤ clock.new }
     ensures caused { IsTrue D.Receipt.keeps → IfErr result
         (IsCausedBy (CanFailToWrite D.Writer.next D.Writer.can_fail) (CanFailToRead D.Receipt.stands D.Reader.can_fail)) }
     ensures told { IfErr result (IsRefusedBy {V = F.Value} D.Receipt.keeps F.MERGES terms.now.keeps_log
-        D.Writer.failures D.Reader.failures (Rmw key.now input.now) shard.new.part.partition.core.records.log.tail clock.new
+        D.Writer.failures D.Reader.failures (Rmw key.now input.now) shard.new.part.partition.records.log.tail clock.new
         shard.old.part.writer shard.old.reader shard.new.part.writer shard.new.reader) }
 {
     match tidy_at_times(terms, shard, clock) {

@@ -2,7 +2,7 @@
 ghost use Rattle.std.specs.Prelude.{◌≡◌, ◌≤◌, ◌<◌, ℕ, true, None, Ok, IsTrue, IfOk, IfErr, OnErr, IfSome, IsSome};
 ghost use Rattle.fkv_operations.specs.After.{key_of, is_merge};
 ghost use Rattle.fkv_operations.specs.declared.operations.KeyedOp.TheVariants.{Rmw};
-ghost use Rattle.fkv_partition.specs.CoreViews.{partition_of};
+ghost use Rattle.fkv_partition.specs.Views.{partition_of};
 ghost use Rattle.fkv_alone.specs.Causes.{CanFailToRead, CanFailToWrite};
 ghost use Rattle.fkv_local.specs.Causing.{IsCausedBy};
 ghost use Rattle.fkv_local.specs.Resting.{IsIdle, StaysIdle};
@@ -26,8 +26,8 @@ fn run_in_memory<F: Mergeable, D: Disk>(
     clock: &mut Clock,
 ) -> Result<Option<Answer<F::Output>>, Refused>
     requires idle { IsIdle part.old.partition 0 }
-    requires own { partition_of part.old.partition.core.count (F.code (key_of op)) ≡ part.old.partition.core.number }
-    requires past { part.old.partition.core.moment ≤ clock.old }
+    requires own { partition_of part.old.partition.count (F.code (key_of op)) ≡ part.old.partition.number }
+    requires past { part.old.partition.moment ≤ clock.old }
     requires numbered { D.Writer.next part.old.writer ≤ clock.old }
     requires begun { 0 < clock.old }
     ensures runs { IfOk result (λ told. IfSome told (λ answer.
@@ -38,12 +38,12 @@ fn run_in_memory<F: Mergeable, D: Disk>(
         → D.Writer.failures part.new.writer ≡ D.Writer.failures part.old.writer) }
     ensures left { OnErr result (StaysIdle D.Receipt.keeps F.Key.cmp part.old.partition part.new.partition) }
     ensures merges { is_merge op ≡ true → IfOk result IsSome }
-    ensures passed { IsPassed part.new.partition.core.moment clock.old clock.new }
+    ensures passed { IsPassed part.new.partition.moment clock.old clock.new }
     ensures numbered { D.Writer.next part.new.writer ≤ clock.new }
     ensures caused { IsTrue D.Receipt.keeps → IfErr result
         (IsCausedBy (CanFailToWrite D.Writer.next D.Writer.can_fail) (CanFailToRead D.Receipt.stands D.Reader.can_fail)) }
     ensures told { IfErr result (λ e. (reads : ℕ) → IsStopped D.Receipt.keeps F.MERGES
-        op part.new.partition.core.records.log.tail clock.new
+        op part.new.partition.records.log.tail clock.new
         (record { writes = D.Writer.failures part.old.writer; reads = reads })
         (record { writes = D.Writer.failures part.new.writer; reads = reads }) e) }
 {
@@ -72,17 +72,17 @@ fn merge_for_page<F: Mergeable, D: Disk>(
 ) -> Result<Answer<F::Output>, Refused>
     requires merging { IsTrue F.MERGES }
     requires idle { IsIdle part.old.partition 0 }
-    requires own { partition_of part.old.partition.core.count (F.code key.now) ≡ part.old.partition.core.number }
-    requires past { part.old.partition.core.moment ≤ clock.old }
+    requires own { partition_of part.old.partition.count (F.code key.now) ≡ part.old.partition.number }
+    requires past { part.old.partition.moment ≤ clock.old }
     requires numbered { D.Writer.next part.old.writer ≤ clock.old }
     requires begun { 0 < clock.old }
     ensures runs { Updates D.Receipt.keeps F.Key.cmp F.meaning part.old.partition part.new.partition key.now input.now result }
-    ensures passed { IsPassed part.new.partition.core.moment clock.old clock.new }
+    ensures passed { IsPassed part.new.partition.moment clock.old clock.new }
     ensures numbered { D.Writer.next part.new.writer ≤ clock.new }
     ensures caused { IsTrue D.Receipt.keeps → IfErr result
         (IsCausedBy (CanFailToWrite D.Writer.next D.Writer.can_fail) (CanFailToRead D.Receipt.stands D.Reader.can_fail)) }
     ensures told { IfErr result (λ e. (reads : ℕ) → IsStopped {V = F.Value} D.Receipt.keeps F.MERGES
-        (Rmw key.now input.now) part.new.partition.core.records.log.tail clock.new
+        (Rmw key.now input.now) part.new.partition.records.log.tail clock.new
         (record { writes = D.Writer.failures part.old.writer; reads = reads })
         (record { writes = D.Writer.failures part.new.writer; reads = reads }) e) }
 {
@@ -112,18 +112,18 @@ pub fn update_or_merge<F: Mergeable, D: Disk>(
     clock: &mut Clock,
 ) -> Result<Answer<F::Output>, Refused>
     requires idle { IsIdle shard.old.part.partition 0 }
-    requires own { partition_of shard.old.part.partition.core.count (F.code key.now) ≡ shard.old.part.partition.core.number }
-    requires past { shard.old.part.partition.core.moment ≤ clock.old }
+    requires own { partition_of shard.old.part.partition.count (F.code key.now) ≡ shard.old.part.partition.number }
+    requires past { shard.old.part.partition.moment ≤ clock.old }
     requires numbered { D.Writer.next shard.old.part.writer ≤ clock.old }
     requires begun { 0 < clock.old }
     ensures runs { Updates D.Receipt.keeps F.Key.cmp F.meaning shard.old.part.partition shard.new.part.partition
         key.now input.now result }
-    ensures passed { IsPassed shard.new.part.partition.core.moment clock.old clock.new }
+    ensures passed { IsPassed shard.new.part.partition.moment clock.old clock.new }
     ensures numbered { D.Writer.next shard.new.part.writer ≤ clock.new }
     ensures caused { IsTrue D.Receipt.keeps → IfErr result
         (IsCausedBy (CanFailToWrite D.Writer.next D.Writer.can_fail) (CanFailToRead D.Receipt.stands D.Reader.can_fail)) }
     ensures told { IfErr result (IsRefusedBy {V = F.Value} D.Receipt.keeps F.MERGES terms.now.keeps_log
-        D.Writer.failures D.Reader.failures (Rmw key.now input.now) shard.new.part.partition.core.records.log.tail clock.new
+        D.Writer.failures D.Reader.failures (Rmw key.now input.now) shard.new.part.partition.records.log.tail clock.new
         shard.old.part.writer shard.old.reader shard.new.part.writer shard.new.reader) }
     ensures unread { IsTrue F.MERGES → IsTrue terms.now.keeps_log → shard.new.reader ≡ shard.old.reader }
 {

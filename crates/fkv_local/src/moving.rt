@@ -8,7 +8,7 @@ ghost use Rattle.fkv_records.specs.Places.{page_at, start_at};
 ghost use Rattle.fkv_regions.specs.Settled.{IsSettled};
 ghost use Rattle.fkv_regions.specs.RegionsView.{refreshed};
 ghost use Rattle.fkv_hybrid.specs.Views.{IsFull};
-ghost use Rattle.fkv_partition.specs.CoreBeginning.{IsEntered};
+ghost use Rattle.fkv_partition.specs.KeyBeginning.{IsEntered};
 ghost use Rattle.fkv_alone.specs.Causes.{CanFailToRead, CanFailToWrite};
 ghost use Rattle.fkv_local.specs.Causing.{IsCausedBy};
 ghost use Rattle.fkv_local.specs.Moving.{IsTidied, IsOnward, StaysSettled, IsSameLog, IsWritten, IsPassed, IsMoveRefusal};
@@ -23,13 +23,13 @@ use std::alloc::Global;
 
 /// Refreshes the session.
 fn refresh<F: Mergeable, R: Receipt>(partition: &mut Partition<F, R>, now: u64)
-    requires entered { IsEntered partition.old.core 0 }
-    requires later { partition.old.core.moment < now }
+    requires entered { IsEntered partition.old 0 }
+    requires later { partition.old.moment < now }
     ensures tidied { IsTidied R.keeps F.Key.cmp partition.old partition.new }
     ensures onward { IsOnward partition.old partition.new }
-    ensures refreshed { partition.new.core.records.log.regions ≡ refreshed partition.old.core.records.log.regions 0 }
+    ensures refreshed { partition.new.records.log.regions ≡ refreshed partition.old.records.log.regions 0 }
     ensures same_log { IsSameLog R.keeps partition.old partition.new }
-    ensures moment { partition.new.core.moment ≤ now }
+    ensures moment { partition.new.moment ≤ now }
 {
     partition.known();
     let _refreshed = partition.refresh(SLOT, now);
@@ -41,17 +41,17 @@ fn freeze<F: Mergeable, R: Receipt>(
     page: u64,
     clock: &mut Clock,
 ) -> Result<(), Refused>
-    requires entered { IsEntered partition.old.core 0 }
-    requires past { partition.old.core.moment ≤ clock.old }
+    requires entered { IsEntered partition.old 0 }
+    requires past { partition.old.moment ≤ clock.old }
     ensures tidied { IsTidied R.keeps F.Key.cmp partition.old partition.new }
     ensures onward { IsOnward partition.old partition.new }
     ensures settled { StaysSettled partition.old partition.new }
-    ensures frozen { OnOk result (IsSettled partition.old.core.records.log.regions
-        → page ≤ page_at partition.old.core.records.log.regions.bits partition.old.core.records.log.tail
-        → start_at partition.old.core.records.log.regions.bits page
-        ≤ partition.new.core.records.log.regions.offsets.read_only) }
+    ensures frozen { OnOk result (IsSettled partition.old.records.log.regions
+        → page ≤ page_at partition.old.records.log.regions.bits partition.old.records.log.tail
+        → start_at partition.old.records.log.regions.bits page
+        ≤ partition.new.records.log.regions.offsets.read_only) }
     ensures same_log { IsSameLog R.keeps partition.old partition.new }
-    ensures passed { IsPassed partition.new.core.moment clock.old clock.new }
+    ensures passed { IsPassed partition.new.moment clock.old clock.new }
     ensures told { IfErr result (λ e. (e ≡ Refused.Worn) × (2 ^ 64 ≤ clock.new + 2)) }
 {
     let (shifted, refreshed) = match clock.tick_twice() {
@@ -70,17 +70,17 @@ fn evict<F: Mergeable, R: Receipt>(
     page: u64,
     clock: &mut Clock,
 ) -> Result<(), Refused>
-    requires entered { IsEntered partition.old.core 0 }
-    requires past { partition.old.core.moment ≤ clock.old }
+    requires entered { IsEntered partition.old 0 }
+    requires past { partition.old.moment ≤ clock.old }
     ensures tidied { IsTidied R.keeps F.Key.cmp partition.old partition.new }
     ensures onward { IsOnward partition.old partition.new }
     ensures settled { StaysSettled partition.old partition.new }
-    ensures evicted { OnOk result (IsSettled partition.old.core.records.log.regions
-        → page ≤ partition.old.core.records.log.regions.flushed
-        → start_at partition.old.core.records.log.regions.bits page
-        ≤ partition.new.core.records.log.regions.offsets.head) }
+    ensures evicted { OnOk result (IsSettled partition.old.records.log.regions
+        → page ≤ partition.old.records.log.regions.flushed
+        → start_at partition.old.records.log.regions.bits page
+        ≤ partition.new.records.log.regions.offsets.head) }
     ensures same_log { IsSameLog R.keeps partition.old partition.new }
-    ensures passed { IsPassed partition.new.core.moment clock.old clock.new }
+    ensures passed { IsPassed partition.new.moment clock.old clock.new }
     ensures told { IfErr result (λ e. (e ≡ Refused.Worn) × (2 ^ 64 ≤ clock.new + 2)) }
 {
     let (shifted, refreshed) = match clock.tick_twice() {
@@ -100,17 +100,17 @@ fn flush<F: Mergeable, D: Disk>(
     part: &mut Part<F, D>,
     clock: &mut Clock,
 ) -> Result<bool, Refused>
-    requires past { part.old.partition.core.moment ≤ clock.old }
+    requires past { part.old.partition.moment ≤ clock.old }
     requires numbered { D.Writer.next part.old.writer ≤ clock.old }
     ensures tidied { IsTidied D.Receipt.keeps F.Key.cmp part.old.partition part.new.partition }
     ensures onward { IsOnward part.old.partition part.new.partition }
     ensures settled { StaysSettled part.old.partition part.new.partition }
-    ensures passed { IsPassed part.new.partition.core.moment clock.old clock.new }
+    ensures passed { IsPassed part.new.partition.moment clock.old clock.new }
     ensures numbered { D.Writer.next part.new.writer ≤ clock.new }
     ensures caused { IsTrue D.Receipt.keeps → IfErr result
         (IsCausedBy (CanFailToWrite D.Writer.next D.Writer.can_fail) (CanFailToRead D.Receipt.stands D.Reader.can_fail)) }
     ensures same_log { IsSameLog D.Receipt.keeps part.old.partition part.new.partition }
-    ensures same_offsets { part.new.partition.core.records.log.regions.offsets ≡ part.old.partition.core.records.log.regions.offsets }
+    ensures same_offsets { part.new.partition.records.log.regions.offsets ≡ part.old.partition.records.log.regions.offsets }
     ensures later { OnOk result (clock.old < clock.new) }
     ensures written { IfOk result (λ did. did ≡ false → IsWritten part.new.partition) }
     ensures steady { OnOk result (D.Writer.failures part.new.writer ≡ D.Writer.failures part.old.writer) }
@@ -151,15 +151,15 @@ fn flush_all<F: Mergeable, D: Disk>(
     part: &mut Part<F, D>,
     clock: &mut Clock,
 ) -> Result<(), Refused>
-    requires past { part.old.partition.core.moment ≤ clock.old }
+    requires past { part.old.partition.moment ≤ clock.old }
     requires numbered { D.Writer.next part.old.writer ≤ clock.old }
     ensures tidied { IsTidied D.Receipt.keeps F.Key.cmp part.old.partition part.new.partition }
     ensures onward { IsOnward part.old.partition part.new.partition }
     ensures settled { StaysSettled part.old.partition part.new.partition }
     ensures same_log { IsSameLog D.Receipt.keeps part.old.partition part.new.partition }
-    ensures same_offsets { part.new.partition.core.records.log.regions.offsets ≡ part.old.partition.core.records.log.regions.offsets }
+    ensures same_offsets { part.new.partition.records.log.regions.offsets ≡ part.old.partition.records.log.regions.offsets }
     ensures written { OnOk result (IsWritten part.new.partition) }
-    ensures passed { IsPassed part.new.partition.core.moment clock.old clock.new }
+    ensures passed { IsPassed part.new.partition.moment clock.old clock.new }
     ensures numbered { D.Writer.next part.new.writer ≤ clock.new }
     ensures caused { IsTrue D.Receipt.keeps → IfErr result
         (IsCausedBy (CanFailToWrite D.Writer.next D.Writer.can_fail) (CanFailToRead D.Receipt.stands D.Reader.can_fail)) }
@@ -180,7 +180,7 @@ fn flush_all<F: Mergeable, D: Disk>(
 
 /// The page of an address of a partition's log.
 pub fn page_of<F: Mergeable, R: Receipt>(partition: &Partition<F, R>, address: Address) -> u64
-    ensures value { result ≡ page_at partition.now.core.records.log.bits address }
+    ensures value { result ≡ page_at partition.now.records.log.bits address }
 {
     // which says that a page has bytes
     partition.known();
@@ -196,16 +196,16 @@ pub fn tidy<F: Mergeable, D: Disk>(
     part: &mut Part<F, D>,
     clock: &mut Clock,
 ) -> Result<(), Refused>
-    requires entered { IsEntered part.old.partition.core 0 }
-    requires past { part.old.partition.core.moment ≤ clock.old }
+    requires entered { IsEntered part.old.partition 0 }
+    requires past { part.old.partition.moment ≤ clock.old }
     requires numbered { D.Writer.next part.old.writer ≤ clock.old }
     ensures tidied { IsTidied D.Receipt.keeps F.Key.cmp part.old.partition part.new.partition }
     ensures onward { IsOnward part.old.partition part.new.partition }
     ensures settled { StaysSettled part.old.partition part.new.partition }
-    ensures roomy { OnOk result (IsSettled part.old.partition.core.records.log.regions
-        → IsFull part.new.partition.core.records.log → ⊥) }
+    ensures roomy { OnOk result (IsSettled part.old.partition.records.log.regions
+        → IsFull part.new.partition.records.log → ⊥) }
     ensures same_log { IsSameLog D.Receipt.keeps part.old.partition part.new.partition }
-    ensures passed { IsPassed part.new.partition.core.moment clock.old clock.new }
+    ensures passed { IsPassed part.new.partition.moment clock.old clock.new }
     ensures numbered { D.Writer.next part.new.writer ≤ clock.new }
     ensures caused { IsTrue D.Receipt.keeps → IfErr result
         (IsCausedBy (CanFailToWrite D.Writer.next D.Writer.can_fail) (CanFailToRead D.Receipt.stands D.Reader.can_fail)) }

@@ -14,17 +14,16 @@ use Rattle.fkv_partition.specs.declared.contexts.Progress.{Progress}
 use Rattle.fkv_partition.specs.declared.contexts.Progress.TheVariants.{Done}
 use Rattle.fkv_partition.specs.AtOnce.{IsDoneAtOnce}
 use Rattle.fkv_partition.specs.Beginning.{IssuesOnKey}
-use Rattle.fkv_partition.specs.CoreBeginning as beginning
-use Rattle.fkv_partition.specs.CoreGoing as going
-use Rattle.fkv_partition.specs.CoreSound.{IsSound}
-use Rattle.fkv_partition.specs.CoreContexts.{relocating}
-use Rattle.fkv_partition.specs.CoreViews.{CoreView, live_of, slots_of}
+use Rattle.fkv_partition.specs.KeyBeginning as beginning
+use Rattle.fkv_partition.specs.KeyGoing as going
+use Rattle.fkv_partition.specs.KeySound.{IsSound}
+use Rattle.fkv_partition.specs.Contexts.{relocating}
+use Rattle.fkv_partition.specs.Views.{PartitionView, live_of, slots_of, relocation_at}
 use Rattle.fkv_partition.specs.declared.contexts.OpenWork.TheVariants.{OnKey}
 use Rattle.fkv_partition.specs.declared.contexts.Phase.TheVariants.{Fresh}
 use Rattle.fkv_partition.specs.Effect.{Asked}
 use Rattle.fkv_partition.specs.Events as events
 use Rattle.fkv_partition.specs.Pending.{AllPend, OthersPend}
-use Rattle.fkv_partition.specs.Views.{PartitionView, relocation_at}
 use Rattle.fkv_partition.proofs.AskedLemmas.{shown-stays}
 use Rattle.fkv_partition.proofs.AtOnceLemmas.{sound-issued, free-held, free-relocation}
 use Rattle.fkv_partition.proofs.EffectLemmas.{asked-low}
@@ -37,7 +36,7 @@ use Rattle.fkv_locked.proofs.TurnLemmas.{issue_keeps}
 module _ {K V I : Type 0} (code : K → ℕ) (old between : PartitionView K V I) (slot c issued : ℕ) (key : K) (input : I) where
   -- an issue of an update, as the core makes it
   record Begun : Type 0 where
-    issues : beginning.Issues code old.core between.core slot c (on_key.Rmw key input) issued
+    issues : beginning.Issues code old between slot c (on_key.Rmw key input) issued
     none : relocation_at between slot c ≡ None
 
   begun_on_key : IssuesOnKey code old between slot (on_key.Rmw key input) issued (Ok c) → Begun
@@ -50,7 +49,7 @@ module _ {K V I : Type 0} (code : K → ℕ) (old between : PartitionView K V I)
       rw (is, same)
       (record {
         issues = record { entered = inside; low = free.0; free = free-held old slot b inside free.0 free.1; own = own; merging = m; is = refl };
-        none = shown-stays relocating refl (slots_of old.core) old.core.contexts slot b slot b (Some (OnKey (record { number = issued; op = on_key.Rmw key input; phase = Fresh }))) (ap relocating free.1) refl
+        none = shown-stays relocating refl (slots_of old) old.contexts slot b slot b (Some (OnKey (record { number = issued; op = on_key.Rmw key input; phase = Fresh }))) (ap relocating free.1) refl
             ∙ free-relocation old slot b inside free.0 free.1;
       })
 
@@ -65,14 +64,14 @@ module _ {K V I : Type 0} (code : K → ℕ) (old between : PartitionView K V I)
   gone_on_key : {O R : Type 0} (stands : R → Standing) (cmp : K → K → Ordering) (join : V → V → V) (f : Meanings K V I O) (new : PartitionView K V I) (now : ℕ) (result : Result (Progress K V I O R) Refused)
       → relocation_at between slot c ≡ None
       → events.Goes stands cmp join f code between new slot c now result
-      → going.Goes stands cmp join f code between.core new.core slot c now result
+      → going.Goes stands cmp join f code between new slot c now result
   gone_on_key stands cmp join f new now result none (events.Goes.on_key n h rest) = h
   gone_on_key stands cmp join f new now result none (events.Goes.relocation x is h) = let bad : None ≡ Some x = sym none ∙ is in absurd (cc)
 
 module _ {K V I O R : Type 0} (cmp : K → K → Ordering) (join : V → V → V) (f : Meanings K V I O) (stands : R → Standing) (code : K → ℕ) (old new : PartitionView K V I) (slot : ℕ) (key : K) (input : I) (issued now : ℕ) (shown : O)
-    (d : IsDoneAtOnce stands cmp join f code old new slot key input issued now shown) (keeps : Bool) (sound : IsSound keeps cmp join code old.core) (few : slot < 16) (later : old.core.moment < issued) (after : issued < now)
-    (issue_law : (p q : CoreView K V I) → beginning.Issues code p q slot d.context (on_key.Rmw key input) issued → AllPend cmp p q)
-    (go_law : (p q : CoreView K V I) → IsSound keeps cmp join code p → going.Goes stands cmp join f code p q slot d.context now (Ok (Done (Value shown) now)) → OthersPend cmp p q slot d.context) where
+    (d : IsDoneAtOnce stands cmp join f code old new slot key input issued now shown) (keeps : Bool) (sound : IsSound keeps cmp join code old) (few : slot < 16) (later : old.moment < issued) (after : issued < now)
+    (issue_law : (p q : PartitionView K V I) → beginning.Issues code p q slot d.context (on_key.Rmw key input) issued → AllPend cmp p q)
+    (go_law : (p q : PartitionView K V I) → IsSound keeps cmp join code p → going.Goes stands cmp join f code p q slot d.context now (Ok (Done (Value shown) now)) → OthersPend cmp p q slot d.context) where
   pub at_once_keeps : (es : List (Entry K V I O)) (lows looks : List ℕ) (book : ℕ) → IsFaithful cmp f (seen cmp old) es lows looks book → length lows ≡ 128
       → (e : Entry K V I O) → e.op ≡ on_key.Rmw key input → e.answer ≡ Value shown
       → e.low ≡ length (updates es)
@@ -86,9 +85,9 @@ module _ {K V I O R : Type 0} (cmp : K → K → Ordering) (join : V → V → V
       let eight = asked-low d.between slot c (record { number = issued; op = Rmw key input }) d.issue.opened in
       let within : place_of slot c < length lows = omega arith in
       let lows' = slice_set lows (place_of slot c) (length us) in
-      let mid = issue_keeps cmp f old d.between es lows looks book issued k slot c (Rmw key input) code lows' eight later d.issue (issue_law old.core d.between.core begin.issues) refl within in
-      let sound' = sound-issued keeps cmp join code old.core d.between.core slot c issued (on_key.Rmw key input) sound few begin.issues in
-      let others = go_law d.between.core new.core sound' (gone_on_key code old d.between slot c issued key input stands cmp join f new now (Ok (Done (Value shown) now)) begin.none d.goes) in
+      let mid = issue_keeps cmp f old d.between es lows looks book issued k slot c (Rmw key input) code lows' eight later d.issue (issue_law old d.between begin.issues) refl within in
+      let sound' = sound-issued keeps cmp join code old d.between slot c issued (on_key.Rmw key input) sound few begin.issues in
+      let others = go_law d.between new sound' (gone_on_key code old d.between slot c issued key input stands cmp join f new now (Ok (Done (Value shown) now)) begin.none d.goes) in
       let first = d.issue.frame.moment in
       let second = d.event.frame.moment in
       let x = d.event.question in
@@ -96,8 +95,8 @@ module _ {K V I O R : Type 0} (cmp : K → K → Ordering) (join : V → V → V
       let x_is : x ≡ record { number = issued; op = Rmw key input } = cc in
       let key_is : keyed x.op ≡ Some e.op = ap (λ (z : Asked K V I). keyed z.op) x_is ∙ ap Some (sym op_is) in
       let done = kept_done cmp f (seen cmp d.between) (seen cmp new) (omega arith) (orderly cmp d.between) (orderly cmp new) slot c eight d.event.frame.others others es lows' looks book mid e d.event.effect.0
-      (subst (λ t. Same (live_of cmp new.core) (after_keyed cmp f (live_of cmp d.between.core) t)) key_is d.event.effect.2)
-      (told ∙ (d.event.effect.3 ∙ ap (answer_keyed f (live_of cmp d.between.core)) key_is)) at high (low ∙ sym (marked_same lows lows' (place_of slot c) (length us) refl within)) in
+      (subst (λ t. Same (live_of cmp new) (after_keyed cmp f (live_of cmp d.between) t)) key_is d.event.effect.2)
+      (told ∙ (d.event.effect.3 ∙ ap (answer_keyed f (live_of cmp d.between)) key_is)) at high (low ∙ sym (marked_same lows lows' (place_of slot c) (length us) refl within)) in
       let grown : updates (es ++ e ∷ []) ≡ us ++ updates (e ∷ []) = filter-append is_update_entry es (e ∷ []) in
       kept_unmarked cmp f (seen cmp new) (orderly cmp new) slot c eight d.event.effect.0 (es ++ e ∷ []) lows lows' looks (book + 1)
       (λ i n. sym (marked_other lows lows' (place_of slot c) i (length us) refl n))

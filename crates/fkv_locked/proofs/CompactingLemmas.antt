@@ -12,9 +12,9 @@ use Rattle.fkv_operations.specs.declared.operations.KeyedOp.{KeyedOp}
 use Rattle.fkv_operations.specs.declared.operations.Op.TheVariants.{Relocate}
 use Rattle.fkv_partition.specs.Beginning.{IsFirstOpen, LeavesAll}
 use Rattle.fkv_partition.specs.Checking.{Ends, Asks, ChecksLiveness}
-use Rattle.fkv_partition.specs.CoreEffect as key_effect
-use Rattle.fkv_partition.specs.CoreEnding.{Leaves}
-use Rattle.fkv_partition.specs.CoreViews.{CoreView, live_of}
+use Rattle.fkv_partition.specs.KeyEffect as key_effect
+use Rattle.fkv_partition.specs.KeyEnding.{Leaves}
+use Rattle.fkv_partition.specs.Views.{PartitionView, live_of, relocation_at, with_relocation}
 use Rattle.fkv_partition.specs.Effect.{Asked, asked, asked_of, IsTruncation}
 use Rattle.fkv_partition.specs.Events.{Goes, Loads}
 use Rattle.fkv_partition.specs.Going.{GoesOn}
@@ -22,7 +22,6 @@ use Rattle.fkv_partition.specs.Pending.{AllPend}
 use Rattle.fkv_partition.specs.declared.contexts.Progress.{Progress}
 use Rattle.fkv_partition.specs.Reading.{LoadsOn}
 use Rattle.fkv_partition.specs.Relocating.{IsRelocating}
-use Rattle.fkv_partition.specs.Views.{PartitionView, relocation_at, with_relocation}
 use Rattle.fkv_partition.specs.declared.relocations.Relocation.{Relocation}
 use Rattle.fkv_partition.proofs.AskedLemmas.{keyed-op}
 use Rattle.fkv_compaction.specs.Compactor.{IsTurn, CompactsNext, CompactsLoad, GivesUpAll, Parts}
@@ -105,37 +104,37 @@ module _ {K V I O R : Type 0} (stands : R → Standing) (cmp : K → K → Order
 
 -- ---- who parts
 -- no moment is past
-given-later : {K V I : Type 0} (slot : ℕ) {old new : PartitionView K V I} {start end : ℕ} → GivesUpAll slot old new start end → old.core.moment ≤ start
-    → (old.core.moment ≤ new.core.moment) × (new.core.moment ≤ end)
+given-later : {K V I : Type 0} (slot : ℕ) {old new : PartitionView K V I} {start end : ℕ} → GivesUpAll slot old new start end → old.moment ≤ start
+    → (old.moment ≤ new.moment) × (new.moment ≤ end)
 given-later slot (GivesUpAll.none h) le = (omega arith, le)
 given-later slot (GivesUpAll.next h more) le = let rest = given-later slot more (omega arith) in (omega (arith, rest.0), rest.1)
 
-leaves-later : {K V I : Type 0} (keeps : Bool) (old new : CoreView K V I) (slot now : ℕ) (result : Result (Unit {0}) Refused) → old.moment ≤ now → Leaves keeps old new slot now result
+leaves-later : {K V I : Type 0} (keeps : Bool) (old new : PartitionView K V I) (slot now : ℕ) (result : Result (Unit {0}) Refused) → old.moment ≤ now → Leaves keeps old new slot now result
     → old.moment ≤ new.moment
-leaves-later {K} {V} {I} keeps old new slot now result le (Leaves.unknown h n r) = let at = ap (λ (v : CoreView K V I). v.moment) n in omega arith
-leaves-later {K} {V} {I} keeps old new slot now result le (Leaves.busy c e o n r) = let at = ap (λ (v : CoreView K V I). v.moment) n in omega arith
-leaves-later {K} {V} {I} keeps old new slot now result le (Leaves.leaves e o m r) = let at = ap (λ (v : CoreView K V I). v.moment) m.is in omega arith
+leaves-later {K} {V} {I} keeps old new slot now result le (Leaves.unknown h n r) = let at = ap (λ (v : PartitionView K V I). v.moment) n in omega arith
+leaves-later {K} {V} {I} keeps old new slot now result le (Leaves.busy c e o n r) = let at = ap (λ (v : PartitionView K V I). v.moment) n in omega arith
+leaves-later {K} {V} {I} keeps old new slot now result le (Leaves.leaves e o m r) = let at = ap (λ (v : PartitionView K V I). v.moment) m.is in omega arith
 
-left-later : {K V I : Type 0} (keeps : Bool) (old new : PartitionView K V I) (slot now : ℕ) (result : Result (Unit {0}) Refused) → old.core.moment ≤ now → LeavesAll keeps old new slot now result
-    → old.core.moment ≤ new.core.moment
-left-later {K} {V} {I} keeps old new slot now result le (LeavesAll.busy c x h n r) = let at = ap (λ (v : PartitionView K V I). v.core.moment) n in omega arith
-left-later keeps old new slot now result le (LeavesAll.leaves none does n) = leaves-later keeps old.core new.core slot now result le does
+left-later : {K V I : Type 0} (keeps : Bool) (old new : PartitionView K V I) (slot now : ℕ) (result : Result (Unit {0}) Refused) → old.moment ≤ now → LeavesAll keeps old new slot now result
+    → old.moment ≤ new.moment
+left-later {K} {V} {I} keeps old new slot now result le (LeavesAll.busy c x h n r) = let at = ap (λ (v : PartitionView K V I). v.moment) n in omega arith
+left-later keeps old new slot now result le (LeavesAll.leaves none does) = leaves-later keeps old new slot now result le does
 
-parts-later : {K V I : Type 0} (keeps : Bool) (old new : PartitionView K V I) (slot start end : ℕ) (result : Result (Unit {0}) Refused) → old.core.moment ≤ start
+parts-later : {K V I : Type 0} (keeps : Bool) (old new : PartitionView K V I) (slot start end : ℕ) (result : Result (Unit {0}) Refused) → old.moment ≤ start
     → Parts keeps old new slot start end result
-    → old.core.moment ≤ new.core.moment
-parts-later {K} {V} {I} keeps old new slot start end result le (Parts.worn w n e r) = let at = ap (λ (v : PartitionView K V I). v.core.moment) n in omega arith
+    → old.moment ≤ new.moment
+parts-later {K} {V} {I} keeps old new slot start end result le (Parts.worn w n e r) = let at = ap (λ (v : PartitionView K V I). v.moment) n in omega arith
 parts-later keeps old new slot start end result le (Parts.parts between last spare gives leaving e) =
     let given = given-later slot gives le in
     let left = left-later keeps between new slot (last + 1) result (omega (arith, given.1)) leaving in
     omega (arith, given.0, left)
 
 -- ---- operations on keys stay where those of the core do
-module _ {K V I : Type 0} (old new : PartitionView K V I) (same : (s d : ℕ) → key_effect.asked new.core s d ≡ key_effect.asked old.core s d) where
+module _ {K V I : Type 0} (old new : PartitionView K V I) (same : (s d : ℕ) → key_effect.asked new s d ≡ key_effect.asked old s d) where
   operation_stays : (s d number : ℕ) (op : KeyedOp K V I) → asked old s d ≡ Some (record { number = number; op = op_of op }) → asked new s d ≡ Some (record { number = number; op = op_of op })
-  operation_stays s d number op h = by_parts (key_effect.asked old.core s d) (relocation_at old s d) refl h
+  operation_stays s d number op h = by_parts (key_effect.asked old s d) (relocation_at old s d) refl h
     where
-      by_parts : (a : Option (key_effect.Asked K V I)) (r : Option (Relocation K V)) → key_effect.asked old.core s d ≡ a → asked_of a r ≡ Some (record { number = number; op = op_of op })
+      by_parts : (a : Option (key_effect.Asked K V I)) (r : Option (Relocation K V)) → key_effect.asked old s d ≡ a → asked_of a r ≡ Some (record { number = number; op = op_of op })
           → asked new s d ≡ Some (record { number = number; op = op_of op })
       by_parts (Some y) r p e = ap (λ (a : Option (key_effect.Asked K V I)). asked_of a (relocation_at new s d)) (same s d ∙ p) ∙ e
       by_parts None None p e = absurd (cc)
@@ -148,22 +147,22 @@ module _ {K V I : Type 0} (old new : PartitionView K V I) (same : (s d : ℕ) �
 module _ {K V I O : Type 0} (cmp : K → K → Ordering) (f : Meanings K V I O) (old new : PartitionView K V I) (es : List (Entry K V I O)) (lows looks : List ℕ) (book : ℕ)
     (k : IsFaithful cmp f (seen cmp old) es lows looks book) where
   -- an event of a relocation
-  relocating_keeps : (keeps : Bool) (slot c now : ℕ) → IsTrue keeps → old.core.moment < now → IsRelocating keeps cmp old new slot c now → IsFaithful cmp f (seen cmp new) es lows looks book
+  relocating_keeps : (keeps : Bool) (slot c now : ℕ) → IsTrue keeps → old.moment < now → IsRelocating keeps cmp old new slot c now → IsFaithful cmp f (seen cmp new) es lows looks book
   relocating_keeps keeps slot c now held later r =
       let at = r.moment in
       kept_operations cmp f (seen cmp old) (seen cmp new) (omega arith) es lows looks book (operation_stays old new r.same) (λ s d p h. sym (r.pend held s d) ∙ h) (r.live held) k
 
-  pub turn_keeps : (keeps : Bool) (slot now : ℕ) → IsTrue keeps → old.core.moment < now → IsTurn keeps cmp old new slot now → IsFaithful cmp f (seen cmp new) es lows looks book
+  pub turn_keeps : (keeps : Bool) (slot now : ℕ) → IsTrue keeps → old.moment < now → IsTurn keeps cmp old new slot now → IsFaithful cmp f (seen cmp new) es lows looks book
   turn_keeps keeps slot now held later turn = relocating_keeps keeps slot turn.context now held later turn.event
 
   -- one is given up, or nothing changes
-  fails_keeps : (slot c now : ℕ) → old.core.moment < now → is_some (relocation_at old slot c) ≡ true → (new ≡ old) ⊎ (new ≡ with_relocation old slot c None now) → IsFaithful cmp f (seen cmp new) es lows looks book
+  fails_keeps : (slot c now : ℕ) → old.moment < now → is_some (relocation_at old slot c) ≡ true → (new ≡ old) ⊎ (new ≡ with_relocation old slot c None now) → IsFaithful cmp f (seen cmp new) es lows looks book
   fails_keeps slot c now later some (inl n) = subst (λ (v : PartitionView K V I). IsFaithful cmp f (seen cmp v) es lows looks book) (sym n) k
   fails_keeps slot c now later some (inr n) = relocating_keeps true slot c now refl later (subst (λ (v : PartitionView K V I). IsRelocating true cmp old v slot c now) (sym n) (gone cmp old slot c now some))
 
   -- a load, refused or not
   pub load_keeps : {R : Type 0} (stands : R → Standing) (spells : ℕ → List ℕ → ℕ → texts.Entry K V → Type 0) (join : V → V → V) (code : K → ℕ) (keeps : Bool) (slot now : ℕ) (came : Result (Joined R) Refused)
-      (result : Result (Progress K V I O R) Refused) → IsTrue keeps → old.core.moment < now
+      (result : Result (Progress K V I O R) Refused) → IsTrue keeps → old.moment < now
       → CompactsLoad stands spells cmp join f code old new slot came now result
       → IfOk result (λ moved. IsTurn keeps cmp old new slot now)
       → IsFaithful cmp f (seen cmp new) es lows looks book
@@ -173,7 +172,7 @@ module _ {K V I O : Type 0} (cmp : K → K → Ordering) (f : Meanings K V I O) 
       fails_keeps slot c now later first.0 (loads_comes stands cmp join f code old new slot c now (Err why) spells came first does).1
 
   -- the log's start is cut: no look-up is to find what it was to find
-  pub truncation_keeps : (keeps : Bool) (page now : ℕ) → IsTrue keeps → old.core.moment < now → IsTruncation keeps cmp old new page now → IsFaithful cmp f (seen cmp new) es lows looks book
+  pub truncation_keeps : (keeps : Bool) (page now : ℕ) → IsTrue keeps → old.moment < now → IsTruncation keeps cmp old new page now → IsFaithful cmp f (seen cmp new) es lows looks book
   truncation_keeps keeps page now held later t =
       let at = t.moment in
       kept_operations cmp f (seen cmp old) (seen cmp new) (omega arith) es lows looks book (λ s d number op h. t.same s d ∙ h)
@@ -182,10 +181,10 @@ module _ {K V I O : Type 0} (cmp : K → K → Ordering) (f : Meanings K V I O) 
       k
 
   -- a compactor parts
-  pub part_keeps : (keeps : Bool) (slot start end : ℕ) (result : Result (Unit {0}) Refused) → old.core.moment ≤ start → Parts keeps old new slot start end result
+  pub part_keeps : (keeps : Bool) (slot start end : ℕ) (result : Result (Unit {0}) Refused) → old.moment ≤ start → Parts keeps old new slot start end result
       → ((s d : ℕ) (x : Asked K V I) (o : KeyedOp K V I) → asked old s d ≡ Some x → keyed x.op ≡ Some o → asked new s d ≡ Some x)
-      → AllPend cmp old.core new.core
-      → Same (live_of cmp new.core) (live_of cmp old.core)
+      → AllPend cmp old new
+      → Same (live_of cmp new) (live_of cmp old)
       → IsFaithful cmp f (seen cmp new) es lows looks book
   part_keeps keeps slot start end result le parting operations pend live =
       kept_operations cmp f (seen cmp old) (seen cmp new) (parts-later keeps old new slot start end result le parting) es lows looks book

@@ -11,9 +11,9 @@ use Rattle.fkv_partition.specs.declared.contexts.OpenWork.{OpenWork}
 use Rattle.fkv_partition.specs.declared.contexts.OpenWork.TheVariants.{OnKey, Relocating}
 use Rattle.fkv_partition.specs.declared.contexts.Loading.{Loading}
 use Rattle.fkv_partition.specs.declared.contexts.Phase.{Phase}
-use Rattle.fkv_partition.specs.CoreContexts.{joined, is_session, context_in, at_phase, on_key}
-use Rattle.fkv_partition.specs.CoreLoading.{AwaitsPage}
-use Rattle.fkv_partition.specs.CoreViews.{CoreView, slots_of, held_at, context_at, with_context}
+use Rattle.fkv_partition.specs.Contexts.{joined, is_session, context_in, at_phase, on_key}
+use Rattle.fkv_partition.specs.KeyLoading.{AwaitsPage}
+use Rattle.fkv_partition.specs.Views.{PartitionView, slots_of, held_at, context_at, with_context}
 use Rattle.fkv_partition.specs.Pending.{pending, pending_of}
 
 joined-some : {A : Type 0} (o : Option (Option A)) (x : A) → joined o ≡ Some x → o ≡ Some (Some x)
@@ -31,7 +31,7 @@ set-context slots contexts slot c x y h = by_cases (is_session slots slot) (nat_
     by_cases true false p q e = absurd (cc)
     by_cases false b p q e = absurd (cc)
 
-module _ {K V I : Type 0} (cmp : K → K → Ordering) (v : CoreView K V I) (slot c now : ℕ) (x : Context K V I) (h : context_at v slot c ≡ Some x) where
+module _ {K V I : Type 0} (cmp : K → K → Ordering) (v : PartitionView K V I) (slot c now : ℕ) (x : Context K V I) (h : context_at v slot c ≡ Some x) where
   -- what is pending once another operation, or none, stands there
   pub same-pend : (y : Option (Context K V I)) → pending cmp (with_context v slot c y now) slot c ≡ pending_of cmp v.records y
   same-pend y =

@@ -3,7 +3,7 @@ use Rattle.std.proofs.Common.{◌≡◌, ◌≤◌, Bool, ℕ, zero, suc, false,
 use Rattle.std.specs.declared.cmp.Ordering.{Ordering}
 use Rattle.fkv_functions.specs.Meanings.{Meanings}
 use Rattle.fkv_partition.specs.declared.limits.Config.{Config}
-use Rattle.fkv_partition.specs.CoreContexts.{is_session}
+use Rattle.fkv_partition.specs.Contexts.{is_session}
 use Rattle.fkv_partition.specs.Effect.{asked}
 use Rattle.fkv_partition.specs.Views.{PartitionView, empty_partition}
 use Rattle.fkv_partition.proofs.EffectLemmas.{closed-pending}
@@ -38,5 +38,5 @@ kept_empty {K} {V} {I} cmp f merges config size number v es lows looks v_is es_i
   counted = refl;
 })
 
-pub early_empty : {K V I : Type 0} (merges : Bool) (config : Config) (size number clock : ℕ) (v : PartitionView K V I) → v ≡ empty_partition merges config size number → v.core.moment ≤ clock
+pub early_empty : {K V I : Type 0} (merges : Bool) (config : Config) (size number clock : ℕ) (v : PartitionView K V I) → v ≡ empty_partition merges config size number → v.moment ≤ clock
 early_empty merges config size number clock v v_is = rw v_is (omega arith)

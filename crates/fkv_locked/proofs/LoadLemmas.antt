@@ -19,14 +19,13 @@ use Rattle.fkv_operations.specs.declared.operations.Answer.{Answer}
 use Rattle.fkv_partition.specs.declared.contexts.Progress.{Progress}
 use Rattle.fkv_partition.specs.declared.contexts.Progress.TheVariants.{Done, Next, NeedsBuild, NeedsLoad, Waits}
 use Rattle.fkv_partition.specs.declared.contexts.Phase.TheVariants.{Load}
-use Rattle.fkv_partition.specs.CoreContexts.{at_phase}
-use Rattle.fkv_partition.specs.CoreLoading as core_loading
+use Rattle.fkv_partition.specs.Contexts.{at_phase}
+use Rattle.fkv_partition.specs.KeyLoading as core_loading
 use Rattle.fkv_partition.specs.Pending.{Pending, pending, OthersPend}
-use Rattle.fkv_partition.specs.CoreViews.{CoreView, live_of}
+use Rattle.fkv_partition.specs.Views.{PartitionView, live_of}
 use Rattle.fkv_locked.proofs.ContextLemmas.{was-pending, same-pend}
 use Rattle.fkv_partition.specs.Events.{Loads}
 use Rattle.fkv_partition.specs.Effect.{Asked, asked, IsEvent, IsLoaded, IsLoad, Finds, to_find}
-use Rattle.fkv_partition.specs.Views.{PartitionView}
 use Rattle.fkv_partition.proofs.EffectLemmas.{relocation-asked}
 use Rattle.fkv_partition.proofs.AskedLemmas.{keyed-op}
 use Rattle.fkv_locked.specs.declared.open_operations.OpenOperation.{OpenOperation}
@@ -39,7 +38,7 @@ pub record IsLookedUp {V : Type 0} (o : Option (Pending V)) (moment : ℕ) : Typ
   pub is : o ≡ Some found
   pub at : found.moment ≡ moment
 
-module _ {K V I O R : Type 0} (stands : R → Standing) (entry : ℕ → List ℕ → ℕ → Entry K V → Type 0) (cmp : K → K → Ordering) (join : V → V → V) (f : Meanings K V I O) (old new : CoreView K V I)
+module _ {K V I O R : Type 0} (stands : R → Standing) (entry : ℕ → List ℕ → ℕ → Entry K V → Type 0) (cmp : K → K → Ordering) (join : V → V → V) (f : Meanings K V I O) (old new : PartitionView K V I)
     (slot c : ℕ) (came : Result (Joined R) Refused) (now : ℕ) where
   -- a read that a page finishes has its effect at its look-up
   loads-done : (a : Answer O) (effect : ℕ) → core_loading.Loads stands entry cmp join f old new slot c came now (Ok (Done a effect)) → IsLookedUp (pending cmp old slot c) effect
@@ -73,7 +72,7 @@ module _ {K V I O R : Type 0} (stands : R → Standing) (entry : ℕ → List �
   loads-further q a moment (core_loading.Loads.prepares x l p k i value told e op n r) is = absurd (cc)
   loads-further q a moment (core_loading.Loads.goes_on x l p b parts s w e g m h n r) is =
       let new-is : pending cmp new slot c ≡ Some (record { moment = l.looked; value = value_of (newest cmp old.records.text (key_of x.op) (address_of l.kept.word)) }) =
-      ap (λ (v : CoreView K V I). pending cmp v slot c) n
+      ap (λ (v : PartitionView K V I). pending cmp v slot c) n
       ∙ (same-pend cmp old slot c now x w.awaits.here (Some (at_phase x (Load (record l { wanted = b; parts = parts }))))
       ∙ rw (eq-eqb l.begin old.records.log.begin w.awaits.begin) refl) in
       let both : Some (record { moment = l.looked; value = value_of (newest cmp old.records.text (key_of x.op) (address_of l.kept.word)) }) ≡ Some is.found = sym new-is ∙ is.is in
@@ -88,10 +87,10 @@ not-relocate op h = let bad : Some op ≡ None = sym (keyed-op op) ∙ ap keyed 
 module _ {K V I O R : Type 0} (stands : R → Standing) (entry : ℕ → List ℕ → ℕ → Entry K V → Type 0) (cmp : K → K → Ordering) (join : V → V → V) (f : Meanings K V I O) (code : K → ℕ)
     (old new : PartitionView K V I) (mine : OpenOperation K V I) (came : Result (Joined R) Refused) (now : ℕ)
     (asks : asked old mine.session.slot mine.context ≡ Some (question_of mine))
-    (early : (p : Pending V) → pending cmp old.core mine.session.slot mine.context ≡ Some p → p.moment ≤ old.core.moment)
-    (later : old.core.moment < now) where
+    (early : (p : Pending V) → pending cmp old mine.session.slot mine.context ≡ Some p → p.moment ≤ old.moment)
+    (later : old.moment < now) where
   core-loads : (r : Result (Progress K V I O R) Refused) → Loads stands entry cmp join f code old new mine.session.slot mine.context came now r
-      → core_loading.Loads stands entry cmp join f old.core new.core mine.session.slot mine.context came now r
+      → core_loading.Loads stands entry cmp join f old new mine.session.slot mine.context came now r
   core-loads r (Loads.on_key none does passed) = does
   core-loads r (Loads.relocation x h does) =
       let both : Some (question_of mine) ≡ Some (record { number = x.number; op = Relocate }) = sym asks ∙ relocation-asked old mine.session.slot mine.context x h in
@@ -99,7 +98,7 @@ module _ {K V I O R : Type 0} (stands : R → Standing) (entry : ℕ → List �
       let op : op_of mine.op ≡ Relocate = ap (λ (y : Asked K V I). y.op) same in
       absurd (not-relocate mine.op op)
 
-  looked-now : IsLookedUp (pending cmp old.core mine.session.slot mine.context) now → ⊥
+  looked-now : IsLookedUp (pending cmp old mine.session.slot mine.context) now → ⊥
   looked-now l =
       let le = early l.found l.is in
       let at = l.at in
@@ -109,7 +108,7 @@ module _ {K V I O R : Type 0} (stands : R → Standing) (entry : ℕ → List �
   op-is x was = let both : Some x ≡ Some (question_of mine) = sym was ∙ asks in cc
 
   loaded-come : (p : Progress K V I O R) → IsLoaded cmp f old new mine.session.slot mine.context now p
-      → HasCome f mine (asked new mine.session.slot mine.context) (pending cmp old.core mine.session.slot mine.context) (pending cmp new.core mine.session.slot mine.context) p
+      → HasCome f mine (asked new mine.session.slot mine.context) (pending cmp old mine.session.slot mine.context) (pending cmp new mine.session.slot mine.context) p
   loaded-come (Done a effect) l =
       let found = l.effect.1 in
       let read = found.3 in
@@ -120,27 +119,27 @@ module _ {K V I O R : Type 0} (stands : R → Standing) (entry : ℕ → List �
   loaded-come (NeedsLoad r a) l = (l.effect.0 ∙ ap Some (op-is l.question l.was), l.effect.1)
   loaded-come (Waits why) l = absurd l.effect
 
-  event-come : (p : Progress K V I O R) → core_loading.Loads stands entry cmp join f old.core new.core mine.session.slot mine.context came now (Ok p)
+  event-come : (p : Progress K V I O R) → core_loading.Loads stands entry cmp join f old new mine.session.slot mine.context came now (Ok p)
       → IsEvent cmp f old new mine.session.slot mine.context now p
       → Finds cmp old new mine.session.slot mine.context now p
-      → HasCome f mine (asked new mine.session.slot mine.context) (pending cmp old.core mine.session.slot mine.context) (pending cmp new.core mine.session.slot mine.context) p
+      → HasCome f mine (asked new mine.session.slot mine.context) (pending cmp old mine.session.slot mine.context) (pending cmp new mine.session.slot mine.context) p
   event-come (Done a effect) does ev finds =
-      absurd (looked-now (subst (IsLookedUp (pending cmp old.core mine.session.slot mine.context)) ev.effect.1
-      (loads-done stands entry cmp join f old.core new.core mine.session.slot mine.context came now a effect does)))
+      absurd (looked-now (subst (IsLookedUp (pending cmp old mine.session.slot mine.context)) ev.effect.1
+      (loads-done stands entry cmp join f old new mine.session.slot mine.context came now a effect does)))
   event-come Next does ev finds = finds
   event-come (NeedsBuild ask) does ev finds = finds
   event-come (NeedsLoad r a) does ev finds =
       let y = op-is finds.question finds.was in
       let asking = finds.asks ∙ (ap (λ (z : Asked K V I). to_find cmp old now (keyed z.op)) y ∙ ap (to_find cmp old now) (keyed-op mine.op)) in
-      absurd (looked-now (loads-further stands entry cmp join f old.core new.core mine.session.slot mine.context came now r a now does (record { found = _; is = asking; at = refl })))
+      absurd (looked-now (loads-further stands entry cmp join f old new mine.session.slot mine.context came now r a now does (record { found = _; is = asking; at = refl })))
   event-come (Waits why) does ev finds = finds
 
-  event-live : (p : Progress K V I O R) → core_loading.Loads stands entry cmp join f old.core new.core mine.session.slot mine.context came now (Ok p)
+  event-live : (p : Progress K V I O R) → core_loading.Loads stands entry cmp join f old new mine.session.slot mine.context came now (Ok p)
       → IsEvent cmp f old new mine.session.slot mine.context now p
-      → Same (live_of cmp new.core) (live_of cmp old.core)
+      → Same (live_of cmp new) (live_of cmp old)
   event-live (Done a effect) does ev =
-      absurd (looked-now (subst (IsLookedUp (pending cmp old.core mine.session.slot mine.context)) ev.effect.1
-      (loads-done stands entry cmp join f old.core new.core mine.session.slot mine.context came now a effect does)))
+      absurd (looked-now (subst (IsLookedUp (pending cmp old mine.session.slot mine.context)) ev.effect.1
+      (loads-done stands entry cmp join f old new mine.session.slot mine.context came now a effect does)))
   event-live Next does ev = ev.effect.1
   event-live (NeedsBuild ask) does ev = ev.effect.1
   event-live (NeedsLoad r a) does ev = ev.effect.1
@@ -148,7 +147,7 @@ module _ {K V I O R : Type 0} (stands : R → Standing) (entry : ℕ → List �
 
   pub load_comes : (p : Progress K V I O R) → Loads stands entry cmp join f code old new mine.session.slot mine.context came now (Ok p)
       → IsLoad cmp f old new mine.session.slot mine.context now p
-      → OthersPend cmp old.core new.core mine.session.slot mine.context
+      → OthersPend cmp old new mine.session.slot mine.context
       → IsCome cmp f old new mine p
   load_comes p does (IsLoad.on_key l) others =
       let at = l.frame.moment in

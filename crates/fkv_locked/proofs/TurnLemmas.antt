@@ -11,9 +11,8 @@ use Rattle.fkv_operations.specs.declared.operations.Answer.{Answer}
 use Rattle.fkv_partition.specs.declared.contexts.Wait.{Wait}
 use Rattle.fkv_partition.specs.declared.contexts.Progress.TheVariants.{Done, Next, NeedsBuild, NeedsLoad, Waits}
 use Rattle.fkv_partition.specs.Pending.{AllPend, OthersPend, pending}
-use Rattle.fkv_partition.specs.CoreViews.{live_of}
+use Rattle.fkv_partition.specs.Views.{live_of, PartitionView}
 use Rattle.fkv_partition.specs.Effect.{Asked, asked, to_find, IsQuiet, IsIssue, IsGiveUp}
-use Rattle.fkv_partition.specs.Views.{PartitionView}
 use Rattle.fkv_partition.proofs.EffectLemmas.{asked-low}
 use Rattle.fkv_partition.proofs.AskedLemmas.{keyed-op}
 use Rattle.fkv_histories.specs.declared.entries.Entry.{Entry}
@@ -26,13 +25,13 @@ use Rattle.fkv_locked.proofs.KeptLemmas.{orderly, kept_quiet, kept_still, kept_f
 module _ {K V I O : Type 0} (cmp : K → K → Ordering) (f : Meanings K V I O) (old new : PartitionView K V I) (es : List (Entry K V I O)) (lows looks : List ℕ) (book now : ℕ)
     (k : IsFaithful cmp f (seen cmp old) es lows looks book) where
   -- an event of no operation
-  pub quiet_keeps : (keeps : Bool) → IsTrue keeps → old.core.moment < now → IsQuiet keeps old new now → AllPend cmp old.core new.core → IsFaithful cmp f (seen cmp new) es lows looks book
+  pub quiet_keeps : (keeps : Bool) → IsTrue keeps → old.moment < now → IsQuiet keeps old new now → AllPend cmp old new → IsFaithful cmp f (seen cmp new) es lows looks book
   quiet_keeps keeps held later q pend =
       let at = q.moment in
       kept_quiet cmp f (seen cmp old) (seen cmp new) (omega arith) es lows looks book q.same pend (λ x. ap (λ t. live cmp t x) (q.text held)) k
 
   -- an issue
-  pub issue_keeps : (slot c : ℕ) (op : Op K V I) (code : K → ℕ) (lows' : List ℕ) → c < 8 → old.core.moment < now → IsIssue code old new slot c op now → AllPend cmp old.core new.core
+  pub issue_keeps : (slot c : ℕ) (op : Op K V I) (code : K → ℕ) (lows' : List ℕ) → c < 8 → old.moment < now → IsIssue code old new slot c op now → AllPend cmp old new
       → lows' ≡ slice_set lows (place_of slot c) (length (updates es))
       → place_of slot c < length lows
       → IsFaithful cmp f (seen cmp new) es lows' looks book
@@ -42,21 +41,21 @@ module _ {K V I O : Type 0} (cmp : K → K → Ordering) (f : Meanings K V I O) 
       lows' e.closed (pend slot c) (λ x. ap (λ t. live cmp t x) e.text) set within
 
   -- an operation is given up
-  pub give_up_keeps : (slot c : ℕ) → old.core.moment < now → IsGiveUp old new slot c now → OthersPend cmp old.core new.core slot c → IsFaithful cmp f (seen cmp new) es lows looks book
+  pub give_up_keeps : (slot c : ℕ) → old.moment < now → IsGiveUp old new slot c now → OthersPend cmp old new slot c → IsFaithful cmp f (seen cmp new) es lows looks book
   give_up_keeps slot c later e others =
       let at = e.frame.moment in
       kept_closed cmp f (seen cmp old) (seen cmp new) (omega arith) (orderly cmp old) (orderly cmp new) slot c (asked-low old slot c e.question e.was) e.frame.others others es lows looks book k
       e.closed (λ x. ap (λ t. live cmp t x) e.text)
 
-  pub failed_keeps : (slot c : ℕ) → old.core.moment < now → (new ≡ old) ⊎ IsGiveUp old new slot c now → OthersPend cmp old.core new.core slot c → IsFaithful cmp f (seen cmp new) es lows looks book
+  pub failed_keeps : (slot c : ℕ) → old.moment < now → (new ≡ old) ⊎ IsGiveUp old new slot c now → OthersPend cmp old new slot c → IsFaithful cmp f (seen cmp new) es lows looks book
   failed_keeps slot c later e others = elim e [ inl same ↦ subst (λ v. IsFaithful cmp f (seen cmp v) es lows looks book) (sym same) k | inr given ↦ give_up_keeps slot c later given others ]
 
   -- an operation goes on, and is to find nothing any more
-  came_still : (slot c : ℕ) (x : Asked K V I) → pending cmp new.core slot c ≡ None → old.core.moment ≤ new.core.moment
+  came_still : (slot c : ℕ) (x : Asked K V I) → pending cmp new slot c ≡ None → old.moment ≤ new.moment
       → asked old slot c ≡ Some x
       → ((s d : ℕ) → (s ≡ slot → ⊥) ⊎ (d ≡ c → ⊥) → asked new s d ≡ asked old s d)
-      → OthersPend cmp old.core new.core slot c
-      → Same (live_of cmp new.core) (live_of cmp old.core)
+      → OthersPend cmp old new slot c
+      → Same (live_of cmp new) (live_of cmp old)
       → IsFaithful cmp f (seen cmp new) es lows looks book
   came_still slot c x none later asks rest others lives =
       kept_still cmp f (seen cmp old) (seen cmp new) later (orderly cmp old) (orderly cmp new) slot c (asked-low old slot c x asks)
@@ -119,8 +118,8 @@ module _ {K V I O R : Type 0} (cmp : K → K → Ordering) (f : Meanings K V I O
       let key : keyed x.op ≡ Some entry.op = ap (λ (z : Asked K V I). keyed z.op) x_is ∙ (keyed-op mine.op ∙ ap Some (sym op_is)) in
       rw grown (kept_done cmp f (seen cmp old) (seen cmp new) (omega arith) (orderly cmp old) (orderly cmp new) mine.session.slot mine.context (asked-low old mine.session.slot mine.context (question_of mine) e.asks)
       e.event.frame.others e.others es lows looks book k entry e.event.effect.0
-      (subst (λ t. Same (live_of cmp new.core) (after_keyed cmp f (live_of cmp old.core) t)) key e.event.effect.2)
-      (told ∙ (e.event.effect.3 ∙ ap (answer_keyed f (live_of cmp old.core)) key)) at high low_is)
+      (subst (λ t. Same (live_of cmp new) (after_keyed cmp f (live_of cmp old) t)) key e.event.effect.2)
+      (told ∙ (e.event.effect.3 ∙ ap (answer_keyed f (live_of cmp old)) key)) at high low_is)
 
   -- a page came
   pub came_next : IsCome {R = R} cmp f old new mine Next → IsFaithful cmp f (seen cmp new) es lows looks book

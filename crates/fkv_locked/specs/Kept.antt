@@ -7,9 +7,8 @@ use Rattle.fkv_operations.specs.After.{key_of}
 use Rattle.fkv_operations.specs.Operations.{op_of}
 use Rattle.fkv_operations.specs.declared.operations.KeyedOp.{KeyedOp}
 use Rattle.fkv_partition.specs.Pending.{Pending, pending}
-use Rattle.fkv_partition.specs.CoreViews.{live_of}
+use Rattle.fkv_partition.specs.Views.{live_of, PartitionView}
 use Rattle.fkv_partition.specs.Effect.{Asked, asked}
-use Rattle.fkv_partition.specs.Views.{PartitionView}
 use Rattle.fkv_histories.specs.declared.entries.Entry.{Entry}
 use Rattle.fkv_histories.specs.Histories.{updates, map_of, map_at, IsLegal}
 
@@ -22,7 +21,7 @@ pub record Seen (K V I : Type 0) : Type 0 where
   pub moment : ℕ
 
 abbrev pub seen : {K V I : Type 0} → (K → K → Ordering) → PartitionView K V I → Seen K V I
-seen cmp v = record { live = live_of cmp v.core; asked = asked v; pending = pending cmp v.core; moment = v.core.moment }
+seen cmp v = record { live = live_of cmp v; asked = asked v; pending = pending cmp v; moment = v.moment }
 
 -- the place of a context among the counts of all contexts
 abbrev pub place_of : ℕ → ℕ → ℕ

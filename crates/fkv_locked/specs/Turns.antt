@@ -12,9 +12,8 @@ use Rattle.fkv_operations.specs.declared.operations.KeyedOp.TheVariants.{Read}
 use Rattle.fkv_partition.specs.declared.contexts.Progress.{Progress}
 use Rattle.fkv_partition.specs.declared.contexts.Progress.TheVariants as progress
 use Rattle.fkv_partition.specs.Pending.{Pending, pending, OthersPend}
-use Rattle.fkv_partition.specs.CoreViews.{live_of}
+use Rattle.fkv_partition.specs.Views.{live_of, PartitionView}
 use Rattle.fkv_partition.specs.Effect.{Asked, asked, IsEvent, Finds}
-use Rattle.fkv_partition.specs.Views.{PartitionView}
 use Rattle.fkv_histories.specs.declared.entries.Entry.{Entry}
 use Rattle.fkv_histories.specs.Histories.{is_update_entry}
 use Rattle.fkv_locked.specs.Kept.{place_of}
@@ -113,10 +112,10 @@ module _ {K V I O R : Type 0} where
   pub record IsGone (cmp : K → K → Ordering) (f : Meanings K V I O) (old new : PartitionView K V I) (mine : OpenOperation K V I)
       (now : ℕ) (p : Progress K V I O R) : Type 0 where
     pub asks : asked old mine.session.slot mine.context ≡ Some (question_of mine)
-    pub later : old.core.moment < now
+    pub later : old.moment < now
     pub event : IsEvent cmp f old new mine.session.slot mine.context now p
     pub finds : Finds cmp old new mine.session.slot mine.context now p
-    pub others : OthersPend cmp old.core new.core mine.session.slot mine.context
+    pub others : OthersPend cmp old new mine.session.slot mine.context
 
   -- what a page that came makes of an operation on a key, for a history: a read is done as its look-up was to find; a look-up
   -- goes on; or nothing is to be found any more
@@ -133,9 +132,9 @@ module _ {K V I O R : Type 0} where
   pub record IsCome (cmp : K → K → Ordering) (f : Meanings K V I O) (old new : PartitionView K V I) (mine : OpenOperation K V I)
       (p : Progress K V I O R) : Type 0 where
     pub asks : asked old mine.session.slot mine.context ≡ Some (question_of mine)
-    pub later : old.core.moment ≤ new.core.moment
-    pub effect : HasCome f mine (asked new mine.session.slot mine.context) (pending cmp old.core mine.session.slot mine.context)
-        (pending cmp new.core mine.session.slot mine.context) p
-    pub live : Same (live_of cmp new.core) (live_of cmp old.core)
+    pub later : old.moment ≤ new.moment
+    pub effect : HasCome f mine (asked new mine.session.slot mine.context) (pending cmp old mine.session.slot mine.context)
+        (pending cmp new mine.session.slot mine.context) p
+    pub live : Same (live_of cmp new) (live_of cmp old)
     pub rest : (s d : ℕ) → (s ≢ mine.session.slot) ⊎ (d ≢ mine.context) → asked new s d ≡ asked old s d
-    pub others : OthersPend cmp old.core new.core mine.session.slot mine.context
+    pub others : OthersPend cmp old new mine.session.slot mine.context

@@ -4,9 +4,9 @@ ghost use Rattle.fkv_operations.specs.declared.operations.Answer.{Answer};
 ghost use Rattle.fkv_operations.specs.declared.operations.Answer.TheVariants.{Value};
 ghost use Rattle.fkv_operations.specs.declared.operations.KeyedOp.TheVariants.{Read, Rmw};
 ghost use Rattle.fkv_partition.specs.AtOnce.{IsAtHand, IsDoneAtOnce, IsReadAtOnce};
-ghost use Rattle.fkv_partition.specs.CoreAtOnce.{AsksForPage};
-ghost use Rattle.fkv_partition.specs.CoreBeginning.{IsEntered};
-ghost use Rattle.fkv_partition.specs.CoreViews.{MayNeedPage, partition_of};
+ghost use Rattle.fkv_partition.specs.KeyAtOnce.{AsksForPage};
+ghost use Rattle.fkv_partition.specs.KeyBeginning.{IsEntered};
+ghost use Rattle.fkv_partition.specs.Views.{MayNeedPage, partition_of};
 ghost use Rattle.fkv_locked.specs.AtOnce.{IsUnfit, IsNoted, entry_at_once};
 
 use crate::finished::{FinishedOf, finish};
@@ -134,7 +134,7 @@ impl<F: Mergeable, R: Receipt, H: Recorder<F>> Locked<F, R, H> {
     /// Whether the last record of a key that a session of a caller reads in memory, if any, has no value of the key: as
     /// [`fkv_partition::Partition::may_need_page`] tells.
     pub fn may_need_page(&self, session: SessionId, key: &F::Key, functions: &F) -> bool
-        ensures { IsTrue result ↔ MayNeedPage F.Key.cmp F.code self.now.partition.core session.slot key.now }
+        ensures { IsTrue result ↔ MayNeedPage F.Key.cmp F.code self.now.partition session.slot key.now }
     {
         self.partition.may_need_page(session.slot, functions, key)
     }
@@ -158,9 +158,9 @@ impl<F: Mergeable, R: Receipt, H: Recorder<F>> Locked<F, R, H> {
         ensures after { IfOk result (λ done. IfSome done (IsNoted H.keeps self.old self.new)) }
         ensures still { self.new.partition ≡ self.old.partition }
         ensures fresh { IfOk result (λ done. IfSome done (λ e. (told ≤ e.at) × (e.at < 2 ^ 64 - 1))) }
-        ensures left { result ≡ Ok None → IsEntered self.old.partition.core session.slot
-            → partition_of self.old.partition.core.count (F.code key.now) ≡ self.old.partition.core.number
-            → AsksForPage F.Key.cmp F.parts.joined F.meaning F.code self.old.partition.core session.slot key.now input.now }
+        ensures left { result ≡ Ok None → IsEntered self.old.partition session.slot
+            → partition_of self.old.partition.count (F.code key.now) ≡ self.old.partition.number
+            → AsksForPage F.Key.cmp F.parts.joined F.meaning F.code self.old.partition session.slot key.now input.now }
         ensures none { result ≡ Ok None → self.new ≡ self.old }
         ensures refused { IfErr result (IsUnfit self.old.count self.old.book self.old.clock told) }
         ensures unchanged { OnErr result (self.new ≡ self.old) }

@@ -119,11 +119,11 @@ impl<F: Mergeable, R: Receipt, H: Recorder<F>> Locked<F, R, H> {
     /// refusals it has after `Worn` where there is no next moment; then nothing changes.
     pub fn truncate_cleared(&mut self, compactor: &Compactor) -> Result<Address, Refused>
         ensures effect { IsTimed self.old.clock result (Truncates R.keeps self.old.partition self.new.partition
-            (page_at self.old.partition.core.records.log.bits self.old.partition.cleared) (self.old.clock + 1)
+            (page_at self.old.partition.records.log.bits self.old.partition.cleared) (self.old.clock + 1)
             (told_of result)) }
-        ensures begin { IfOk result (λ begin. (begin ≡ self.new.partition.core.records.log.begin)
-            × (begin ≡ start_at self.old.partition.core.records.log.bits
-            (page_at self.old.partition.core.records.log.bits self.old.partition.cleared))) }
+        ensures begin { IfOk result (λ begin. (begin ≡ self.new.partition.records.log.begin)
+            × (begin ≡ start_at self.old.partition.records.log.bits
+            (page_at self.old.partition.records.log.bits self.old.partition.cleared))) }
         ensures after { OnOk result (self.new ≡ with_partition self.old self.new.partition) }
         ensures unchanged { OnErr result (self.new ≡ self.old) }
     {

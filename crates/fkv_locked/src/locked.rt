@@ -1,6 +1,6 @@
 //! A partition under a lock, its beginning and its end.
 ghost use Rattle.std.specs.Prelude.{◌≡◌, ◌+◌, ◌-◌, ◌^◌, true, None, IsTrue, IfSome};
-ghost use Rattle.fkv_partition.specs.CoreSound.{IsSound};
+ghost use Rattle.fkv_partition.specs.KeySound.{IsSound};
 ghost use Rattle.fkv_partition.specs.Sound.{IsCompacting};
 ghost use Rattle.fkv_locked.specs.Kept.{seen, IsFaithful, IsEnded};
 
@@ -44,7 +44,7 @@ impl<F: Mergeable, R: Receipt, H: Recorder<F>> Model for Locked<F, R, H> {
       enters = l.enters;
     } };
 
-    ghost invariant = { λ l. (l.partition.core.moment ≤ l.clock)
+    ghost invariant = { λ l. (l.partition.moment ≤ l.clock)
         × (length l.lows.items ≡ 128)
         × (length l.looks.items ≡ 128)
         × (H.keeps ≡ true → IsTrue R.keeps
@@ -71,7 +71,7 @@ pub struct Part<F: Mergeable, R: Receipt> {
 impl<F: Mergeable, R: Receipt, H: Recorder<F>> Locked<F, R, H> {
     /// What holds whenever the lock is free. It does nothing when it runs.
     pub fn known(&self)
-        ensures core { IsSound R.keeps F.Key.cmp F.parts.joined F.code self.now.partition.core }
+        ensures sound { IsSound R.keeps F.Key.cmp F.parts.joined F.code self.now.partition }
         ensures compacting { IsCompacting R.keeps F.Key.cmp F.parts.joined F.code self.now.partition }
         ensures kept { H.keeps ≡ true → IsTrue R.keeps → IsFaithful F.Key.cmp F.meaning (seen F.Key.cmp self.now.partition)
             self.now.entries self.now.lows self.now.looks self.now.book }

@@ -10,21 +10,21 @@ use fkv_records::Address;
 impl<F: Mergeable, R: Receipt, H: Recorder<F>> Locked<F, R, H> {
     /// The address of the next record, or 2^48 where there can't be one.
     pub fn tail(&self) -> Address
-        ensures { result ≡ self.now.partition.core.records.log.tail }
+        ensures { result ≡ self.now.partition.records.log.tail }
     {
         self.partition.tail()
     }
 
     /// Head: records below it are read from the device by sessions that are refreshed from now on.
     pub fn head(&self) -> Address
-        ensures { result ≡ self.now.partition.core.records.log.regions.offsets.head }
+        ensures { result ≡ self.now.partition.records.log.regions.offsets.head }
     {
         self.partition.head()
     }
 
     /// The lowest page that is not flushed.
     pub fn unflushed(&self) -> u64
-        ensures { result ≡ length self.now.partition.core.records.log.receipts }
+        ensures { result ≡ length self.now.partition.records.log.receipts }
     {
         self.partition.unflushed()
     }
@@ -38,21 +38,21 @@ impl<F: Mergeable, R: Receipt, H: Recorder<F>> Locked<F, R, H> {
 
     /// The bytes of a page.
     pub fn page_size(&self) -> usize
-        ensures { result ≡ 2 ^ self.now.partition.core.records.log.bits }
+        ensures { result ≡ 2 ^ self.now.partition.records.log.bits }
     {
         self.partition.page_size()
     }
 
     /// The number of the partition.
     pub fn number(&self) -> u64
-        ensures { result ≡ self.now.partition.core.number }
+        ensures { result ≡ self.now.partition.number }
     {
         self.partition.number()
     }
 
     /// How many partitions the store has.
     pub fn count(&self) -> u64
-        ensures { result ≡ self.now.partition.core.count }
+        ensures { result ≡ self.now.partition.count }
     {
         self.partition.count()
     }

@@ -56,11 +56,11 @@ impl<F: Mergeable, R: Receipt, H: Recorder<F>> Locked<F, R, H> {
     /// and then nothing changes: `Worn` where there is no next moment, `NotDue` where the page does not end at or below the
     /// safe read-only offset, `NoMemory`.
     pub fn flush_take(&mut self, alloc: Global) -> Result<FlushJob, Refused>
-        ensures page { IfOk result (λ job. job.page ≡ length self.old.partition.core.records.log.receipts) }
+        ensures page { IfOk result (λ job. job.page ≡ length self.old.partition.records.log.receipts) }
         ensures bytes { IfOk result
-            (λ job. slice_get self.old.partition.core.records.log.waiting 0 ≡ Some job.bytes) }
+            (λ job. slice_get self.old.partition.records.log.waiting 0 ≡ Some job.bytes) }
         ensures due { IsTimed self.old.clock result
-            ((result ≡ Err Refused.NotDue) ↔ (self.old.partition.core.records.log.waiting ≡ [])) }
+            ((result ≡ Err Refused.NotDue) ↔ (self.old.partition.records.log.waiting ≡ [])) }
         ensures only { IsTimed self.old.clock result
             (IfErr result (λ refused. (refused ≡ Refused.NotDue) ⊎ (refused ≡ Refused.NoMemory))) }
         ensures after { OnOk result

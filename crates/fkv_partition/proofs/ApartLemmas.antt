@@ -66,8 +66,8 @@ pub no-higher : {a b c : ℕ} → a ≤ b → b ≤ c → a ≤ c
 no-higher h k = omega arith
 
 -- a partition that is as one at this moment, or as one before
-pub has-come : {K V I : Type 0} {now : ℕ} {new old : PartitionView K V I} → new ≡ old → old.core.moment ≡ now → new.core.moment ≤ now
-has-come {K} {V} {I} {now = now} {old = old} is m = subst (λ (u : PartitionView K V I). u.core.moment ≤ now) (sym is) (omega arith)
+pub has-come : {K V I : Type 0} {now : ℕ} {new old : PartitionView K V I} → new ≡ old → old.moment ≡ now → new.moment ≤ now
+has-come {K} {V} {I} {now = now} {old = old} is m = subst (λ (u : PartitionView K V I). u.moment ≤ now) (sym is) (omega arith)
 
-pub is-before : {K V I : Type 0} {now : ℕ} {new old : PartitionView K V I} → new ≡ old → old.core.moment < now → new.core.moment ≤ now
-is-before {K} {V} {I} {now = now} is before = subst (λ (u : PartitionView K V I). u.core.moment ≤ now) (sym is) (no-later before)
+pub is-before : {K V I : Type 0} {now : ℕ} {new old : PartitionView K V I} → new ≡ old → old.moment < now → new.moment ≤ now
+is-before {K} {V} {I} {now = now} is before = subst (λ (u : PartitionView K V I). u.moment ≤ now) (sym is) (no-later before)

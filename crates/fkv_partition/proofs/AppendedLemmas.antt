@@ -8,9 +8,9 @@ use Rattle.fkv_lookups.specs.RecordsViews.{RecordsView, with_written, ChangesAt}
 use Rattle.fkv_lookups.specs.Traced.{IsTraced, IsStood}
 use Rattle.fkv_partition.specs.declared.changes.Write.{Write}
 use Rattle.fkv_partition.specs.declared.contexts.OpenWork.{OpenWork}
-use Rattle.fkv_partition.specs.CoreContexts.{claim_at}
-use Rattle.fkv_partition.specs.CoreSound.{IsSound}
-use Rattle.fkv_partition.specs.CoreViews.{CoreView, live_of, with_payload}
+use Rattle.fkv_partition.specs.Contexts.{claim_at}
+use Rattle.fkv_partition.specs.KeySound.{IsSound}
+use Rattle.fkv_partition.specs.Views.{PartitionView, live_of, with_payload}
 use Rattle.fkv_partition.specs.Writes.{IsWrite}
 use Rattle.fkv_partition.proofs.SoundLemmas.{sound-appended}
 
@@ -30,10 +30,10 @@ not-full {E = E} o a is room full = let no : ◌≡◌ {A = Result (Option _) E}
 pub not-worn : {A E P : Type 0} (o : A) (e : E) → ((Ok o ≡ Err e) ↔ P) → P → ⊥
 not-worn o e worn high = ok-err o e (worn.1 high)
 
-module _ {K V I : Type 0} (inside v : CoreView K V I) (same : inside ≡ v) where
+module _ {K V I : Type 0} (inside v : PartitionView K V I) (same : inside ≡ v) where
   -- no record is appended
   pub full-is : (now : ℕ) (r : RecordsView K V) → r ≡ inside.records → record inside { records = r; moment = now } ≡ record v { moment = now }
-  full-is now r stays = ap (λ (w : RecordsView K V). record inside { records = w; moment = now }) stays ∙ ap (λ (u : CoreView K V I). record u { moment = now }) same
+  full-is now r stays = ap (λ (w : RecordsView K V). record inside { records = w; moment = now }) stays ∙ ap (λ (u : PartitionView K V I). record u { moment = now }) same
 
   -- or the records have one more, and the context is free
   module _ (cmp : K → K → Ordering) (join : V → V → V) (slot c now : ℕ) (write : Write K V) (r : RecordsView K V) (contexts : List (Option (OpenWork K V I)))
@@ -42,17 +42,17 @@ module _ {K V I : Type 0} (inside v : CoreView K V I) (same : inside ≡ v) wher
     appended-is =
         ap (λ (w : RecordsView K V). record inside { records = w; contexts = contexts; moment = now }) made
         ∙ ap (λ xs. record inside { records = with_written inside.records write.entry write.key write.payload (standing join (live_of cmp inside write.key) write.payload); contexts = xs; moment = now }) freed
-        ∙ ap (λ (u : CoreView K V I). with_payload u slot c write.entry write.key write.payload (standing join (live_of cmp u write.key) write.payload) now) same
+        ∙ ap (λ (u : PartitionView K V I). with_payload u slot c write.entry write.key write.payload (standing join (live_of cmp u write.key) write.payload) now) same
 
     pub appended-sound : {keeps : Bool} {code : K → ℕ} → IsSound keeps cmp join code inside → claim_at v.contexts (slot * 8 + c) ≡ None → IsWrite code v write → IsTraced keeps code r → IsStood cmp join r
         → ChangesAt write.entry.place inside.records.words r.words
         → SameTentative inside.records.words r.words
         → IsSound keeps cmp join code (record inside { records = r; contexts = contexts; moment = now })
     appended-sound {code = code} s unclaimed w traced stood changes tentative =
-        let at : IsWrite code inside write = subst (λ (u : CoreView K V I). IsWrite code u write) (sym same) w in
+        let at : IsWrite code inside write = subst (λ (u : PartitionView K V I). IsWrite code u write) (sym same) w in
         rw (made, freed)
         (sound-appended s slot c now write.entry write.key write.payload _
-        (subst (λ (u : CoreView K V I). claim_at u.contexts (slot * 8 + c) ≡ None) (sym same) unclaimed)
+        (subst (λ (u : PartitionView K V I). claim_at u.contexts (slot * 8 + c) ≡ None) (sym same) unclaimed)
         at.entry
         (rw made at traced)
         (rw made at stood)

@@ -17,9 +17,9 @@ use Rattle.fkv_partition.specs.declared.contexts.Context.{Context}
 use Rattle.fkv_partition.specs.declared.contexts.OpenWork.{OpenWork}
 use Rattle.fkv_partition.specs.declared.contexts.OpenWork.TheVariants.{OnKey, Relocating}
 use Rattle.fkv_partition.specs.declared.relocations.Relocation.{Relocation}
-use Rattle.fkv_partition.specs.CoreContexts.{joined, is_session, context_in, on_key, relocating, claim_of}
-use Rattle.fkv_partition.specs.CoreViews.{CoreView, slots_of, held_at, context_at, with_context, free_slot, open_context}
-use Rattle.fkv_partition.specs.CoreEffect.{asked, asked_by}
+use Rattle.fkv_partition.specs.Contexts.{joined, is_session, context_in, on_key, relocating, claim_of}
+use Rattle.fkv_partition.specs.Views.{PartitionView, slots_of, held_at, context_at, with_context, free_slot, open_context}
+use Rattle.fkv_partition.specs.KeyEffect.{asked, asked_by}
 use Rattle.fkv_functions.proofs.ListLemmas.{get-set_cases, get-set_same, get-set_other}
 
 -- ---- operations on keys among all operations
@@ -149,7 +149,7 @@ shown-stays f nothing slots xs slot c s d o old new = by_test (is_session slots 
     by_test true = shown-set f nothing xs (slot * 8 + c) (s * 8 + d) o old new
     by_test false = refl
 
-module _ {K V I : Type 0} (v : CoreView K V I) (slot c now : ℕ) (x : Context K V I) (h : context_at v slot c ≡ Some x) where
+module _ {K V I : Type 0} (v : PartitionView K V I) (slot c now : ℕ) (x : Context K V I) (h : context_at v slot c ≡ Some x) where
   -- the changed context
   pub context-same : (y : Option (Context K V I)) → context_at (with_context v slot c y now) slot c ≡ y
   context-same y =
@@ -242,7 +242,7 @@ set-past (z ∷ zs) zero x h = absurd (omega arith)
 set-past (z ∷ zs) (suc i) x h = ap (λ ws. z ∷ ws) (set-past zs i x (omega arith))
 
 -- a free slot is that of no session
-pub free-slot : {K V I : Type 0} (v : CoreView K V I) (slot : ℕ) → free_slot v ≡ Some slot → slice_get (slots_of v) slot ≡ Some None
+pub free-slot : {K V I : Type 0} (v : PartitionView K V I) (slot : ℕ) → free_slot v ≡ Some slot → slice_get (slots_of v) slot ≡ Some None
 free-slot v slot h =
     let f = position-found is_none (slots_of v) slot h in
     f.here ∙ ap Some (none-is f.item f.passes)
@@ -271,14 +271,14 @@ get-take_back (suc n) zero (y ∷ ys) x l h = h
 get-take_back (suc n) (suc i) (y ∷ ys) x l h = get-take_back n i ys x (omega arith) h
 
 -- nothing stands in its contexts
-pub idle : {K V I : Type 0} (v : CoreView K V I) (slot c : ℕ) (x : OpenWork K V I) → open_context v slot ≡ None → c < 8 → slice_get v.contexts (slot * 8 + c) ≡ Some (Some x) → ⊥
+pub idle : {K V I : Type 0} (v : PartitionView K V I) (slot c : ℕ) (x : OpenWork K V I) → open_context v slot ≡ None → c < 8 → slice_get v.contexts (slot * 8 + c) ≡ Some (Some x) → ⊥
 idle v slot c x h low here =
     let room : c < (slot * 8 + 8) - slot * 8 = omega arith in
     let there = get-take_back ((slot * 8 + 8) - slot * 8) c (drop (slot * 8) v.contexts) (Some x) room (get-drop (slot * 8) c v.contexts ∙ here) in
     let no : true ≡ false = position-none is_some (slice_range v.contexts (slot * 8) (slot * 8 + 8)) h c (Some x) there in
     absurd (cc)
 
-pub idle-held : {K V I : Type 0} (v : CoreView K V I) (slot c : ℕ) → open_context v slot ≡ None → held_at v slot c ≡ None
+pub idle-held : {K V I : Type 0} (v : PartitionView K V I) (slot c : ℕ) → open_context v slot ≡ None → held_at v slot c ≡ None
 idle-held v slot c h = by_cases (held_at v slot c) refl
   where
     by_cases : (o : Option (OpenWork _ _ _)) → held_at v slot c ≡ o → held_at v slot c ≡ None

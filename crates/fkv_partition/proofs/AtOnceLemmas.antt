@@ -10,25 +10,24 @@ use Rattle.fkv_operations.specs.declared.operations.Answer.TheVariants.{Value}
 use Rattle.fkv_partition.specs.declared.contexts.Phase.TheVariants.{Fresh}
 use Rattle.fkv_partition.specs.declared.contexts.Progress.{Progress}
 use Rattle.fkv_partition.specs.declared.contexts.Progress.TheVariants.{Done}
-use Rattle.fkv_partition.specs.CoreAtOnce as key_update
-use Rattle.fkv_partition.specs.CoreBeginning.{Issues, IsEntered}
-use Rattle.fkv_partition.specs.CoreContexts.{claim_of, joined, relocating}
-use Rattle.fkv_partition.specs.CoreGoing as key_going
-use Rattle.fkv_partition.specs.Grown.{RelocationsStay}
-use Rattle.fkv_partition.specs.CoreSound.{IsSound}
-use Rattle.fkv_partition.specs.CoreViews.{CoreView, slots_of, held_at}
+use Rattle.fkv_partition.specs.KeyAtOnce as key_update
+use Rattle.fkv_partition.specs.KeyBeginning.{Issues, IsEntered}
+use Rattle.fkv_partition.specs.Contexts.{claim_of, joined, relocating}
+use Rattle.fkv_partition.specs.KeyGoing as key_going
+use Rattle.fkv_partition.specs.Grown.{IsPassedOn}
+use Rattle.fkv_partition.specs.KeySound.{IsSound}
+use Rattle.fkv_partition.specs.Views.{PartitionView, slots_of, held_at, relocation_at}
 use Rattle.fkv_partition.proofs.AskedLemmas.{context-inside, free-here}
 use Rattle.fkv_partition.proofs.SoundLemmas.{sound-context}
 use Rattle.fkv_partition.specs.AtOnce.{IsAtHand, IsDoneAtOnce}
 use Rattle.fkv_partition.specs.Beginning.{IsFree, IsFirstFree}
 use Rattle.fkv_partition.specs.Events as events
 use Rattle.fkv_partition.specs.Sound.{IsCompacting}
-use Rattle.fkv_partition.specs.Views.{PartitionView, with_core, relocation_at}
 use Rattle.fkv_partition.proofs.EffectLemmas.{key-issue, key-event, relocations-same}
 use Rattle.fkv_partition.proofs.KeepLemmas.{issues-told}
 
 -- a partition of which an operation was issued keeps what every one keeps
-pub sound-issued : {K V I : Type 0} (keeps : Bool) (cmp : K → K → Ordering) (join : V → V → V) (code : K → ℕ) (v between : CoreView K V I) (slot c now : ℕ) (op : KeyedOp K V I)
+pub sound-issued : {K V I : Type 0} (keeps : Bool) (cmp : K → K → Ordering) (join : V → V → V) (code : K → ℕ) (v between : PartitionView K V I) (slot c now : ℕ) (op : KeyedOp K V I)
     → IsSound keeps cmp join code v → slot < 16 → Issues code v between slot c op now → IsSound keeps cmp join code between
 sound-issued keeps cmp join code v between slot c now op s few h =
     rw h.is
@@ -37,45 +36,37 @@ sound-issued keeps cmp join code v between slot c now op s few h =
     (record { inside = h.entered; low = h.low }) (record { stands = tt; own = h.own; merging = h.merging }))
 
 -- nothing is open in a free context
-pub free-held : {K V I : Type 0} (v : PartitionView K V I) (slot c : ℕ) → IsEntered v.core slot → c < 8 → IsFree v slot c → held_at v.core slot c ≡ None
-free-held v slot c inside low free = context-inside (slots_of v.core) v.core.contexts slot c inside low ∙ free
+pub free-held : {K V I : Type 0} (v : PartitionView K V I) (slot c : ℕ) → IsEntered v slot → c < 8 → IsFree v slot c → held_at v slot c ≡ None
+free-held v slot c inside low free = context-inside (slots_of v) v.contexts slot c inside low ∙ free
 
-pub free-relocation : {K V I : Type 0} (v : PartitionView K V I) (slot c : ℕ) → IsEntered v.core slot → c < 8 → IsFree v slot c → relocation_at v slot c ≡ None
+pub free-relocation : {K V I : Type 0} (v : PartitionView K V I) (slot c : ℕ) → IsEntered v slot → c < 8 → IsFree v slot c → relocation_at v slot c ≡ None
 free-relocation v slot c inside low free = ap relocating (free-held v slot c inside low free)
 
-module _ {K V I O R : Type 0} (stands : R → Standing) (cmp : K → K → Ordering) (join : V → V → V) (f : Meanings K V I O) (code : K → ℕ) (v : PartitionView K V I) (new : CoreView K V I) (slot c : ℕ) (key : K) (input : I) (issued now : ℕ) where
-  -- what the core does at once, its partition does
-  pub done-at-once : IsEntered v.core slot → IsFirstFree v slot (Some c)
-      → ((p : CoreView K V I) → Issues code v.core p slot c (on_key.Rmw key input) issued → RelocationsStay v.core p)
-      → ((p : CoreView K V I) (result : Result (Progress K V I O R) Refused) → key_going.Goes stands cmp join f code p new slot c now result → RelocationsStay p new)
+module _ {K V I O R : Type 0} (stands : R → Standing) (cmp : K → K → Ordering) (join : V → V → V) (f : Meanings K V I O) (code : K → ℕ) (v : PartitionView K V I) (new : PartitionView K V I) (slot c : ℕ) (key : K) (input : I) (issued now : ℕ) where
+  -- what is done at once is an issue and an event
+  pub done-at-once : IsEntered v slot → IsFirstFree v slot (Some c)
+      → ((p : PartitionView K V I) → Issues code v p slot c (on_key.Rmw key input) issued → IsPassedOn v p)
+      → ((p : PartitionView K V I) (result : Result (Progress K V I O R) Refused) → key_going.Goes stands cmp join f code p new slot c now result → IsPassedOn p new)
       → (shown : Option O)
-      → IfSome shown (λ s. key_update.IsDoneAtOnce stands cmp join f code v.core new slot c key input issued now s)
-      → IfSome shown (λ s. IsDoneAtOnce stands cmp join f code v (with_core v new) slot key input issued now s)
+      → IfSome shown (λ s. key_update.IsDoneAtOnce stands cmp join f code v new slot c key input issued now s)
+      → IfSome shown (λ s. IsDoneAtOnce stands cmp join f code v new slot key input issued now s)
   done-at-once inside first issues goes None h = tt
   done-at-once inside first issues goes (Some shown) h =
       let none = free-relocation v slot c inside first.0 first.1 in
-      let b = with_core v h.between in
+      let b = h.between in
       let stays = issues h.between h.issues in
-      let still : relocation_at b slot c ≡ None = relocations-same v h.between h.issue.frame.regions stays slot c ∙ none in
+      let still : relocation_at b slot c ≡ None = relocations-same v h.between h.issue.frame.regions stays.relocations slot c ∙ none in
       record {
         context = c;
         between = b;
         issues = events.Issues.on_key (on_key.Rmw key input) refl (issues-told code v h.between slot c (on_key.Rmw key input) issued first h.issues);
         issue = key-issue v h.between slot c issued none stays code (on_key.Rmw key input) h.issue;
-        goes = events.Goes.on_key still h.goes (record { is = refl; relocations = goes h.between _ h.goes });
+        goes = events.Goes.on_key still h.goes (goes h.between _ h.goes);
         event = key-event b new slot c now still (goes h.between _ h.goes) cmp f (Done (Value shown) now) h.event;
       }
 
-  -- and it keeps what every partition keeps
-  pub kept-at-once : (keeps : Bool) → IsCompacting keeps cmp join code v → (shown : Option O) → (shown ≡ None → new ≡ v.core)
-      → IfSome shown (λ s. key_update.IsDoneAtOnce stands cmp join f code v.core new slot c key input issued now s)
-      → ((s : O) → key_update.IsDoneAtOnce stands cmp join f code v.core new slot c key input issued now s → IsCompacting keeps cmp join code (with_core v new))
-      → IsCompacting keeps cmp join code (with_core v new)
-  kept-at-once keeps i None same h kept = rw (same refl) i
-  kept-at-once keeps i (Some s) same h kept = kept s h
-
--- where the core leaves an update to its issue, so does the partition
+-- where an update at once is left to its issue
 pub left-at-once : {K V I O : Type 0} (cmp : K → K → Ordering) (join : V → V → V) (f : Meanings K V I O) (code : K → ℕ) (v : PartitionView K V I) (slot : ℕ) (key : K) (input : I)
-    → ((held : V) → key_update.IsAtHand cmp join code v.core slot key held → f.next key held input ≡ None)
+    → ((held : V) → key_update.IsAtHand cmp join code v slot key held → f.next key held input ≡ None)
     → (held : V) → IsAtHand cmp join code v slot key held → f.next key held input ≡ None
 left-at-once cmp join f code v slot key input out held h = out held h.hand

@@ -19,10 +19,10 @@ use Rattle.fkv_operations.specs.declared.classes.Class.{Class}
 use Rattle.fkv_partition.specs.declared.contexts.Context.{Context}
 use Rattle.fkv_partition.specs.declared.contexts.OpenWork.TheVariants.{OnKey}
 use Rattle.fkv_partition.specs.declared.contexts.Phase.TheVariants.{Fresh, Confirm}
-use Rattle.fkv_partition.specs.CoreContexts.{joined, at_phase, claim_by, claim_of, claim_at}
-use Rattle.fkv_partition.specs.CoreClaiming.{IsClaimOf}
-use Rattle.fkv_partition.specs.CoreViews.{CoreView, slots_of, context_at, with_context}
-use Rattle.fkv_partition.specs.CoreSound.{IsSound}
+use Rattle.fkv_partition.specs.Contexts.{joined, at_phase, claim_by, claim_of, claim_at}
+use Rattle.fkv_partition.specs.Claiming.{IsClaimOf}
+use Rattle.fkv_partition.specs.Views.{PartitionView, slots_of, context_at, with_context}
+use Rattle.fkv_partition.specs.KeySound.{IsSound}
 use Rattle.fkv_partition.proofs.AskedLemmas.{key_at}
 use Rattle.fkv_partition.proofs.EventLemmas.{own-at}
 use Rattle.fkv_partition.proofs.ClaimLemmas.{place-or}
@@ -90,10 +90,10 @@ module _ {K V : Type 0} (old new : RecordsView K V) (q : Place) (is : IsTrue (is
   settled-made false made emptied = released-made emptied
 
 -- the place that an operation claims
-pub claims-place : {K V I : Type 0} (v : CoreView K V I) (slot c : ℕ) (x : Context K V I) (q : Place) → context_at v slot c ≡ Some x → x.phase ≡ Confirm q → claim_at v.contexts (slot * 8 + c) ≡ Some q
+pub claims-place : {K V I : Type 0} (v : PartitionView K V I) (slot c : ℕ) (x : Context K V I) (q : Place) → context_at v slot c ≡ Some x → x.phase ≡ Confirm q → claim_at v.contexts (slot * 8 + c) ≡ Some q
 claims-place v slot c x q h phase = ap (λ o. claim_of (joined o)) (key_at (slots_of v) v.contexts slot c x h).here ∙ ap claim_by phase
 
-module _ {K V I : Type 0} {keeps : Bool} (cmp : K → K → Ordering) (join : V → V → V) (code : K → ℕ) (v : CoreView K V I) (s : IsSound keeps cmp join code v) (slot c now : ℕ) (x : Context K V I) (h : context_at v slot c ≡ Some x) where
+module _ {K V I : Type 0} {keeps : Bool} (cmp : K → K → Ordering) (join : V → V → V) (code : K → ℕ) (v : PartitionView K V I) (s : IsSound keeps cmp join code v) (slot c now : ℕ) (x : Context K V I) (h : context_at v slot c ≡ Some x) where
   pub is-tentative : (q : Place) → x.phase ≡ Confirm q → IsTrue (is_tentative (word_at v.records.words q))
   is-tentative q phase = s.owned.tentative (slot * 8 + c) q (claims-place v slot c x q h phase)
 

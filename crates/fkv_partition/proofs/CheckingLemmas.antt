@@ -28,17 +28,16 @@ use Rattle.fkv_lookups.specs.Traced.{IsTraced, IsStood}
 use Rattle.fkv_lookups.proofs.TracedLemmas.{highest, raw, traced-raw, traced-held, traced-none, traced-low}
 use Rattle.fkv_lookups.proofs.LookupLemmas.{begun, raw-traced, values_tell, between_tells}
 use Rattle.fkv_lookups.proofs.MeetingLemmas.{low_head, low_begin, low_under, tells}
-use Rattle.fkv_partition.specs.CoreBeginning.{IsEntered}
+use Rattle.fkv_partition.specs.KeyBeginning.{IsEntered}
 use Rattle.fkv_partition.proofs.GrownLemmas.{still-below}
 use Rattle.fkv_partition.proofs.StoodLemmas.{rises}
-use Rattle.fkv_partition.proofs.CoreTruncateLemmas.{still-stood}
-use Rattle.fkv_partition.specs.CoreSound.{IsSound}
-use Rattle.fkv_partition.specs.CoreViews.{CoreView, partition_of, slots_of, seen_at, entry_for, reached_from}
+use Rattle.fkv_partition.proofs.CuttingLemmas.{still-stood}
+use Rattle.fkv_partition.specs.KeySound.{IsSound}
+use Rattle.fkv_partition.specs.Views.{PartitionView, partition_of, slots_of, seen_at, entry_for, reached_from}
 use Rattle.fkv_partition.specs.declared.relocations.Liveness.TheVariants.{Superseded, Last, Further}
 use Rattle.fkv_partition.specs.Stages.{IsTracing, IsReady}
 use Rattle.fkv_partition.specs.Checking.{higher_of, liveness_at, liveness, above, told_above, renewed}
 use Rattle.fkv_partition.specs.declared.relocations.Liveness.{Liveness}
-use Rattle.fkv_partition.specs.Views.{PartitionView}
 
 -- the higher of two addresses is no lower than either
 pub higher-left : (a b : ℕ) → a ≤ higher_of a b
@@ -118,16 +117,16 @@ superseded-one cmp text place e is superseded yes_keeps d there =
 
 -- what a look-up in memory came to, down to the lowest address that is followed, tells this of the record of a place
 pub told-so : {K V I : Type 0} (cmp : K → K → Ordering) (join : V → V → V) (code : K → ℕ) {u v : PartitionView K V I} (same : u ≡ v) (slot place : ℕ) (key : K) {lowest low : ℕ} {came : ChainResult K V} {told outcome : Liveness V}
-    → lowest ≡ low_of u.core.records.log.begin (seen_at u.core slot)
+    → lowest ≡ low_of u.records.log.begin (seen_at u slot)
     → low ≡ higher_of (place + 1) lowest
-    → came ≡ reached_from cmp join code u.core slot key low (entry_for code u.core key)
+    → came ≡ reached_from cmp join code u slot key low (entry_for code u key)
     → told ≡ liveness place came
     → told ≡ outcome
-    → told_above cmp join code v.core slot place key ≡ outcome
+    → told_above cmp join code v slot place key ≡ outcome
 told-so {K} {V} {I} cmp join code {u = u} same slot place key {outcome = outcome} lowest_is low_is came_is told_is is =
     let floor = low_is ∙ ap (higher_of (place + 1)) lowest_is in
-    subst (λ (w : PartitionView K V I). told_above cmp join code w.core slot place key ≡ outcome) same
-    (sym (ap (λ n. liveness place (reached_from cmp join code u.core slot key n (entry_for code u.core key))) floor)
+    subst (λ (w : PartitionView K V I). told_above cmp join code w slot place key ≡ outcome) same
+    (sym (ap (λ n. liveness place (reached_from cmp join code u slot key n (entry_for code u key))) floor)
     ∙ sym (ap (liveness place) came_is)
     ∙ sym told_is
     ∙ is)
@@ -323,7 +322,7 @@ at-epoch None h = absurd (cc)
 at-epoch (Some None) h = absurd (cc)
 at-epoch (Some (Some n)) h = (n, refl)
 
-module _ {K V I : Type 0} {keeps : Bool} (cmp : K → K → Ordering) (join : V → V → V) (code : K → ℕ) (v : CoreView K V I) (s : IsSound keeps cmp join code v) (slot : ℕ) (entered : IsEntered v slot) where
+module _ {K V I : Type 0} {keeps : Bool} (cmp : K → K → Ordering) (join : V → V → V) (code : K → ℕ) (v : PartitionView K V I) (s : IsSound keeps cmp join code v) (slot : ℕ) (entered : IsEntered v slot) where
   pub view-agrees : ViewAgrees v.records.log.regions.offsets (seen_at v slot)
   view-agrees = let e = at-epoch (slice_get (slots_of v) slot) entered in s.traced.regions.agree.agree.each slot e.0 e.1
 
@@ -377,7 +376,7 @@ module _ {K V I : Type 0} {keeps : Bool} (cmp : K → K → Ordering) (join : V 
 was-entry : {K V : Type 0} (code : K → ℕ) (r : RecordsView K V) (k : K) (kept : IndexEntry) → IsEntryOf r (class_in code r k) kept → WasEntryOf r (class_in code r k) kept
 was-entry code r k kept h = record { place = h.place; bucket = h.bucket; final = h.final; tag = h.tag }
 
-module _ {K V I : Type 0} {keeps : Bool} (cmp : K → K → Ordering) (join : V → V → V) (code : K → ℕ) (order : IsKeyOrder cmp) (v : CoreView K V I) (s : IsSound keeps cmp join code v) (slot : ℕ) (entered : IsEntered v slot) (place : ℕ) (e : Entry K V)
+module _ {K V I : Type 0} {keeps : Bool} (cmp : K → K → Ordering) (join : V → V → V) (code : K → ℕ) (order : IsKeyOrder cmp) (v : PartitionView K V I) (s : IsSound keeps cmp join code v) (slot : ℕ) (entered : IsEntered v slot) (place : ℕ) (e : Entry K V)
     (here : e.address ≡ place) (is : IsTrue keeps → entry_at v.records.log.text place ≡ Some e) where
   rises-here : IsRising v.records.log.text
   rises-here = rises cmp join v.records s.stood s.traced

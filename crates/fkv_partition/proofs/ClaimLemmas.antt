@@ -8,8 +8,8 @@ use Rattle.fkv_index.specs.Places.{word_at}
 use Rattle.fkv_index.specs.Changes.{SameTentative}
 use Rattle.fkv_lookups.specs.RecordsViews.{ChangesAt}
 use Rattle.fkv_partition.specs.declared.contexts.OpenWork.{OpenWork}
-use Rattle.fkv_partition.specs.CoreContexts.{joined, claim_of, claim_at}
-use Rattle.fkv_partition.specs.CoreClaiming.{AreOwned}
+use Rattle.fkv_partition.specs.Contexts.{joined, claim_of, claim_at}
+use Rattle.fkv_partition.specs.Claiming.{AreOwned}
 use Rattle.fkv_functions.proofs.ListLemmas.{get-set_cases, get-set_same, get-set_other}
 
 -- two places are one or not

@@ -39,13 +39,13 @@ use Rattle.fkv_lookups.specs.Traced.{IsTraced}
 use Rattle.fkv_lookups.proofs.LookupLemmas.{begun}
 use Rattle.fkv_lookups.proofs.MeetingLemmas.{low_head, low_begin}
 use Rattle.fkv_partition.specs.declared.contexts.Context.{Context}
-use Rattle.fkv_partition.specs.CoreContexts.{is_session}
-use Rattle.fkv_partition.specs.CoreGoing.{Decides}
-use Rattle.fkv_partition.specs.CoreSound.{IsSound}
-use Rattle.fkv_partition.specs.CoreViews.{CoreView, slots_of, seen_at, entry_for, met_at, newest_in_memory, reached_from}
+use Rattle.fkv_partition.specs.Contexts.{is_session}
+use Rattle.fkv_partition.specs.KeyGoing.{Decides}
+use Rattle.fkv_partition.specs.KeySound.{IsSound}
+use Rattle.fkv_partition.specs.Views.{PartitionView, slots_of, seen_at, entry_for, met_at, newest_in_memory, reached_from}
 use Rattle.fkv_partition.proofs.AskedLemmas.{key_at}
 
-module _ {K V I O : Type 0} (cmp : K → K → Ordering) (join : V → V → V) (f : Meanings K V I O) (code : K → ℕ) (v : CoreView K V I) (slot : ℕ) where
+module _ {K V I O : Type 0} (cmp : K → K → Ordering) (join : V → V → V) (f : Meanings K V I O) (code : K → ℕ) (v : PartitionView K V I) (slot : ℕ) where
   -- what is changed in place was met as a mutable value
   pub replaced-at : (op : KeyedOp K V I) (value : Option V) (a : Answer O)
       → ((w : V) → met_at cmp join code v slot (key_of op) ≡ Mutable w → IsMetAt cmp join code v.records (seen_at v slot) (key_of op) w region.Mutable)
@@ -72,14 +72,14 @@ at_epoch (Some None) h = absurd (cc)
 at_epoch (Some (Some e)) h = (e, refl)
 
 -- where a session reads in memory, the text has begun
-pub seen-begun : {K V I : Type 0} {keeps : Bool} {code : K → ℕ} (v : CoreView K V I) (slot : ℕ) → IsTraced keeps code v.records → is_session (slots_of v) slot ≡ true → v.records.log.from ≤ low_of v.records.log.begin (seen_at v slot)
+pub seen-begun : {K V I : Type 0} {keeps : Bool} {code : K → ℕ} (v : PartitionView K V I) (slot : ℕ) → IsTraced keeps code v.records → is_session (slots_of v) slot ≡ true → v.records.log.from ≤ low_of v.records.log.begin (seen_at v slot)
 seen-begun v slot t entered =
     let e = at_epoch (slice_get (slots_of v) slot) entered in
     let closed = (t.regions.agree.agree.each slot e.0 e.1).closed in
     let head = low_head v.records.log.begin (seen_at v slot) in
     begun v.records (low_of v.records.log.begin (seen_at v slot)) t (omega arith) (low_begin v.records.log.begin (seen_at v slot))
 
-module _ {K V I : Type 0} (cmp : K → K → Ordering) (join : V → V → V) (code : K → ℕ) (v : CoreView K V I) (slot : ℕ) (k : K) where
+module _ {K V I : Type 0} (cmp : K → K → Ordering) (join : V → V → V) (code : K → ℕ) (v : PartitionView K V I) (slot : ℕ) (k : K) where
   abbrev low : ℕ
   low = low_of v.records.log.begin (seen_at v slot)
 
@@ -243,7 +243,7 @@ lower_page v b (suc page) t begun low = by_page (nat_lt (page_at v.log.bits b) (
         absurd (omega (arith, under, none))
 
 -- what is changed in place may have another value there, and is not frozen
-module _ {K V I O : Type 0} {keeps : Bool} (cmp : K → K → Ordering) (join : V → V → V) (f : Meanings K V I O) (code : K → ℕ) (v : CoreView K V I) (slot c : ℕ) (x : Context K V I) (value : Option V) (told : Answer O) (e : Entry K V) (order : IsKeyOrder cmp) (s : IsSound keeps cmp join code v)
+module _ {K V I O : Type 0} {keeps : Bool} (cmp : K → K → Ordering) (join : V → V → V) (f : Meanings K V I O) (code : K → ℕ) (v : PartitionView K V I) (slot c : ℕ) (x : Context K V I) (value : Option V) (told : Answer O) (e : Entry K V) (order : IsKeyOrder cmp) (s : IsSound keeps cmp join code v)
     (mutable : (k : K) (w : V) → is_entered v.records.log.regions.epochs slot ≡ true → met_at cmp join code v slot k ≡ Mutable w → IsMetAt cmp join code v.records (seen_at v slot) k w region.Mutable)
     (unfrozen : (k : K) (w : V) → is_entered v.records.log.regions.epochs slot ≡ true → (m : IsMetAt cmp join code v.records (seen_at v slot) k w region.Mutable) → v.records.log.regions.offsets.safe_read_only ≤ m.entry.address)
     (d : Decides cmp join f code v slot c x (Replace value told)) (last : last_of cmp v.records.text (key_of x.op) ≡ Some e) where

@@ -41,17 +41,17 @@ use Rattle.fkv_partition.specs.declared.contexts.Phase.TheVariants.{Fresh, Confi
 use Rattle.fkv_partition.specs.declared.contexts.Loading.{Loading}
 use Rattle.fkv_partition.specs.declared.contexts.Progress.TheVariants.{Done, Next, NeedsBuild, NeedsLoad, Waits}
 use Rattle.fkv_partition.specs.declared.contexts.Wait.{Wait}
-use Rattle.fkv_partition.specs.CoreContexts.{is_session, on_key, question_in, question_by, joined, context_in, at_phase, claim_by, claim_of, claim_at, loading_by}
-use Rattle.fkv_partition.specs.CoreViews.{CoreView, slots_of, held_at, in_regions, with_replaced, partition_of, met_at, context_at, with_context, with_appended, with_payload, live_of, free_slot, open_context}
-use Rattle.fkv_partition.specs.CoreEffect.{asked, asked_by, LeavesOthers, IsQuiet, IsIssue, IsEvent, IsGiveUp}
-use Rattle.fkv_partition.specs.CoreClaiming.{IsClaimed}
-use Rattle.fkv_partition.specs.CoreLooking.{Shifts, Evicts}
-use Rattle.fkv_partition.specs.CoreFlushing.{Flushes}
+use Rattle.fkv_partition.specs.Contexts.{is_session, on_key, question_in, question_by, joined, context_in, at_phase, claim_by, claim_of, claim_at, loading_by}
+use Rattle.fkv_partition.specs.Views.{PartitionView, slots_of, held_at, in_regions, with_replaced, partition_of, met_at, context_at, with_context, with_appended, with_payload, live_of, free_slot, open_context}
+use Rattle.fkv_partition.specs.KeyEffect.{asked, asked_by, LeavesOthers, IsQuiet, IsIssue, IsEvent, IsGiveUp}
+use Rattle.fkv_partition.specs.Claiming.{IsClaimed}
+use Rattle.fkv_partition.specs.Moves.{Shifts, Evicts}
+use Rattle.fkv_partition.specs.Flushing.{Flushes}
 use Rattle.fkv_hybrid.specs.Flushes.{flush_refusal}
 use Rattle.fkv_functions.specs.declared.refusals.Refused.{Refused}
 use Rattle.fkv_functions.specs.declared.refusals.Refused.TheVariants.{NoSlot, NotDue, DrainFull, NoMemory}
-use Rattle.fkv_partition.specs.CoreGoing.{Decides, Goes, confirms, backs_off}
-use Rattle.fkv_partition.specs.CoreSound.{IsKept, IsLoading, StandsFor, IsSound}
+use Rattle.fkv_partition.specs.KeyGoing.{Decides, Goes, confirms, backs_off}
+use Rattle.fkv_partition.specs.KeySound.{IsKept, IsLoading, StandsFor, IsSound}
 use Rattle.fkv_functions.proofs.ListLemmas.{get-set_other, get-set_same}
 use Rattle.fkv_lookups.specs.Traced.{IsTraced}
 use Rattle.fkv_partition.proofs.GrownLemmas.{newest-nowhere}
@@ -121,12 +121,12 @@ same_or (suc d) zero = inr (λ e. omega arith)
 same_or (suc d) (suc c) = elim (same_or d c) [ inl e ↦ inl (ap suc e) | inr n ↦ inr (λ e. n (omega arith)) ]
 
 -- the regions move, and no context asks anything else
-pub quiet-regions : {K V I : Type 0} (keeps : Bool) (v : CoreView K V I) (regions : RegionsView) (now : ℕ)
+pub quiet-regions : {K V I : Type 0} (keeps : Bool) (v : PartitionView K V I) (regions : RegionsView) (now : ℕ)
     → ((t d : ℕ) → context_in regions.epochs.slots v.contexts t d ≡ context_in (slots_of v) v.contexts t d)
     → IsQuiet keeps v (in_regions v regions now) now
 quiet-regions keeps v regions now h = record { same = λ t d. ap (λ o. option_map asked_by (on_key o)) (h t d); text = λ keeps. refl; number = refl; count = refl; begin = refl; cleared = refl; moment = refl }
 
-module _ {K V I : Type 0} {keeps : Bool} (cmp : K → K → Ordering) (join : V → V → V) (code : K → ℕ) (v : CoreView K V I) (s : IsSound keeps cmp join code v) where
+module _ {K V I : Type 0} {keeps : Bool} (cmp : K → K → Ordering) (join : V → V → V) (code : K → ℕ) (v : PartitionView K V I) (s : IsSound keeps cmp join code v) where
   -- a context of an entered session stands for what it says
   pub stands-at : (slot c : ℕ) (x : Context K V I) → context_at v slot c ≡ Some x → StandsFor keeps cmp join code v.records x.op x.phase
   stands-at slot c x h = s.stands (slot * 8 + c) x (key_at (slots_of v) v.contexts slot c x h).here
@@ -186,7 +186,7 @@ module _ {K V I : Type 0} {keeps : Bool} (cmp : K → K → Ordering) (join : V 
   pub event-enter : (slot now : ℕ) → free_slot v ≡ Some slot → IsQuiet keeps v (in_regions v (entered v.records.log.regions slot) now) now
   event-enter slot now free = quiet-regions keeps v (entered v.records.log.regions slot) now (entered-same slot free)
 
-module _ {K V I O : Type 0} (cmp : K → K → Ordering) (join : V → V → V) (f : Meanings K V I O) (code : K → ℕ) (v : CoreView K V I) where
+module _ {K V I O : Type 0} (cmp : K → K → Ordering) (join : V → V → V) (f : Meanings K V I O) (code : K → ℕ) (v : PartitionView K V I) where
   module _ (slot c now : ℕ) (x : Context K V I) (h : context_at v slot c ≡ Some x) where
     leaves-in : (y : Option (Context K V I)) (r : RecordsView K V) → r.log.begin ≡ v.records.log.begin → r.log.regions ≡ v.records.log.regions
         → LeavesOthers v (record (with_context v slot c y now) { records = r }) slot c now
@@ -354,7 +354,7 @@ module _ {K V I O : Type 0} (cmp : K → K → Ordering) (join : V → V → V) 
     }
 
     -- a tentative entry is made
-    pub event-claims : {R : Type 0} (new : CoreView K V I) → IsClaimed code v new slot c x now → IsEvent {R = R} cmp f v new slot c now Next
+    pub event-claims : {R : Type 0} (new : PartitionView K V I) → IsClaimed code v new slot c x now → IsEvent {R = R} cmp f v new slot c now Next
     event-claims new i =
         rw i.is (event-next (Confirm i.place) i.records (ap (λ (r : RecordsView K V). r.text) i.claims.is) (ap (λ (r : RecordsView K V). r.log.begin) i.claims.is) (ap (λ (r : RecordsView K V). r.log.regions) i.claims.is))
 
@@ -442,7 +442,7 @@ module _ {K V I O : Type 0} (cmp : K → K → Ordering) (join : V → V → V) 
           frame = record { others = l.others; number = refl; count = refl; begin = refl; regions = refl; rises = omega arith; moment = refl };
         }
 
-module _ {K V I : Type 0} (code : K → ℕ) (v : CoreView K V I) where
+module _ {K V I : Type 0} (code : K → ℕ) (v : PartitionView K V I) where
   -- an operation is issued in a context where nothing is open
   pub event-issue : (slot c now : ℕ) (op : KeyedOp K V I) → is_session (slots_of v) slot ≡ true → slice_get v.contexts (slot * 8 + c) ≡ Some None → c < 8 → partition_of v.count (code (key_of op)) ≡ v.number
       → IsIssue code v (with_context v slot c (Some (record { number = now; op = op; phase = Fresh })) now) slot c op now
@@ -467,7 +467,7 @@ module _ {K V I : Type 0} (code : K → ℕ) (v : CoreView K V I) where
   -- in the lowest of them
 
 -- the regions move, and the records follow
-pub event-moved : {K V I : Type 0} (keeps : Bool) (v : CoreView K V I) (r : RecordsView K V) (regions : RegionsView) (now : ℕ)
+pub event-moved : {K V I : Type 0} (keeps : Bool) (v : PartitionView K V I) (r : RecordsView K V) (regions : RegionsView) (now : ℕ)
     → IsMoved keeps regions v.records r
     → ((t d : ℕ) → context_in regions.epochs.slots v.contexts t d ≡ context_in (slots_of v) v.contexts t d)
     → IsQuiet keeps v (record v { records = r; moment = now }) now
@@ -482,22 +482,22 @@ event-moved keeps v r regions now m h = record {
 }
 
 -- a session without open operations is left
-pub left-same : {K V I : Type 0} (v : CoreView K V I) (slot : ℕ) → open_context v slot ≡ None → (t d : ℕ) → context_in (left v.records.log.regions slot).epochs.slots v.contexts t d ≡ context_in (slots_of v) v.contexts t d
+pub left-same : {K V I : Type 0} (v : PartitionView K V I) (slot : ℕ) → open_context v slot ≡ None → (t d : ℕ) → context_in (left v.records.log.regions slot).epochs.slots v.contexts t d ≡ context_in (slots_of v) v.contexts t d
 left-same v slot none t d = elim (same_or t slot) [
   | inl e ↦ ap (λ n. context_in (slice_set (slots_of v) slot None) v.contexts n d) e ∙ context-left (slots_of v) v.contexts slot d ∙ sym (idle-held v slot d none) ∙ ap (λ n. held_at v n d) (sym e)
   | inr n ↦ context-elsewhere (slots_of v) v.contexts slot t d None n
 ]
 
 -- one is refreshed
-pub refreshed-same : {K V I : Type 0} (v : CoreView K V I) (slot : ℕ) → is_session (slots_of v) slot ≡ true → (t d : ℕ) → context_in (refreshed v.records.log.regions slot).epochs.slots v.contexts t d ≡ context_in (slots_of v) v.contexts t d
+pub refreshed-same : {K V I : Type 0} (v : PartitionView K V I) (slot : ℕ) → is_session (slots_of v) slot ≡ true → (t d : ℕ) → context_in (refreshed v.records.log.regions slot).epochs.slots v.contexts t d ≡ context_in (slots_of v) v.contexts t d
 refreshed-same v slot entered t d = context-renewed (slots_of v) v.contexts slot v.records.log.regions.epochs.epoch t d entered
 
 -- a page is flushed
-pub event-flushed : {K V I : Type 0} (keeps : Bool) (v : CoreView K V I) (st : Standing) (now : ℕ) → IsQuiet keeps v (record v { records = with_receipt v.records st; moment = now }) now
+pub event-flushed : {K V I : Type 0} (keeps : Bool) (v : PartitionView K V I) (st : Standing) (now : ℕ) → IsQuiet keeps v (record v { records = with_receipt v.records st; moment = now }) now
 event-flushed keeps v st now = record { same = λ t d. refl; text = λ yes_keeps. refl; number = refl; count = refl; begin = refl; cleared = refl; moment = refl }
 
 -- an operation is given up, and the text of the records stays
-pub event-give_up : {K V I : Type 0} (v : CoreView K V I) (slot c now : ℕ) (x : Context K V I) (records : RecordsView K V)
+pub event-give_up : {K V I : Type 0} (v : PartitionView K V I) (slot c now : ℕ) (x : Context K V I) (records : RecordsView K V)
     → context_at v slot c ≡ Some x
     → records.text ≡ v.records.text
     → records.log.begin ≡ v.records.log.begin
@@ -521,7 +521,7 @@ event-give_up v slot c now x records h text begin regions = record {
 }
 
 -- a merge is open only where the functions merge
-pub merging-at : {K V I : Type 0} {keeps : Bool} {join : V → V → V} {cmp : K → K → Ordering} {code : K → ℕ} (v : CoreView K V I) (merges : Bool) (slot c : ℕ) (x : Context K V I)
+pub merging-at : {K V I : Type 0} {keeps : Bool} {join : V → V → V} {cmp : K → K → Ordering} {code : K → ℕ} (v : PartitionView K V I) (merges : Bool) (slot c : ℕ) (x : Context K V I)
     → IsSound keeps cmp join code v
     → merges ≡ v.merges
     → context_at v slot c ≡ Some x
@@ -533,11 +533,11 @@ merging-at v merges slot c x s same h merge =
     same ∙ is
 
 -- a context that is open and claims nothing
-pub claims-none : {K V I : Type 0} (v : CoreView K V I) (slot c : ℕ) (x : Context K V I) → context_at v slot c ≡ Some x → claim_by x.phase ≡ None → claim_at v.contexts (slot * 8 + c) ≡ None
+pub claims-none : {K V I : Type 0} (v : PartitionView K V I) (slot c : ℕ) (x : Context K V I) → context_at v slot c ≡ Some x → claim_by x.phase ≡ None → claim_at v.contexts (slot * 8 + c) ≡ None
 claims-none v slot c x h quiet = ap (λ o. claim_of (joined o)) (key_at (slots_of v) v.contexts slot c x h).here ∙ quiet
 
 -- an entry is confirmed, or backs off
-module _ {K V I O R : Type 0} (stands : R → Standing) (cmp : K → K → Ordering) (join : V → V → V) (f : Meanings K V I O) (code : K → ℕ) (old new : CoreView K V I) (slot c now : ℕ) (x : Context K V I) (p : Place) (h : context_at old slot c ≡ Some x) (phase : x.phase ≡ Confirm p) (final : Bool) (alone : IsTrue final ↔ IsAlone old.records.words p) where
+module _ {K V I O R : Type 0} (stands : R → Standing) (cmp : K → K → Ordering) (join : V → V → V) (f : Meanings K V I O) (code : K → ℕ) (old new : PartitionView K V I) (slot c now : ℕ) (x : Context K V I) (p : Place) (h : context_at old slot c ≡ Some x) (phase : x.phase ≡ Confirm p) (final : Bool) (alone : IsTrue final ↔ IsAlone old.records.words p) where
   confirm_claim-does : OnTrue final (new ≡ record (with_context old slot c (Some (at_phase x Fresh)) now) { records = confirmed old.records p })
       → OnFalse final (new ≡ record (with_context old slot c (Some (at_phase x Fresh)) now) { records = released old.records p })
       → (b : Bool) → final ≡ b → Goes stands cmp join f code old new slot c now (Ok Next)
@@ -576,7 +576,7 @@ not-entered slots slot h = by_test (is_session slots slot) refl
     by_test false e = e
 
 -- the session of another open operation stays where one without any leaves
-pub idle-other : {K V I : Type 0} (v : CoreView K V I) (slot t d : ℕ) (x : OpenWork K V I) → open_context v slot ≡ None → d < 8 → slice_get v.contexts (t * 8 + d) ≡ Some (Some x) → is_session (slots_of v) t ≡ true → is_session (slice_set (slots_of v) slot None) t ≡ true
+pub idle-other : {K V I : Type 0} (v : PartitionView K V I) (slot t d : ℕ) (x : OpenWork K V I) → open_context v slot ≡ None → d < 8 → slice_get v.contexts (t * 8 + d) ≡ Some (Some x) → is_session (slots_of v) t ≡ true → is_session (slice_set (slots_of v) slot None) t ≡ true
 idle-other v slot t d x none low here inside = elim (cases_eq t slot) [
   | inl same ↦ absurd (idle v slot d x none low (ap (λ n. slice_get v.contexts (n * 8 + d)) (sym same) ∙ here))
   | inr other ↦ ap (λ o. is_some (option_flatten o)) (get-set_other (slots_of v) slot t None other) ∙ inside
@@ -586,7 +586,7 @@ pub last-is : {A : Type 0} (o : Option A) (x y : A) → o ≡ Some x → o ≡ S
 last-is o x y h k = let same : Some x ≡ Some y = sym h ∙ k in cc
 
 -- a shift that is refused
-pub shift-refused : {K V I : Type 0} (keeps : Bool) (v : CoreView K V I) (page now : ℕ) (result : Result (Unit {0}) Refused) (why : Refused)
+pub shift-refused : {K V I : Type 0} (keeps : Bool) (v : PartitionView K V I) (page now : ℕ) (result : Result (Unit {0}) Refused) (why : Refused)
     → result ≡ Err why
     → ((result ≡ Err NotDue) ↔ ¬ IsReadOnlyDue v.records.log.regions page v.records.log.tail)
     → ((result ≡ Err DrainFull) ↔ (IsReadOnlyDue v.records.log.regions page v.records.log.tail × (16 ≤ length v.records.log.regions.epochs.waiting)))
@@ -597,7 +597,7 @@ shift-refused keeps v page now result why is not_due full only = elim only [
   | inr e ↦ (let due = full.0 (is ∙ ap Err e) in Shifts.full due.0 due.1 refl (is ∙ ap Err e))
 ]
 
-pub evict-refused : {K V I : Type 0} (keeps : Bool) (v : CoreView K V I) (page now : ℕ) (result : Result (Unit {0}) Refused) (why : Refused)
+pub evict-refused : {K V I : Type 0} (keeps : Bool) (v : PartitionView K V I) (page now : ℕ) (result : Result (Unit {0}) Refused) (why : Refused)
     → result ≡ Err why
     → ((result ≡ Err NotDue) ↔ ¬ IsHeadDue v.records.log.regions page)
     → ((result ≡ Err DrainFull) ↔ (IsHeadDue v.records.log.regions page × (16 ≤ length v.records.log.regions.epochs.waiting)))
@@ -613,7 +613,7 @@ if-all (Ok x) p = p
 if-all (Err e) p = tt
 
 -- ---- a page that was written
-pub flush-refused : {K V I : Type 0} (v : CoreView K V I) (st : Standing) (bytes : List ℕ) (now : ℕ) (r : Result (Unit {0}) Refused) (why : Refused)
+pub flush-refused : {K V I : Type 0} (v : PartitionView K V I) (st : Standing) (bytes : List ℕ) (now : ℕ) (r : Result (Unit {0}) Refused) (why : Refused)
     → r ≡ Err why
     → IfSome (flush_refusal v.records.log st.page bytes) (λ reason. r ≡ Err reason)
     → (flush_refusal v.records.log st.page bytes ≡ None → why ≡ NoMemory)
@@ -624,7 +624,7 @@ flush-refused v st bytes now r why is told only = by_refusal (flush_refusal v.re
     by_refusal None none told only = Flushes.unkept none refl (is ∙ ap Err (only refl))
     by_refusal (Some reason) some told only = Flushes.refused reason some refl told
 
-pub flush-taken : {K V I : Type 0} (v : CoreView K V I) (st : Standing) (bytes : List ℕ) (now : ℕ) (r : Result (Unit {0}) Refused)
+pub flush-taken : {K V I : Type 0} (v : PartitionView K V I) (st : Standing) (bytes : List ℕ) (now : ℕ) (r : Result (Unit {0}) Refused)
     → r ≡ Ok tt
     → IfSome (flush_refusal v.records.log st.page bytes) (λ reason. r ≡ Err reason)
     → Flushes v (record v { records = with_receipt v.records st; moment = now }) st bytes now r

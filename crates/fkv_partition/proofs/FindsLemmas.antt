@@ -27,14 +27,14 @@ use Rattle.fkv_partition.specs.declared.contexts.Phase.TheVariants.{Fresh, Confi
 use Rattle.fkv_partition.specs.declared.contexts.Progress.{Progress}
 use Rattle.fkv_partition.specs.declared.contexts.Progress.TheVariants.{Done, Next, NeedsBuild, NeedsLoad, Waits}
 use Rattle.fkv_partition.specs.declared.contexts.Wait.TheVariants.{Fuzzy, Full}
-use Rattle.fkv_partition.specs.CoreContexts.{question_by, at_phase, context_in, on_key}
-use Rattle.fkv_partition.specs.CoreViews.{CoreView, context_at, with_context}
-use Rattle.fkv_partition.specs.CoreGoing.{Goes}
-use Rattle.fkv_partition.specs.CoreInstalling.{Installs}
-use Rattle.fkv_partition.specs.CoreEffect.{asked_by, Finds}
+use Rattle.fkv_partition.specs.Contexts.{question_by, at_phase, context_in, on_key}
+use Rattle.fkv_partition.specs.Views.{PartitionView, context_at, with_context}
+use Rattle.fkv_partition.specs.KeyGoing.{Goes}
+use Rattle.fkv_partition.specs.KeyInstalling.{Installs}
+use Rattle.fkv_partition.specs.KeyEffect.{asked_by, Finds}
 use Rattle.fkv_partition.specs.Effects.{to_find}
 use Rattle.fkv_partition.specs.Pending.{pending_by, pending_of, pending}
-use Rattle.fkv_partition.specs.CoreSound.{IsSound}
+use Rattle.fkv_partition.specs.KeySound.{IsSound}
 use Rattle.fkv_partition.proofs.AskedLemmas.{keyed-op, context-same}
 
 -- an entry that was found leads where its word says
@@ -66,23 +66,23 @@ asks-none cmp r n op (Confirm place) q h = absurd (cc)
 asks-none cmp r n op (Load l) q h = absurd (cc)
 asks-none cmp r n op (Prepared e s) q h = refl
 
-module _ {K V I : Type 0} (cmp : K → K → Ordering) (old new : CoreView K V I) (slot c now : ℕ) where
+module _ {K V I : Type 0} (cmp : K → K → Ordering) (old new : PartitionView K V I) (slot c now : ℕ) where
   -- a context was set to what waits for no page
   set-none : (x : Context K V I) → context_at old slot c ≡ Some x → (y : Option (Context K V I)) (r : RecordsView K V) → r.log.regions ≡ old.records.log.regions → pending_of cmp r y ≡ None
       → new ≡ record (with_context old slot c y now) { records = r } → pending cmp new slot c ≡ None
   set-none x h y r regions none is =
-      ap (λ (v : CoreView K V I). pending cmp v slot c) is
+      ap (λ (v : PartitionView K V I). pending cmp v slot c) is
       ∙ ap (λ g. pending_of cmp r (on_key (context_in g.epochs.slots (with_context old slot c y now).contexts slot c))) regions
       ∙ ap (pending_of cmp r) (context-same old slot c now x h y) ∙ none
 
   -- it stays as it is
   stays-none : (x : Context K V I) → context_at old slot c ≡ Some x → pending_by cmp old.records x.op x.phase ≡ None → new ≡ record old { moment = now } → pending cmp new slot c ≡ None
-  stays-none x h none is = ap (λ (v : CoreView K V I). pending cmp v slot c) is ∙ ap (pending_of cmp old.records) h ∙ none
+  stays-none x h none is = ap (λ (v : PartitionView K V I). pending cmp v slot c) is ∙ ap (pending_of cmp old.records) h ∙ none
 
   fresh-none : (x : Context K V I) → x.phase ≡ Fresh → pending_by cmp old.records x.op x.phase ≡ None
   fresh-none x h = ap (pending_by cmp old.records x.op) h
 
-module _ {K V I O R : Type 0} (cmp : K → K → Ordering) (join : V → V → V) (f : Meanings K V I O) (code : K → ℕ) (old new : CoreView K V I) (slot c now : ℕ) where
+module _ {K V I O R : Type 0} (cmp : K → K → Ordering) (join : V → V → V) (f : Meanings K V I O) (code : K → ℕ) (old new : PartitionView K V I) (slot c now : ℕ) where
   pub goes-find : {keeps : Bool} (stands : R → Standing) → IsKeyOrder cmp → IsSound keeps cmp join code old
       → (progress : Progress K V I O R) → Goes stands cmp join f code old new slot c now (Ok progress) → Finds cmp old new slot c now progress
   goes-find stands order s progress (Goes.unknown h is e) = absurd (cc)
@@ -105,7 +105,7 @@ module _ {K V I O R : Type 0} (cmp : K → K → Ordering) (join : V → V → V
       rw q (record {
         question = asked_by x;
         was = ap (option_map asked_by) d.here;
-        asks = ap (λ (u : CoreView _ _ _). pending cmp u slot c) is
+        asks = ap (λ (u : PartitionView _ _ _). pending cmp u slot c) is
             ∙ ap (pending_of cmp old.records) (context-same old slot c now x d.here (Some (at_phase x (Load (record { begin = old.records.log.begin; kept = k; wanted = b; parts = parts; looked = now })))))
             ∙ (rw (eq-eqb old.records.log.begin old.records.log.begin refl) (ap (λ o. Some (record { moment = now; value = value_of o })) led))
             ∙ ap (to_find cmp old now) (sym (keyed-op x.op));

@@ -45,8 +45,8 @@ use Rattle.fkv_lookups.specs.Payloads.{value_in, is_part}
 use Rattle.fkv_partition.specs.declared.contexts.Phase.{Phase}
 use Rattle.fkv_partition.specs.declared.contexts.Phase.TheVariants.{Fresh, Confirm, Prepared, Load}
 use Rattle.fkv_partition.specs.declared.contexts.Loading.{Loading}
-use Rattle.fkv_partition.specs.CoreContexts.{claim_by}
-use Rattle.fkv_partition.specs.CoreSound.{IsKept, IsLoading, StandsFor}
+use Rattle.fkv_partition.specs.Contexts.{claim_by}
+use Rattle.fkv_partition.specs.KeySound.{IsKept, IsLoading, StandsFor}
 use Rattle.fkv_partition.proofs.ClaimLemmas.{place-or}
 
 -- records change: on a device that keeps, what is newest at or below each address that is taken stays where it is still;

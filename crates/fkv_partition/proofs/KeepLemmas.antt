@@ -1,5 +1,5 @@
 -- What the changes of a compacted partition keep.
-use Rattle.std.proofs.Common.{◌≡◌, Bool, true, false, ℕ, ◌^◌, ◌<◌, ◌≤◌, inl, inr, ◌==◌, IsTrue, List, [], ◌∷◌, cond, nat_le, replicate, zero, suc, Option, Some, None, Result, Ok, Err, OnErr, slice_get, slice_set, refl, sym, ◌∙◌, ap, subst, arith}
+use Rattle.std.proofs.Common.{◌≡◌, Bool, true, false, ℕ, ◌^◌, ◌<◌, ◌≤◌, inl, inr, ◌==◌, IsTrue, List, [], ◌∷◌, cond, nat_le, replicate, zero, suc, Option, Some, None, Ok, slice_get, slice_set, refl, sym, ◌∙◌, ap, subst, arith}
 use Rattle.std.proofs.lemmas.Bool.{cases_lt, eqb-true}
 use Rattle.std.proofs.lemmas.Bool.Decides.{nat_tests}
 use Rattle.std.specs.BTreeMap.{is_at}
@@ -20,21 +20,17 @@ use Rattle.fkv_lookups.proofs.TracedLemmas.{traced-raw}
 use Rattle.fkv_operations.specs.declared.entries.IndexEntry.{IndexEntry}
 use Rattle.fkv_functions.proofs.ListLemmas.{get-set_cases}
 use Rattle.fkv_operations.specs.declared.operations.KeyedOp.{KeyedOp}
-use Rattle.fkv_partition.specs.CoreBeginning.{Issues}
-use Rattle.fkv_partition.proofs.AskedLemmas.{joined-some, relocation-is}
+use Rattle.fkv_partition.specs.KeyBeginning.{Issues}
 use Rattle.fkv_partition.specs.Beginning.{IssuesOnKey, IsFirstFree}
-use Rattle.fkv_partition.specs.CoreContexts.{joined, relocating}
-use Rattle.fkv_partition.specs.CoreViews.{CoreView, partition_of}
-use Rattle.fkv_partition.specs.Grown.{IsPreserved, RelocationsStay}
+use Rattle.fkv_partition.specs.Views.{PartitionView, partition_of, cleared_past}
+use Rattle.fkv_partition.specs.Grown.{IsPreserved}
 use Rattle.fkv_partition.specs.declared.contexts.OpenWork.{OpenWork}
 use Rattle.fkv_partition.specs.declared.contexts.OpenWork.TheVariants.{Relocating}
 use Rattle.fkv_partition.specs.declared.relocations.Relocation.{Relocation}
 use Rattle.fkv_partition.specs.declared.relocations.Stage.{Stage}
 use Rattle.fkv_partition.specs.declared.relocations.Stage.TheVariants.{Fresh, Reading, Tracing, Ready}
-use Rattle.fkv_partition.specs.Views.{PartitionView, with_core, cleared_past}
 use Rattle.fkv_partition.specs.Stages.{IsReady, RelocationStands, StageStands}
-use Rattle.fkv_partition.specs.Sound.{IsCompacting}
-use Rattle.fkv_partition.proofs.SteadyLemmas.{IsSteady}
+use Rattle.fkv_partition.specs.Sound.{IsCompacting, MayClear}
 
 -- ---- where the log ends
 kept-begin : (b : Bool) (begin closed : ℕ) → IsTrue b → text_begin b begin closed ≡ begin
@@ -82,16 +78,10 @@ none-in zero p x e = cc
 none-in (suc n) zero x e = cc
 none-in (suc n) (suc p) x e = none-in n p x e
 
--- a relocation that stands where relocations stay stood there before
-pub stood-before : {K V I : Type 0} (old new : CoreView K V I) → RelocationsStay old new → (p : ℕ) (x : Relocation K V) → slice_get new.contexts p ≡ Some (Some (Relocating x)) → slice_get old.contexts p ≡ Some (Some (Relocating x))
-stood-before {K} {V} {I} old new stay p x h =
-    joined-some (slice_get old.contexts p) (Relocating x)
-    (relocation-is (joined (slice_get old.contexts p)) x (sym (stay p) ∙ ap (λ (o : Option (Option (OpenWork K V I))). relocating (joined o)) h))
-
 module _ {K V I : Type 0} (keeps : Bool) (cmp : K → K → Ordering) (join : V → V → V) (code : K → ℕ) where
   -- ---- an event of the partition
   -- a relocation that is to append its record again
-  ready-kept : (old new : CoreView K V I) → IsTraced keeps code new.records → IsStood cmp join new.records → IsPreserved keeps cmp join code old new → (place : ℕ) → place < old.records.log.regions.offsets.safe_read_only → (entry : Entry K V) (kept : IndexEntry)
+  ready-kept : (old new : PartitionView K V I) → IsTraced keeps code new.records → IsStood cmp join new.records → IsPreserved keeps cmp join code old new → (place : ℕ) → place < old.records.log.regions.offsets.safe_read_only → (entry : Entry K V) (kept : IndexEntry)
       → IsReady keeps cmp join code old.records place entry kept → IsReady keeps cmp join code new.records place entry kept
   ready-kept old new t st b place frozen entry kept h = record {
     here = h.here;
@@ -110,7 +100,7 @@ module _ {K V I : Type 0} (keeps : Bool) (cmp : K → K → Ordering) (join : V 
   }
 
   -- a relocation stands for what it stood for
-  stage-kept : (old new : CoreView K V I) → new.number ≡ old.number → new.count ≡ old.count → IsTraced keeps code new.records → IsStood cmp join new.records → IsPreserved keeps cmp join code old new
+  stage-kept : (old new : PartitionView K V I) → new.number ≡ old.number → new.count ≡ old.count → IsTraced keeps code new.records → IsStood cmp join new.records → IsPreserved keeps cmp join code old new
       → (place : ℕ) → place < old.records.log.regions.offsets.safe_read_only → (stage : Stage K V) → StageStands keeps cmp join code old place stage → StageStands keeps cmp join code new place stage
   stage-kept old new number count t st b place frozen Fresh h = tt
   stage-kept old new number count t st b place frozen (Reading begin) h =
@@ -142,23 +132,24 @@ module _ {K V I : Type 0} (keeps : Bool) (cmp : K → K → Ordering) (join : V 
 
   -- an event of the partition keeps what every compacted partition keeps, where each relocation that stands then stood
   -- before, and Begin passes nothing that is not cleared
-  pub keep-event : (v : PartitionView K V I) (new : CoreView K V I)
+  pub keep-event : (v : PartitionView K V I) (new : PartitionView K V I)
       → IsCompacting keeps cmp join code v
       → IsTraced keeps code new.records
       → IsStood cmp join new.records
-      → IsPreserved keeps cmp join code v.core new
-      → new.number ≡ v.core.number
-      → new.count ≡ v.core.count
+      → IsPreserved keeps cmp join code v new
+      → new.number ≡ v.number
+      → new.count ≡ v.count
+      → new.cleared ≡ v.cleared
       → new.records.log.begin ≤ v.cleared
-      → ((p : ℕ) (x : Relocation K V) → slice_get new.contexts p ≡ Some (Some (Relocating x)) → slice_get v.core.contexts p ≡ Some (Some (Relocating x)))
-      → IsCompacting keeps cmp join code (with_core v new)
-  keep-event v new i t st b number count begun stood =
+      → ((p : ℕ) (x : Relocation K V) → slice_get new.contexts p ≡ Some (Some (Relocating x)) → slice_get v.contexts p ≡ Some (Some (Relocating x)))
+      → IsCompacting keeps cmp join code new
+  keep-event v new i t st b number count is begun stood =
       let shape = b.grown.shape in
       record {
-        begun = begun;
-        low = (let tail = b.grown.tail in let low = i.low in omega arith);
-        place = λ under. rw (shape.page_bits, shape.record_size) (i.place under);
-        cleared = λ yes_keeps. b.grown.clear v.cleared i.low yes_keeps (i.cleared yes_keeps);
+        begun = omega (arith, is, begun);
+        low = (let tail = b.grown.tail in let low = i.low in omega (arith, is, tail, low));
+        place = λ under. rw (is, shape.page_bits, shape.record_size) (i.place (omega (arith, is, under)));
+        cleared = λ yes_keeps. rw is (b.grown.clear v.cleared i.low yes_keeps (i.cleared yes_keeps));
         stands = λ p x h.
             let was = i.stands p x (stood p x h) in
             let safe = b.grown.raised.safe in
@@ -166,87 +157,70 @@ module _ {K V I : Type 0} (keeps : Bool) (cmp : K → K → Ordering) (join : V 
             record {
               place = rw (shape.page_bits, shape.record_size) was.place;
               frozen = omega arith;
-              issued = was.issued;
-              stage = stage-kept v.core new number count t st b x.target was.frozen x.stage was.stage;
+              issued = (let issued = was.issued in omega (arith, is, issued));
+              stage = stage-kept v new number count t st b x.target was.frozen x.stage was.stage;
             };
       }
 
-  -- so it is where relocations stay, and Begin stands
-  pub keep-seated : (v : PartitionView K V I) (new : CoreView K V I)
-      → IsCompacting keeps cmp join code v
-      → IsTraced keeps code new.records
-      → IsStood cmp join new.records
-      → IsPreserved keeps cmp join code v.core new
-      → IsSteady v.core new
-      → RelocationsStay v.core new
-      → IsCompacting keeps cmp join code (with_core v new)
-  keep-seated v new i t st b steady stay =
-      keep-event v new i t st b steady.number steady.count (let begun = i.begun in let begin = steady.begin in omega arith) (stood-before v.core new stay)
-
   -- ---- a relocation begins, goes on or ends
-  stage-moment : (v : CoreView K V I) (contexts : List (Option (OpenWork K V I))) (now place : ℕ) (stage : Stage K V) → StageStands keeps cmp join code v place stage → StageStands keeps cmp join code (record v { contexts = contexts; moment = now }) place stage
-  stage-moment v contexts now place Fresh h = tt
-  stage-moment v contexts now place (Reading begin) h = h
-  stage-moment v contexts now place (Tracing entry l) h = h
-  stage-moment v contexts now place (Ready entry kept) h = h
+  stage-moment : (v : PartitionView K V I) (contexts : List (Option (OpenWork K V I))) (now cleared place : ℕ) (stage : Stage K V) → StageStands keeps cmp join code v place stage → StageStands keeps cmp join code (record v { contexts = contexts; moment = now; cleared = cleared }) place stage
+  stage-moment v contexts now cleared place Fresh h = tt
+  stage-moment v contexts now cleared place (Reading begin) h = h
+  stage-moment v contexts now cleared place (Tracing entry l) h = h
+  stage-moment v contexts now cleared place (Ready entry kept) h = h
 
-  -- what is cleared may rise
-  pub record Rises (v : PartitionView K V I) (limit : ℕ) : Type 0 where
-    pub higher : v.cleared ≤ limit
-    pub low : limit ≤ v.core.records.log.tail
-    pub place : limit < 2 ^ 48 → IsRecordStart v.core.records.log.bits v.core.records.record_size limit
-    pub cleared : IsTrue keeps → IsCleared cmp v.core.records.log.text limit
-
-  higher-stands : (v : PartitionView K V I) (cleared : ℕ) → Rises v cleared → (x : Relocation K V) → RelocationStands keeps cmp join code v.core v.cleared x → RelocationStands keeps cmp join code v.core cleared x
+  higher-stands : (v : PartitionView K V I) (cleared : ℕ) → MayClear keeps cmp v cleared → (x : Relocation K V) → RelocationStands keeps cmp join code v v.cleared x → RelocationStands keeps cmp join code v cleared x
   higher-stands v cleared r x h = record { place = h.place; frozen = h.frozen; issued = (let up = r.higher in let issued = h.issued in omega arith); stage = h.stage }
 
   pub keep-changed : (v : PartitionView K V I) (i now cleared : ℕ) (y : Option (OpenWork K V I))
       → IsCompacting keeps cmp join code v
-      → Rises v cleared
-      → ((x : Relocation K V) → y ≡ Some (Relocating x) → RelocationStands keeps cmp join code v.core cleared x)
-      → IsCompacting keeps cmp join code (record { core = record v.core { contexts = slice_set v.core.contexts i y; moment = now }; cleared = cleared })
+      → MayClear keeps cmp v cleared
+      → ((x : Relocation K V) → y ≡ Some (Relocating x) → RelocationStands keeps cmp join code v cleared x)
+      → IsCompacting keeps cmp join code (record v { contexts = slice_set v.contexts i y; moment = now; cleared = cleared })
   keep-changed v i now cleared y s r fits = record {
     begun = (let up = r.higher in let begun = s.begun in omega arith);
     low = r.low;
     place = r.place;
     cleared = r.cleared;
-    stands = λ p x h. elim (get-set_cases v.core.contexts i p y (Some (Relocating x)) h) [
+    stands = λ p x h. elim (get-set_cases v.contexts i p y (Some (Relocating x)) h) [
       | inl e ↦ at-moment x (fits x e.1)
       | inr o ↦ at-moment x (higher-stands v cleared r x (s.stands p x o))
     ];
   }
     where
-      at-moment : (x : Relocation K V) → RelocationStands keeps cmp join code v.core cleared x → RelocationStands keeps cmp join code (record v.core { contexts = slice_set v.core.contexts i y; moment = now }) cleared x
-      at-moment x h = record { place = h.place; frozen = h.frozen; issued = h.issued; stage = stage-moment v.core (slice_set v.core.contexts i y) now x.target x.stage h.stage }
+      at-moment : (x : Relocation K V) → RelocationStands keeps cmp join code v cleared x → RelocationStands keeps cmp join code (record v { contexts = slice_set v.contexts i y; moment = now; cleared = cleared }) cleared x
+      at-moment x h = record { place = h.place; frozen = h.frozen; issued = h.issued; stage = stage-moment v (slice_set v.contexts i y) now cleared x.target x.stage h.stage }
 
   -- nothing else changes
-  pub keep-risen : (v : PartitionView K V I) (cleared : ℕ) → IsCompacting keeps cmp join code v → Rises v cleared → IsCompacting keeps cmp join code (record v { cleared = cleared })
+  pub keep-risen : (v : PartitionView K V I) (cleared : ℕ) → IsCompacting keeps cmp join code v → MayClear keeps cmp v cleared → IsCompacting keeps cmp join code (record v { cleared = cleared })
   keep-risen v cleared s r = record {
     begun = (let up = r.higher in let begun = s.begun in omega arith);
     low = r.low;
     place = r.place;
     cleared = r.cleared;
-    stands = λ p x h. higher-stands v cleared r x (s.stands p x h);
+    stands = λ p x h.
+        let was = higher-stands v cleared r x (s.stands p x h) in
+        record { place = was.place; frozen = was.frozen; issued = was.issued; stage = stage-moment v v.contexts v.moment cleared x.target x.stage was.stage };
   }
 
   -- what is cleared stays
-  pub rises-not : (v : PartitionView K V I) → IsCompacting keeps cmp join code v → Rises v v.cleared
+  pub rises-not : (v : PartitionView K V I) → IsCompacting keeps cmp join code v → MayClear keeps cmp v v.cleared
   rises-not v s = record { higher = omega arith; low = s.low; place = s.place; cleared = s.cleared }
 
   -- a place is cleared
   pub rises-past : (v : PartitionView K V I) (place : ℕ) → IsCompacting keeps cmp join code v
-      → IsTraced keeps code v.core.records
+      → IsTraced keeps code v.records
       → place ≤ v.cleared
-      → IsRecordStart v.core.records.log.bits v.core.records.record_size place
-      → place < v.core.records.log.tail
-      → (IsTrue keeps → IsCleared cmp v.core.records.log.text place → IsCleared cmp v.core.records.log.text (tail_after v.core.records.log.bits v.core.records.record_size place))
-      → Rises v (cleared_past v place)
+      → IsRecordStart v.records.log.bits v.records.record_size place
+      → place < v.records.log.tail
+      → (IsTrue keeps → IsCleared cmp v.records.log.text place → IsCleared cmp v.records.log.text (tail_after v.records.log.bits v.records.record_size place))
+      → MayClear keeps cmp v (cleared_past v place)
   rises-past v place s t issued at low raised = by_test (nat_le v.cleared place) refl
     where
       r : RecordsView K V
-      r = v.core.records
+      r = v.records
 
-      by_test : (b : Bool) → nat_le v.cleared place ≡ b → Rises v (cond b (tail_after r.log.bits r.record_size place) v.cleared)
+      by_test : (b : Bool) → nat_le v.cleared place ≡ b → MayClear keeps cmp v (cond b (tail_after r.log.bits r.record_size place) v.cleared)
       by_test false h = rises-not v s
       by_test true h =
           let under : v.cleared ≤ place = grind (arith, nat_tests, h) in
@@ -261,19 +235,14 @@ module _ {K V I : Type 0} (keeps : Bool) (cmp : K → K → Ordering) (join : V 
           }
 
   -- ---- the beginning
-  pub compacting-empty : (p : CoreView K V I) → p.records.log.begin ≡ 64 → p.records.log.tail ≡ 64 → p.records.log.text ≡ [] → p.contexts ≡ replicate 128 None → IsCompacting keeps cmp join code (record { core = p; cleared = 64 })
-  compacting-empty p begin tail entries contexts = record {
+  pub compacting-empty : (p : PartitionView K V I) → p.records.log.begin ≡ 64 → p.records.log.tail ≡ 64 → p.records.log.text ≡ [] → p.contexts ≡ replicate 128 None → p.cleared ≡ 64 → IsCompacting keeps cmp join code p
+  compacting-empty p begin tail entries contexts is = record {
     begun = omega arith;
     low = omega arith;
-    place = λ under. first;
-    cleared = λ yes_keeps. subst (λ t. IsCleared cmp t 64) (sym entries) (λ e here low. absurd (cc));
+    place = λ under. rw is first;
+    cleared = λ yes_keeps. rw is (subst (λ t. IsCleared cmp t 64) (sym entries) (λ e here low. absurd (cc)));
     stands = λ i x h. absurd (none-in 128 i (Relocating x) (ap (λ (cs : List (Option (OpenWork K V I))). slice_get cs i) (sym contexts) ∙ h));
   }
-
--- where an event is refused, nothing changed
-pub on-err : {T E P Q : Type 0} (r : Result T E) → (P → Q) → OnErr r P → OnErr r Q
-on-err (Ok x) f h = tt
-on-err (Err e) f h = f h
 
 -- nothing where it is not something
 pub none-at : {A : Type 0} (o : Option A) → ((x : A) → o ≡ Some x → ⊥) → o ≡ None
@@ -282,8 +251,8 @@ none-at (Some x) h = absurd (h x refl)
 
 module _ {K V I : Type 0} (keeps : Bool) (cmp : K → K → Ordering) (join : V → V → V) (code : K → ℕ) where
   -- the lowest place that is not cleared may be taken once it is frozen
-  pub may-relocate : (v : PartitionView K V I) → IsCompacting keeps cmp join code v → IsTraced keeps code v.core.records → v.cleared < v.core.records.log.regions.offsets.safe_read_only → (now : ℕ)
-      → RelocationStands keeps cmp join code v.core v.cleared (record { number = now; target = v.cleared; stage = Fresh })
+  pub may-relocate : (v : PartitionView K V I) → IsCompacting keeps cmp join code v → IsTraced keeps code v.records → v.cleared < v.records.log.regions.offsets.safe_read_only → (now : ℕ)
+      → RelocationStands keeps cmp join code v v.cleared (record { number = now; target = v.cleared; stage = Fresh })
   may-relocate v i t frozen now =
       let o = t.regions.agree.in_order in
       let safe = o.safe in
@@ -292,6 +261,6 @@ module _ {K V I : Type 0} (keeps : Bool) (cmp : K → K → Ordering) (join : V 
 
 -- what an operation that is issued is told
 module _ {K V I : Type 0} (code : K → ℕ) where
-  pub issues-told : (v : PartitionView K V I) (new : CoreView K V I) (slot c : ℕ) (op : KeyedOp K V I) (now : ℕ) → IsFirstFree v slot (Some c) → Issues code v.core new slot c op now
-      → IssuesOnKey code v (with_core v new) slot op now (Ok c)
-  issues-told v new slot c op now lowest h = IssuesOnKey.issues c h.entered h.own h.merging lowest (ap (with_core v) h.is) refl
+  pub issues-told : (v : PartitionView K V I) (new : PartitionView K V I) (slot c : ℕ) (op : KeyedOp K V I) (now : ℕ) → IsFirstFree v slot (Some c) → Issues code v new slot c op now
+      → IssuesOnKey code v new slot op now (Ok c)
+  issues-told v new slot c op now lowest h = IssuesOnKey.issues c h.entered h.own h.merging lowest h.is refl

@@ -11,15 +11,14 @@ pub mod StayLemmas
 pub mod FindsLemmas
 pub mod ListingLemmas
 pub mod StoodLemmas
-pub mod CoreTruncateLemmas
+pub mod CuttingLemmas
 pub mod PreservedLemmas
 pub mod AppendedLemmas
 pub mod SeatLemmas
 pub mod KeptWordLemmas
-mod CoreAtOnceLemmas
-mod CoreReadLemmas
-mod CoreMergeLemmas
-pub mod SteadyLemmas
+mod KeyAtOnceLemmas
+mod KeyReadLemmas
+mod KeyMergeLemmas
 pub mod KeepLemmas
 pub mod FreeLemmas
 pub mod TruncateLemmas
@@ -27,6 +26,7 @@ pub mod ApartLemmas
 pub mod MoveLemmas
 pub mod CheckingLemmas
 pub mod AgainLemmas
+pub mod WholeLemmas
 pub mod HeldLemmas
 pub mod LookLemmas
 pub mod ReadLemmas

@@ -12,8 +12,8 @@ use Rattle.fkv_texts.specs.Deltas.{stood}
 use Rattle.fkv_texts.proofs.StoodLemmas.{AreAlike, alike, alike-get}
 use Rattle.fkv_lookups.specs.Overlays.{said_over, with_text, IsApart}
 use Rattle.fkv_functions.specs.Plain.{IsKeyOrder, PlainMap}
-use Rattle.fkv_partition.specs.CoreViews.{CoreView, partition_of, live_of, IsBare}
-use Rattle.fkv_partition.specs.CoreSound.{IsSound}
+use Rattle.fkv_partition.specs.Views.{PartitionView, partition_of, live_of, IsBare}
+use Rattle.fkv_partition.specs.KeySound.{IsSound}
 
 -- what holds of the key of each record holds of it once the records stand
 stood-keys : {K V : Type 0} (cmp : K → K → Ordering) (join : V → V → V) (P : K → Type 0) (es text : List (Entry K V)) → text ≡ stood cmp join es → ((i : ℕ) (e : Entry K V) → slice_get es i ≡ Some e → P e.key) → (i : ℕ) (e : Entry K V) → slice_get text i ≡ Some e → P e.key
@@ -61,7 +61,7 @@ module _ {K V : Type 0} (cmp : K → K → Ordering) (m : PlainMap K V) (text : 
       by_last (Some x) e = absurd (off (last-key cmp order P text own q (rw e refl)))
 
 -- the keys of the text of a partition belong there
-module _ {K V I : Type 0} {keeps : Bool} {v : CoreView K V I} (cmp : K → K → Ordering) (join : V → V → V) (code : K → ℕ) (order : IsKeyOrder cmp) (s : IsSound keeps cmp join code v) where
+module _ {K V I : Type 0} {keeps : Bool} {v : PartitionView K V I} (cmp : K → K → Ordering) (join : V → V → V) (code : K → ℕ) (order : IsKeyOrder cmp) (s : IsSound keeps cmp join code v) where
   own-keys : (i : ℕ) (e : Entry K V) → slice_get v.records.text i ≡ Some e → partition_of v.count (code e.key) ≡ v.number
   own-keys = stood-keys cmp join (λ k. partition_of v.count (code k) ≡ v.number) v.records.log.text v.records.text s.stood.is s.routed
 

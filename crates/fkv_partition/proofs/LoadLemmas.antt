@@ -34,10 +34,10 @@ use Rattle.fkv_partition.specs.declared.contexts.Phase.{Phase}
 use Rattle.fkv_partition.specs.declared.contexts.Phase.TheVariants.{Load, Prepared}
 use Rattle.fkv_partition.specs.declared.contexts.Progress.{Progress}
 use Rattle.fkv_partition.specs.declared.contexts.Progress.TheVariants.{Done, NeedsBuild, NeedsLoad}
-use Rattle.fkv_partition.specs.CoreContexts.{at_phase, loading_by}
-use Rattle.fkv_partition.specs.CoreViews.{CoreView, with_context, context_at}
-use Rattle.fkv_partition.specs.CoreSound.{IsKept, IsLoading, StandsFor, IsSound}
-use Rattle.fkv_partition.specs.CoreLoading.{Tells, MayLoad, AwaitsPage, ReadsOn, IsTold, Loads, WaitsFor, ReadsBy, found, ended}
+use Rattle.fkv_partition.specs.Contexts.{at_phase, loading_by}
+use Rattle.fkv_partition.specs.Views.{PartitionView, with_context, context_at}
+use Rattle.fkv_partition.specs.KeySound.{IsKept, IsLoading, StandsFor, IsSound}
+use Rattle.fkv_partition.specs.KeyLoading.{Tells, MayLoad, AwaitsPage, ReadsOn, IsTold, Loads, WaitsFor, ReadsBy, found, ended}
 use Rattle.fkv_index.specs.Words.{address_of}
 use Rattle.fkv_partition.proofs.GrownLemmas.{newest-nowhere, newest-under}
 use Rattle.fkv_partition.proofs.EventLemmas.{stands-at}
@@ -84,7 +84,7 @@ gathered-low join entry cmp k bits low a b parts r (ComesToInPage.found way whol
 gathered-low join entry cmp k bits low a b parts r (ComesToInPage.joins {d = d} way part more) is = gathered-low join entry cmp k bits low d.previous b (onto join d.value parts) r more is
 
 -- what the page that came says
-pub record Came {K V I : Type 0} (keeps : Bool) (entry : ℕ → List ℕ → ℕ → Entry K V → Type 0) (cmp : K → K → Ordering) (join : V → V → V) (code : K → ℕ) (v : CoreView K V I) (key : K) (wanted : ℕ) (parts : Option V) (st : Standing) (bytes : List ℕ)
+pub record Came {K V I : Type 0} (keeps : Bool) (entry : ℕ → List ℕ → ℕ → Entry K V → Type 0) (cmp : K → K → Ordering) (join : V → V → V) (code : K → ℕ) (v : PartitionView K V I) (key : K) (wanted : ℕ) (parts : Option V) (st : Standing) (bytes : List ℕ)
     (result : Result (ChainResult K V) Refused) : Type 0 where
   pub own : IsHeldBy v.records.log.receipts (page_at v.records.log.bits wanted) st
   pub reads : ComesToInPage join (entry v.records.log.bits bytes) cmp key v.records.log.bits (first_place v.records.log.bits (page_at v.records.log.bits wanted)) wanted parts result
@@ -93,7 +93,7 @@ pub record Came {K V I : Type 0} (keeps : Bool) (entry : ℕ → List ℕ → �
       → IsOfClass code v.records key wanted
       → (r : ChainResult K V) × (result ≡ Ok r) × ComesTo cmp join code v.records key (first_place v.records.log.bits (page_at v.records.log.bits wanted)) wanted parts r
 
-pub came-of : {K V I : Type 0} (keeps : Bool) (entry : ℕ → List ℕ → ℕ → Entry K V → Type 0) (cmp : K → K → Ordering) (join : V → V → V) (code : K → ℕ) (u v : CoreView K V I) (key k : K) (page low wanted : ℕ) (parts : Option V) (st : Standing) (bytes : List ℕ) (result : Result (ChainResult K V) Refused)
+pub came-of : {K V I : Type 0} (keeps : Bool) (entry : ℕ → List ℕ → ℕ → Entry K V → Type 0) (cmp : K → K → Ordering) (join : V → V → V) (code : K → ℕ) (u v : PartitionView K V I) (key k : K) (page low wanted : ℕ) (parts : Option V) (st : Standing) (bytes : List ℕ) (result : Result (ChainResult K V) Refused)
     → u ≡ v
     → key ≡ k
     → page ≡ page_at u.records.log.bits wanted
@@ -106,13 +106,13 @@ pub came-of : {K V I : Type 0} (keeps : Bool) (entry : ℕ → List ℕ → ℕ 
     → (r : ChainResult K V) × (result ≡ Ok r) × ComesTo cmp join code u.records key low wanted parts r)
     → Came keeps entry cmp join code v k wanted parts st bytes result
 came-of keeps entry cmp join code u v key k page low wanted parts st bytes result same key_is page_is low_is held reads kept =
-    let own = subst (λ (w : CoreView _ _ _). IsHeldBy w.records.log.receipts (page_at w.records.log.bits wanted) st) (sym same) held in
+    let own = subst (λ (w : PartitionView _ _ _). IsHeldBy w.records.log.receipts (page_at w.records.log.bits wanted) st) (sym same) held in
     let floor : low ≡ first_place u.records.log.bits (page_at u.records.log.bits wanted) = low_is ∙ ap (first_place u.records.log.bits) page_is in
-    subst (λ (w : CoreView _ _ _). Came keeps entry cmp join code w k wanted parts st bytes result) same
+    subst (λ (w : PartitionView _ _ _). Came keeps entry cmp join code w k wanted parts st bytes result) same
     (subst (λ q. Came keeps entry cmp join code u q wanted parts st bytes result) key_is
     (record { own = own; reads = rw floor at reads; kept = rw floor at kept }))
 
-module _ {K V I : Type 0} {keeps : Bool} (cmp : K → K → Ordering) (join : V → V → V) (code : K → ℕ) (order : IsKeyOrder cmp) (v : CoreView K V I) (s : IsSound keeps cmp join code v) (slot c : ℕ) (x : Context K V I) (l : Loading V) (a : AwaitsPage v slot c x l) where
+module _ {K V I : Type 0} {keeps : Bool} (cmp : K → K → Ordering) (join : V → V → V) (code : K → ℕ) (order : IsKeyOrder cmp) (v : PartitionView K V I) (s : IsSound keeps cmp join code v) (slot c : ℕ) (x : Context K V I) (l : Loading V) (a : AwaitsPage v slot c x l) where
   stands : StandsFor keeps cmp join code v.records x.op (Load l)
   stands = subst (λ (p : Phase V). StandsFor keeps cmp join code v.records x.op p) a.loading (stands-at cmp join code v s slot c x a.here)
 
@@ -243,7 +243,7 @@ module _ {K V I : Type 0} {keeps : Bool} (cmp : K → K → Ordering) (join : V 
           }
 
 -- the receipt that is kept of a page that was read by another
-pub stranger-kept : {K V I : Type 0} (u v : CoreView K V I) (page wanted : ℕ) (st : Standing) (why : Refused)
+pub stranger-kept : {K V I : Type 0} (u v : PartitionView K V I) (page wanted : ℕ) (st : Standing) (why : Refused)
     → u ≡ v
     → page ≡ page_at u.records.log.bits wanted
     → HasReceipt v.records.log.receipts (page_at v.records.log.bits wanted)
@@ -251,7 +251,7 @@ pub stranger-kept : {K V I : Type 0} (u v : CoreView K V I) (page wanted : ℕ) 
     → (s : Standing) × (receipt_at v.records.log.receipts (page_at v.records.log.bits wanted) ≡ Some s) × (s ≢ st) × (why ≡ Stranger what.Receipt s.number st.number)
 stranger-kept {K} {V} {I} u v page wanted st why same page_is there told =
     by_get (receipt_at v.records.log.receipts (page_at v.records.log.bits wanted)) refl
-    (subst (λ (w : CoreView K V I). IfSome (receipt_at w.records.log.receipts (page_at w.records.log.bits wanted)) (λ s. (s ≢ st) × (why ≡ Stranger what.Receipt s.number st.number))) same
+    (subst (λ (w : PartitionView K V I). IfSome (receipt_at w.records.log.receipts (page_at w.records.log.bits wanted)) (λ s. (s ≢ st) × (why ≡ Stranger what.Receipt s.number st.number))) same
     (subst (λ (n : ℕ). IfSome (receipt_at u.records.log.receipts n) (λ s. (s ≢ st) × (why ≡ Stranger what.Receipt s.number st.number))) page_is told))
   where
     by_get : (o : Option Standing) → receipt_at v.records.log.receipts (page_at v.records.log.bits wanted) ≡ o → IfSome o (λ s. (s ≢ st) × (why ≡ Stranger what.Receipt s.number st.number))
@@ -260,7 +260,7 @@ stranger-kept {K} {V} {I} u v page wanted st why same page_is there told =
     by_get (Some s) h t = (s, h, t.0, t.1)
 
 -- what is told, by the operation
-pub told-done : {K V I O R : Type 0} (stands : R → Standing) (entry : ℕ → List ℕ → ℕ → Entry K V → Type 0) (cmp : K → K → Ordering) (join : V → V → V) (f : Meanings K V I O) (old new : CoreView K V I) (slot c now : ℕ) (x : Context K V I) (l : Loading V) (p : Joined R) (value : Option V) (q : Progress K V I O R)
+pub told-done : {K V I O R : Type 0} (stands : R → Standing) (entry : ℕ → List ℕ → ℕ → Entry K V → Type 0) (cmp : K → K → Ordering) (join : V → V → V) (f : Meanings K V I O) (old new : PartitionView K V I) (slot c now : ℕ) (x : Context K V I) (l : Loading V) (p : Joined R) (value : Option V) (q : Progress K V I O R)
     → MayLoad x.op
     → IsTold stands entry cmp join old slot c x l p value
     → ((k : K) (i : I) → x.op ≡ Read k i → (new ≡ with_context old slot c None now) × (q ≡ Done (shown_of f k i value) l.looked))
@@ -272,7 +272,7 @@ told-done stands entry cmp join f old new slot c now x l p value q may told read
 ]
 
 -- another page is asked for, or the memory to share its receipt is refused
-pub further-done : {K V I O R : Type 0} (stands : R → Standing) (entry : ℕ → List ℕ → ℕ → Entry K V → Type 0) (cmp : K → K → Ordering) (join : V → V → V) (f : Meanings K V I O) (old new : CoreView K V I) (slot c now : ℕ) (x : Context K V I) (l : Loading V) (p : Joined R) (b : ℕ) (parts : Option V)
+pub further-done : {K V I O R : Type 0} (stands : R → Standing) (entry : ℕ → List ℕ → ℕ → Entry K V → Type 0) (cmp : K → K → Ordering) (join : V → V → V) (f : Meanings K V I O) (old new : PartitionView K V I) (slot c now : ℕ) (x : Context K V I) (l : Loading V) (p : Joined R) (b : ℕ) (parts : Option V)
     → ReadsOn entry cmp join old slot c x l (stands p.receipt) p.bytes (Ok (record { parts = parts; position = Below b }))
     → old.records.log.begin ≤ b
     → IsRecordStart old.records.log.bits old.records.record_size b
@@ -286,7 +286,7 @@ further-done stands entry cmp join f old new slot c now x l p b parts reads high
 further-done stands entry cmp join f old new slot c now x l p b parts reads high place (Err why) asked effect only err = Loads.unshared x l p b parts reads refl high place err (ap Err only)
 
 -- ---- what an operation waits for
-module _ {K V I : Type 0} (v : CoreView K V I) (slot c : ℕ) where
+module _ {K V I : Type 0} (v : PartitionView K V I) (slot c : ℕ) where
   pub waits-none : context_at v slot c ≡ None → (page : ℕ) → WaitsFor v slot c page → ⊥
   waits-none none page w = let bad : None ≡ Some w.operation = sym none ∙ w.awaits.here in absurd (cc)
 

@@ -15,16 +15,15 @@ use Rattle.fkv_operations.specs.declared.operations.Op.TheVariants.{Merge, Reloc
 use Rattle.fkv_partition.specs.declared.contexts.Context.{Context}
 use Rattle.fkv_partition.specs.declared.contexts.Progress.{Progress}
 use Rattle.fkv_partition.specs.Asking.{AsksNothing}
-use Rattle.fkv_partition.specs.CoreEffect as key_effect
-use Rattle.fkv_partition.specs.CoreGoing as going
-use Rattle.fkv_partition.specs.CoreInstalling as installing
-use Rattle.fkv_partition.specs.CoreLoading as loading
-use Rattle.fkv_partition.specs.CoreViews.{context_at}
+use Rattle.fkv_partition.specs.KeyEffect as key_effect
+use Rattle.fkv_partition.specs.KeyGoing as going
+use Rattle.fkv_partition.specs.KeyInstalling as installing
+use Rattle.fkv_partition.specs.KeyLoading as loading
+use Rattle.fkv_partition.specs.Views.{context_at, PartitionView, relocation_at}
 use Rattle.fkv_partition.specs.declared.relocations.Relocation.{Relocation}
 use Rattle.fkv_partition.specs.Effect.{Asked, asked, asked_of}
 use Rattle.fkv_partition.specs.Events.{Goes, Installs, Loads}
 use Rattle.fkv_partition.specs.Sound.{IsCompacting}
-use Rattle.fkv_partition.specs.Views.{PartitionView, relocation_at}
 use Rattle.fkv_partition.proofs.EffectLemmas.{relocation-asked}
 
 merge-is : {K V I : Type 0} (o : KeyedOp K V I) (k : K) (i : I) → op_of o ≡ Merge k i → is_merge o ≡ true
@@ -48,32 +47,32 @@ module _ {K V I : Type 0} {keeps : Bool} (cmp : K → K → Ordering) (join : V 
       absurd (cc)
 
   -- but an operation on its key
-  merge-here : relocation_at old slot c ≡ None → (y : Context K V I) × (context_at old.core slot c ≡ Some y) × (is_merge y.op ≡ true)
-  merge-here none = by_context (context_at old.core slot c) refl
+  merge-here : relocation_at old slot c ≡ None → (y : Context K V I) × (context_at old slot c ≡ Some y) × (is_merge y.op ≡ true)
+  merge-here none = by_context (context_at old slot c) refl
     where
-      was : (o : Option (Context K V I)) → context_at old.core slot c ≡ o → asked_of (option_map key_effect.asked_by o) None ≡ Some x
-      was o h = ap (λ (p : Option (Context K V I)). asked_of (option_map key_effect.asked_by p) None) (sym h) ∙ ap (asked_of (key_effect.asked old.core slot c)) (sym none) ∙ here
+      was : (o : Option (Context K V I)) → context_at old slot c ≡ o → asked_of (option_map key_effect.asked_by o) None ≡ Some x
+      was o h = ap (λ (p : Option (Context K V I)). asked_of (option_map key_effect.asked_by p) None) (sym h) ∙ ap (asked_of (key_effect.asked old slot c)) (sym none) ∙ here
 
-      by_context : (o : Option (Context K V I)) → context_at old.core slot c ≡ o → (y : Context K V I) × (context_at old.core slot c ≡ Some y) × (is_merge y.op ≡ true)
+      by_context : (o : Option (Context K V I)) → context_at old slot c ≡ o → (y : Context K V I) × (context_at old slot c ≡ Some y) × (is_merge y.op ≡ true)
       by_context None h = absurd (let no : None ≡ Some x = was None h in cc)
       by_context (Some y) h =
           let same = some-is (key_effect.asked_by y) x (was (Some y) h) in
           (y, h, merge-is y.op k i (ap (λ (z : Asked K V I). z.op) same ∙ is))
 
   pub merge-goes : {O R : Type 0} (f : Meanings K V I O) (new : PartitionView K V I) (now : ℕ) (stands : R → Standing) (progress : Progress K V I O R)
-      → ((y : Context K V I) → context_at old.core slot c ≡ Some y → is_merge y.op ≡ true → going.Goes stands cmp join f code old.core new.core slot c now (Ok progress) → AsksNothing progress)
+      → ((y : Context K V I) → context_at old slot c ≡ Some y → is_merge y.op ≡ true → going.Goes stands cmp join f code old new slot c now (Ok progress) → AsksNothing progress)
       → Goes stands cmp join f code old new slot c now (Ok progress) → AsksNothing progress
   merge-goes f new now stands progress law (Goes.relocation y h goes) = absurd (no-relocation y h)
   merge-goes f new now stands progress law (Goes.on_key none goes rest) = let m = merge-here none in law m.0 m.1 m.2 goes
 
   pub merge-installs : {O R : Type 0} (f : Meanings K V I O) (new : PartitionView K V I) (ask : Ask K V I) (now : ℕ) (result : Result (Progress K V I O R) Refused)
-      → ((y : Context K V I) → context_at old.core slot c ≡ Some y → is_merge y.op ≡ true → installing.Installs cmp f code old.core new.core slot c ask now result → result ≡ Err NotReady)
+      → ((y : Context K V I) → context_at old slot c ≡ Some y → is_merge y.op ≡ true → installing.Installs cmp f code old new slot c ask now result → result ≡ Err NotReady)
       → Installs cmp f code old new slot c ask now result → result ≡ Err NotReady
   merge-installs f new ask now result law (Installs.relocation y h same is_ready) = is_ready
   merge-installs f new ask now result law (Installs.on_key none installs rest) = let m = merge-here none in law m.0 m.1 m.2 installs
 
   pub merge-loads : {O R : Type 0} (f : Meanings K V I O) (stands : R → Standing) (spells : ℕ → List ℕ → ℕ → Entry K V → Type 0) (new : PartitionView K V I) (came : Result (Joined R) Refused) (now : ℕ) (result : Result (Progress K V I O R) Refused)
-      → ((y : Context K V I) → context_at old.core slot c ≡ Some y → is_merge y.op ≡ true → loading.Loads stands spells cmp join f old.core new.core slot c came now result → result ≡ Err NotReady)
+      → ((y : Context K V I) → context_at old slot c ≡ Some y → is_merge y.op ≡ true → loading.Loads stands spells cmp join f old new slot c came now result → result ≡ Err NotReady)
       → Loads stands spells cmp join f code old new slot c came now result → result ≡ Err NotReady
   merge-loads f stands spells new came now result law (Loads.relocation y h loads) = absurd (no-relocation y h)
   merge-loads f stands spells new came now result law (Loads.on_key none loads rest) = let m = merge-here none in law m.0 m.1 m.2 loads

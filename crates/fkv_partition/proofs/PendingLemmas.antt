@@ -19,14 +19,14 @@ use Rattle.fkv_partition.specs.declared.contexts.Phase.{Phase}
 use Rattle.fkv_partition.specs.declared.contexts.Phase.TheVariants.{Fresh, Prepared, Load}
 use Rattle.fkv_partition.specs.declared.contexts.Progress.{Progress}
 use Rattle.fkv_partition.specs.declared.contexts.Progress.TheVariants.{Done, Next, NeedsBuild, NeedsLoad}
-use Rattle.fkv_partition.specs.CoreContexts.{at_phase}
-use Rattle.fkv_partition.specs.CoreViews.{CoreView, context_at, with_context}
-use Rattle.fkv_partition.specs.CoreEffect.{asked_by, LeavesOthers, IsLoaded}
+use Rattle.fkv_partition.specs.Contexts.{at_phase}
+use Rattle.fkv_partition.specs.Views.{PartitionView, context_at, with_context}
+use Rattle.fkv_partition.specs.KeyEffect.{asked_by, LeavesOthers, IsLoaded}
 use Rattle.fkv_partition.specs.Pending.{pending_of, pending, OthersPend}
-use Rattle.fkv_partition.specs.CoreLoading.{AwaitsPage, MayLoad}
+use Rattle.fkv_partition.specs.KeyLoading.{AwaitsPage, MayLoad}
 use Rattle.fkv_partition.proofs.AskedLemmas.{asked-same, asked-other, context-same, context-apart}
 
-module _ {K V I : Type 0} (cmp : K → K → Ordering) (v : CoreView K V I) (slot c now : ℕ) (x : Context K V I) (h : context_at v slot c ≡ Some x) where
+module _ {K V I : Type 0} (cmp : K → K → Ordering) (v : PartitionView K V I) (slot c now : ℕ) (x : Context K V I) (h : context_at v slot c ≡ Some x) where
   -- one context is set
   pub others-pend : (y : Option (Context K V I)) → OthersPend cmp v (with_context v slot c y now) slot c
   others-pend y s d o = ap (pending_of cmp v.records) (context-apart v slot c now x h y s d o)
@@ -61,7 +61,7 @@ module _ {K V I : Type 0} (cmp : K → K → Ordering) (v : CoreView K V I) (slo
         gone false e = rw e refl
 
     module _ (l : Loading V) (a : AwaitsPage v slot c x l) where
-      pub load-told : (value : Option V) → value_of (newest cmp v.records.text (key_of x.op) (address_of l.kept.word)) ≡ value → MayLoad x.op → (new : CoreView K V I) (q : Progress K V I O R)
+      pub load-told : (value : Option V) → value_of (newest cmp v.records.text (key_of x.op) (address_of l.kept.word)) ≡ value → MayLoad x.op → (new : PartitionView K V I) (q : Progress K V I O R)
           → ((k : K) (i : I) → x.op ≡ Read k i → (new ≡ with_context v slot c None now) × (q ≡ Done (shown_of f k i value) l.looked))
           → ((k : K) (i : I) → x.op ≡ Rmw k i → (new ≡ with_context v slot c (Some (at_phase x (Prepared l.kept value))) now) × (q ≡ NeedsBuild (record { number = x.number; key = k; source = value; input = i })))
           → IsLoaded cmp f v new slot c now q
@@ -97,7 +97,7 @@ module _ {K V I : Type 0} (cmp : K → K → Ordering) (v : CoreView K V I) (slo
             frame = frame-of y;
           }
 
-      pub further-load : (b : ℕ) (parts : Option V) (new : CoreView K V I) (result : Result (Progress K V I O R) Refused)
+      pub further-load : (b : ℕ) (parts : Option V) (new : PartitionView K V I) (result : Result (Progress K V I O R) Refused)
           → (stands : R → Standing)
           → IfOk result (λ progress. (r : R) × (progress ≡ NeedsLoad r b) × IsHeldBy v.records.log.receipts (page_at v.records.log.bits b) (stands r))
           → OnOk result (new ≡ with_context v slot c (Some (at_phase x (Load (record l { wanted = b; parts = parts })))) now)

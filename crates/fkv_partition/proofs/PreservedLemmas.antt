@@ -50,25 +50,25 @@ use Rattle.fkv_partition.specs.declared.changes.Write.{Write}
 use Rattle.fkv_partition.specs.declared.contexts.Context.{Context}
 use Rattle.fkv_partition.specs.declared.contexts.Phase.TheVariants.{Confirm}
 use Rattle.fkv_partition.specs.declared.contexts.Progress.{Progress}
-use Rattle.fkv_partition.specs.CoreBeginning.{Enters, Issues}
-use Rattle.fkv_partition.specs.CoreClaiming.{IsClaimed}
-use Rattle.fkv_partition.specs.CoreEnding.{Leaves, GivesUp}
-use Rattle.fkv_partition.specs.CoreFlushing.{Flushes}
-use Rattle.fkv_partition.specs.CoreGoing.{Decides, Goes}
+use Rattle.fkv_partition.specs.KeyBeginning.{Enters, Issues}
+use Rattle.fkv_partition.specs.Claiming.{IsClaimed}
+use Rattle.fkv_partition.specs.KeyEnding.{Leaves, GivesUp}
+use Rattle.fkv_partition.specs.Flushing.{Flushes}
+use Rattle.fkv_partition.specs.KeyGoing.{Decides, Goes}
 use Rattle.fkv_partition.specs.Grown.{Bears, IsGrown, IsPreserved}
-use Rattle.fkv_partition.specs.CoreInstalling.{Installs}
-use Rattle.fkv_partition.specs.CoreLoading.{Loads}
-use Rattle.fkv_partition.specs.CoreLooking.{Refreshes, Shifts, Evicts}
-use Rattle.fkv_partition.specs.CoreSound.{IsSound}
-use Rattle.fkv_partition.specs.CoreTruncating.{Truncates}
-use Rattle.fkv_partition.specs.CoreViews.{CoreView, context_at, with_payload, live_of, MovesTo}
+use Rattle.fkv_partition.specs.KeyInstalling.{Installs}
+use Rattle.fkv_partition.specs.KeyLoading.{Loads}
+use Rattle.fkv_partition.specs.Moves.{Refreshes, Shifts, Evicts}
+use Rattle.fkv_partition.specs.KeySound.{IsSound}
+use Rattle.fkv_partition.specs.Cutting.{Truncates}
+use Rattle.fkv_partition.specs.Views.{PartitionView, context_at, with_payload, live_of, MovesTo}
 use Rattle.fkv_partition.specs.Writes.{IsWrite}
 use Rattle.fkv_partition.proofs.AskedLemmas.{position-found}
 use Rattle.fkv_partition.proofs.EventLemmas.{kept-entry}
 use Rattle.fkv_partition.proofs.GrownLemmas.{Grows, next-grown, kept-grown, loading-grown, tail-most, tail-up, grown-same, grown-regions, grown-moved, grown-flushed, grown-appended, was-replaced, grown-replaced}
 use Rattle.fkv_partition.proofs.ChangeLemmas.{IsMade, grown-words, is-tentative, tentative-place, tentative-made, confirmed-made, released-made}
 use Rattle.fkv_partition.proofs.StoodLemmas.{raw-replaceable}
-use Rattle.fkv_partition.proofs.CoreTruncateLemmas.{none-some, kept-cut, loading-cut, next-cut}
+use Rattle.fkv_partition.proofs.CuttingLemmas.{none-some, kept-cut, loading-cut, next-cut}
 
 raised-self : (o : Offsets) → IsRaised o o
 raised-self o = record { closed = omega arith; head = omega arith; safe = omega arith; read_only = omega arith }
@@ -102,7 +102,7 @@ module _ {K V : Type 0} {keeps : Bool} (cmp : K → K → Ordering) (join : V �
     were = λ x m low. (x, (filter-in (λ (d : Entry K V). nat_le (text_begin keeps v.log.begin regions.offsets.closed) d.address) v.log.text m.place x m.here).0, refl, refl, refl);
   }
 
-  know-flushed : (st : Standing) → IsGrown keeps cmp v (with_receipt v st)
+  pub know-flushed : (st : Standing) → IsGrown keeps cmp v (with_receipt v st)
   know-flushed st = record {
     shape = record { partition_bits = refl; bucket_bits = refl; page_bits = refl; record_size = refl; frames = refl };
     begin = omega arith;
@@ -162,7 +162,7 @@ module _ {K V : Type 0} {keeps : Bool} (cmp : K → K → Ordering) (join : V �
   }
 
   -- a record that may be changed where it stands lies above all that is cleared
-  live-high : (stood : IsStood cmp join v) (a : ℕ) → IsReplaceable cmp v a → (limit : ℕ) → IsCleared cmp v.log.text limit → limit ≤ a
+  pub live-high : (stood : IsStood cmp join v) (a : ℕ) → IsReplaceable cmp v a → (limit : ℕ) → IsCleared cmp v.log.text limit → limit ≤ a
   live-high stood a m limit c = elim (cases_lt a limit) [
     | inr high ↦ high
     | inl under ↦ absurd (
@@ -193,9 +193,9 @@ changes-of : (q : Place) (w : Word) (old new : List (List Word)) → Writes q w 
 changes-of q w old new h = record { others = h.elsewhere; places = λ p place. (h.places p).1 place }
 
 -- ---- partitions
-module _ {K V I : Type 0} {keeps : Bool} (cmp : K → K → Ordering) (join : V → V → V) (code : K → ℕ) (v : CoreView K V I) (s : IsSound keeps cmp join code v) (new : CoreView K V I) where
+module _ {K V I : Type 0} {keeps : Bool} (cmp : K → K → Ordering) (join : V → V → V) (code : K → ℕ) (v : PartitionView K V I) (s : IsSound keeps cmp join code v) (new : PartitionView K V I) where
   -- the records have become these
-  borne-by : (r : RecordsView K V) → new.records ≡ r → Grows keeps cmp join code v.records r → IsGrown keeps cmp v.records r → IsPreserved keeps cmp join code v new
+  pub borne-by : (r : RecordsView K V) → new.records ≡ r → Grows keeps cmp join code v.records r → IsGrown keeps cmp v.records r → IsPreserved keeps cmp join code v new
   borne-by r is g h = record {
     bears = subst (λ u. Bears keeps cmp join code v.records u) (sym is) (record {
       kept = λ k e source was. kept-grown keeps cmp join code v.records r k e source s.traced g was;
@@ -221,17 +221,17 @@ module _ {K V I : Type 0} {keeps : Bool} (cmp : K → K → Ordering) (join : V 
     place : IsPlace v.records.words q
     place = tentative-place v.records.words q tentative
 
-    borne-confirmed : new.records ≡ confirmed v.records q → IsPreserved keeps cmp join code v new
+    pub borne-confirmed : new.records ≡ confirmed v.records q → IsPreserved keeps cmp join code v new
     borne-confirmed is =
         let w = final_word (tag_of (word_at v.records.words q)) 1 in
         borne-words (with_word v.records.words q w) q (changes-of q w v.records.words _ (writes v.records.words q w place)) (confirmed-made v.records (confirmed v.records q) q tentative refl) is
 
-    borne-released : new.records ≡ released v.records q → IsPreserved keeps cmp join code v new
+    pub borne-released : new.records ≡ released v.records q → IsPreserved keeps cmp join code v new
     borne-released is =
         borne-words (with_word v.records.words q empty) q (changes-of q empty v.records.words _ (writes v.records.words q empty place)) (released-made v.records (released v.records q) q tentative refl) is
 
   -- one is made
-  borne-claimed : (slot c now : ℕ) (x : Context K V I) → IsClaimed code v new slot c x now → IsPreserved keeps cmp join code v new
+  pub borne-claimed : (slot c now : ℕ) (x : Context K V I) → IsClaimed code v new slot c x now → IsPreserved keeps cmp join code v new
   borne-claimed slot c now x i =
       let probes = i.claims.probes in
       let probed = i.claims.probed in
@@ -241,23 +241,23 @@ module _ {K V I : Type 0} {keeps : Bool} (cmp : K → K → Ordering) (join : V 
       borne-words (with_word probed i.place w) i.place
       (record { others = λ p other. written.elsewhere p other ∙ probes.words p; places = λ p h. (written.places p).1 (probes.places p h) })
       (tentative-made (word_at (with_word probed i.place w) i.place) (ap is_tentative there ∙ tentative-is (class_in code v.records (key_of x.op)).tag))
-      (ap (λ (u : CoreView K V I). u.records) i.is ∙ i.claims.is)
+      (ap (λ (u : PartitionView K V I). u.records) i.is ∙ i.claims.is)
 
   pub borne-record : (e : IndexEntry) (k : K) (payload : Payload V) (has : Option V) → IsPlace v.records.words e.place
       → ((limit : ℕ) → limit ≤ v.records.log.tail → IsCleared cmp v.records.log.text limit → IsCleared cmp (with_written v.records e k payload has).log.text limit)
       → new.records ≡ with_written v.records e k payload has → IsPreserved keeps cmp join code v new
   borne-record e k payload has at clears is = borne-by (with_written v.records e k payload has) is (grown-appended cmp join code v.records s.traced e k payload has at) (know-record cmp join code v.records s.traced e k payload has at clears)
 
-  borne-value : (a : ℕ) (value : Option V) → v.records.log.regions.offsets.safe_read_only ≤ a
+  pub borne-value : (a : ℕ) (value : Option V) → v.records.log.regions.offsets.safe_read_only ≤ a
       → ((q : K) (b : ℕ) → IsStill v.records.log.regions.offsets.safe_read_only (newest cmp v.records.text q b) → newest cmp (with_value v.records a value).text q b ≡ newest cmp v.records.text q b)
       → ((limit : ℕ) → limit ≤ v.records.log.tail → IsCleared cmp v.records.log.text limit → IsCleared cmp (with_value v.records a value).log.text limit)
       → new.records ≡ with_value v.records a value → IsPreserved keeps cmp join code v new
   borne-value a value high kept clears is = borne-by (with_value v.records a value) is (grown-replaced cmp join code v.records s.traced a value high kept) (know-value cmp join code v.records s.traced a value high clears)
 
-  borne-regions : (regions : RegionsView) → IsRaised v.records.log.regions.offsets regions.offsets → new.records ≡ with_regions v.records regions → IsPreserved keeps cmp join code v new
+  pub borne-regions : (regions : RegionsView) → IsRaised v.records.log.regions.offsets regions.offsets → new.records ≡ with_regions v.records regions → IsPreserved keeps cmp join code v new
   borne-regions regions up is = borne-by (with_regions v.records regions) is (grown-regions cmp join code v.records s.traced regions up) (know-still cmp join code v.records s.traced regions v.records.words up (λ p h. h))
 
-  borne-moved : (regions : RegionsView) (now : ℕ) → IsRaised v.records.log.regions.offsets regions.offsets → MovesTo keeps regions v new now → IsPreserved keeps cmp join code v new
+  pub borne-moved : (regions : RegionsView) (now : ℕ) → IsRaised v.records.log.regions.offsets regions.offsets → MovesTo keeps regions v new now → IsPreserved keeps cmp join code v new
   borne-moved regions now up m =
       let r = new.records in
       let is = m.moves.is in
@@ -278,100 +278,100 @@ module _ {K V I : Type 0} {keeps : Bool} (cmp : K → K → Ordering) (join : V 
         → ((a : ℕ) (value : Option V) (limit : ℕ) → limit ≤ a → IsCleared cmp v.records.log.text limit → IsCleared cmp (with_value v.records a value).log.text limit)
         → Goes stands cmp join f code v new slot c now result
         → IsPreserved keeps cmp join code v new
-    goes-bear stands f result order grows met kept clears (Goes.unknown h is r) = borne-same (ap (λ (u : CoreView K V I). u.records) is)
-    goes-bear stands f result order grows met kept clears (Goes.asks x e ask h q is r) = borne-same (ap (λ (u : CoreView K V I). u.records) is)
-    goes-bear stands f result order grows met kept clears (Goes.not_ready x l h phase is r) = borne-same (ap (λ (u : CoreView K V I). u.records) is)
-    goes-bear stands f result order grows met kept clears (Goes.confirms x p h phase alone is r) = borne-confirmed slot c now x h p phase (ap (λ (u : CoreView K V I). u.records) is)
-    goes-bear stands f result order grows met kept clears (Goes.backs_off x p h phase alone is r) = borne-released slot c now x h p phase (ap (λ (u : CoreView K V I). u.records) is)
-    goes-bear stands f result order grows met kept clears (Goes.done x t d is r) = borne-same (ap (λ (u : CoreView K V I). u.records) is)
+    goes-bear stands f result order grows met kept clears (Goes.unknown h is r) = borne-same (ap (λ (u : PartitionView K V I). u.records) is)
+    goes-bear stands f result order grows met kept clears (Goes.asks x e ask h q is r) = borne-same (ap (λ (u : PartitionView K V I). u.records) is)
+    goes-bear stands f result order grows met kept clears (Goes.not_ready x l h phase is r) = borne-same (ap (λ (u : PartitionView K V I). u.records) is)
+    goes-bear stands f result order grows met kept clears (Goes.confirms x p h phase alone is r) = borne-confirmed slot c now x h p phase (ap (λ (u : PartitionView K V I). u.records) is)
+    goes-bear stands f result order grows met kept clears (Goes.backs_off x p h phase alone is r) = borne-released slot c now x h p phase (ap (λ (u : PartitionView K V I). u.records) is)
+    goes-bear stands f result order grows met kept clears (Goes.done x t d is r) = borne-same (ap (λ (u : PartitionView K V I). u.records) is)
     goes-bear stands f result order grows met kept clears (Goes.claims x d is r) = borne-claimed slot c now x is
-    goes-bear stands f result order grows met kept clears (Goes.unclaimed x d full is r) = borne-same (ap (λ (u : CoreView K V I). u.records) is)
+    goes-bear stands f result order grows met kept clears (Goes.unclaimed x d full is r) = borne-same (ap (λ (u : PartitionView K V I). u.records) is)
     goes-bear stands f result order grows met kept clears (Goes.appends x value t e d entry room free is r) =
         let class = class_in code v.records (key_of x.op) in
-        borne-record e (key_of x.op) value (standing join (live_of cmp v (key_of x.op)) value) (found-place v.records.words class.bucket class.tag e entry) (grows e (key_of x.op) value (standing join (live_of cmp v (key_of x.op)) value)) (ap (λ (u : CoreView K V I). u.records) is)
-    goes-bear stands f result order grows met kept clears (Goes.worn x value t d room is r) = borne-same (ap (λ (u : CoreView K V I). u.records) is)
-    goes-bear stands f result order grows met kept clears (Goes.full x value t d room is r) = borne-same (ap (λ (u : CoreView K V I). u.records) is)
+        borne-record e (key_of x.op) value (standing join (live_of cmp v (key_of x.op)) value) (found-place v.records.words class.bucket class.tag e entry) (grows e (key_of x.op) value (standing join (live_of cmp v (key_of x.op)) value)) (ap (λ (u : PartitionView K V I). u.records) is)
+    goes-bear stands f result order grows met kept clears (Goes.worn x value t d room is r) = borne-same (ap (λ (u : PartitionView K V I). u.records) is)
+    goes-bear stands f result order grows met kept clears (Goes.full x value t d room is r) = borne-same (ap (λ (u : PartitionView K V I). u.records) is)
     goes-bear stands f result order grows met kept clears (Goes.replaces x value t e d last is r) =
         let m = met x value t e d last in
         borne-value e.address value m.1 (kept e.address value m.0 m.1)
         (λ limit low h. clears e.address value limit (live-high cmp join code v.records s.traced s.stood e.address m.0 limit h) h)
-        (ap (λ (u : CoreView K V I). u.records) is)
-    goes-bear stands f result order grows met kept clears (Goes.waits x d is r) = borne-same (ap (λ (u : CoreView K V I). u.records) is)
-    goes-bear stands f result order grows met kept clears (Goes.prepares x source i e d entry is r) = borne-same (ap (λ (u : CoreView K V I). u.records) is)
-    goes-bear stands f result order grows met kept clears (Goes.asks_page x b parts e p d entry held is r) = borne-same (ap (λ (u : CoreView K V I). u.records) is)
-    goes-bear stands f result order grows met kept clears (Goes.unshared x b parts d is r) = borne-same (ap (λ (u : CoreView K V I). u.records) is)
+        (ap (λ (u : PartitionView K V I). u.records) is)
+    goes-bear stands f result order grows met kept clears (Goes.waits x d is r) = borne-same (ap (λ (u : PartitionView K V I). u.records) is)
+    goes-bear stands f result order grows met kept clears (Goes.prepares x source i e d entry is r) = borne-same (ap (λ (u : PartitionView K V I). u.records) is)
+    goes-bear stands f result order grows met kept clears (Goes.asks_page x b parts e p d entry held is r) = borne-same (ap (λ (u : PartitionView K V I). u.records) is)
+    goes-bear stands f result order grows met kept clears (Goes.unshared x b parts d is r) = borne-same (ap (λ (u : PartitionView K V I). u.records) is)
 
     pub installs-bear : {O R : Type 0} (f : Meanings K V I O) (ask : Ask K V I) (result : Result (Progress K V I O R) Refused)
         → ((e : IndexEntry) (key : K) (payload : Payload V) (has : Option V) (limit : ℕ) → limit ≤ v.records.log.tail → IsCleared cmp v.records.log.text limit → IsCleared cmp (with_written v.records e key payload has).log.text limit)
         → Installs cmp f code v new slot c ask now result
         → IsPreserved keeps cmp join code v new
-    installs-bear f ask result grows (Installs.unknown h is r) = borne-same (ap (λ (u : CoreView K V I). u.records) is)
-    installs-bear f ask result grows (Installs.not_ready x h q is r) = borne-same (ap (λ (u : CoreView K V I). u.records) is)
-    installs-bear f ask result grows (Installs.stranger x e mine h q n is r) = borne-same (ap (λ (u : CoreView K V I). u.records) is)
-    installs-bear f ask result grows (Installs.moved x e h q n is r) = borne-same (ap (λ (u : CoreView K V I). u.records) is)
-    installs-bear f ask result grows (Installs.declined x e h q n u is r) = borne-same (ap (λ (u : CoreView K V I). u.records) is)
-    installs-bear f ask result grows (Installs.worn x e value h q n u room is r) = borne-same (ap (λ (u : CoreView K V I). u.records) is)
-    installs-bear f ask result grows (Installs.full x e value h q n u room is r) = borne-same (ap (λ (u : CoreView K V I). u.records) is)
+    installs-bear f ask result grows (Installs.unknown h is r) = borne-same (ap (λ (u : PartitionView K V I). u.records) is)
+    installs-bear f ask result grows (Installs.not_ready x h q is r) = borne-same (ap (λ (u : PartitionView K V I). u.records) is)
+    installs-bear f ask result grows (Installs.stranger x e mine h q n is r) = borne-same (ap (λ (u : PartitionView K V I). u.records) is)
+    installs-bear f ask result grows (Installs.moved x e h q n is r) = borne-same (ap (λ (u : PartitionView K V I). u.records) is)
+    installs-bear f ask result grows (Installs.declined x e h q n u is r) = borne-same (ap (λ (u : PartitionView K V I). u.records) is)
+    installs-bear f ask result grows (Installs.worn x e value h q n u room is r) = borne-same (ap (λ (u : PartitionView K V I). u.records) is)
+    installs-bear f ask result grows (Installs.full x e value h q n u room is r) = borne-same (ap (λ (u : PartitionView K V I). u.records) is)
     installs-bear f ask result grows (Installs.done x e value h q n u room free is r) =
-        borne-record e ask.key (Whole (Some value)) (Some value) (kept-entry cmp join code v s slot c x e ask h q n).place (grows e ask.key (Whole (Some value)) (Some value)) (ap (λ (u : CoreView K V I). u.records) is)
+        borne-record e ask.key (Whole (Some value)) (Some value) (kept-entry cmp join code v s slot c x e ask h q n).place (grows e ask.key (Whole (Some value)) (Some value)) (ap (λ (u : PartitionView K V I). u.records) is)
 
     pub loads-bear : {O R : Type 0} (stands : R → Standing) (entry : ℕ → List ℕ → ℕ → Entry K V → Type 0) (f : Meanings K V I O) (came : Result (Joined R) Refused) (result : Result (Progress K V I O R) Refused)
         → Loads stands entry cmp join f v new slot c came now result
         → IsPreserved keeps cmp join code v new
-    loads-bear stands entry f came result (Loads.unknown h is r) = borne-same (ap (λ (u : CoreView K V I). u.records) is)
-    loads-bear stands entry f came result (Loads.not_ready x h n is r) = borne-same (ap (λ (u : CoreView K V I). u.records) is)
-    loads-bear stands entry f came result (Loads.moved x l h phase n is r) = borne-same (ap (λ (u : CoreView K V I). u.records) is)
-    loads-bear stands entry f came result (Loads.failed x l why a q n is r) = borne-same (ap (λ (u : CoreView K V I). u.records) is)
-    loads-bear stands entry f came result (Loads.unread x l a q is r) = borne-same (ap (λ (u : CoreView K V I). u.records) is)
-    loads-bear stands entry f came result (Loads.stranger x l p st a q h n is r) = borne-same (ap (λ (u : CoreView K V I). u.records) is)
-    loads-bear stands entry f came result (Loads.damaged x l p why a q is r) = borne-same (ap (λ (u : CoreView K V I). u.records) is)
-    loads-bear stands entry f came result (Loads.bad_link x l p b parts a q high n is r) = borne-same (ap (λ (u : CoreView K V I). u.records) is)
-    loads-bear stands entry f came result (Loads.done x l p k i value a q op is r) = borne-same (ap (λ (u : CoreView K V I). u.records) is)
-    loads-bear stands entry f came result (Loads.prepares x l p k i value a q op is r) = borne-same (ap (λ (u : CoreView K V I). u.records) is)
-    loads-bear stands entry f came result (Loads.goes_on x l p b parts r a q high at held is t) = borne-same (ap (λ (u : CoreView K V I). u.records) is)
-    loads-bear stands entry f came result (Loads.unshared x l p b parts a q high at is r) = borne-same (ap (λ (u : CoreView K V I). u.records) is)
+    loads-bear stands entry f came result (Loads.unknown h is r) = borne-same (ap (λ (u : PartitionView K V I). u.records) is)
+    loads-bear stands entry f came result (Loads.not_ready x h n is r) = borne-same (ap (λ (u : PartitionView K V I). u.records) is)
+    loads-bear stands entry f came result (Loads.moved x l h phase n is r) = borne-same (ap (λ (u : PartitionView K V I). u.records) is)
+    loads-bear stands entry f came result (Loads.failed x l why a q n is r) = borne-same (ap (λ (u : PartitionView K V I). u.records) is)
+    loads-bear stands entry f came result (Loads.unread x l a q is r) = borne-same (ap (λ (u : PartitionView K V I). u.records) is)
+    loads-bear stands entry f came result (Loads.stranger x l p st a q h n is r) = borne-same (ap (λ (u : PartitionView K V I). u.records) is)
+    loads-bear stands entry f came result (Loads.damaged x l p why a q is r) = borne-same (ap (λ (u : PartitionView K V I). u.records) is)
+    loads-bear stands entry f came result (Loads.bad_link x l p b parts a q high n is r) = borne-same (ap (λ (u : PartitionView K V I). u.records) is)
+    loads-bear stands entry f came result (Loads.done x l p k i value a q op is r) = borne-same (ap (λ (u : PartitionView K V I). u.records) is)
+    loads-bear stands entry f came result (Loads.prepares x l p k i value a q op is r) = borne-same (ap (λ (u : PartitionView K V I). u.records) is)
+    loads-bear stands entry f came result (Loads.goes_on x l p b parts r a q high at held is t) = borne-same (ap (λ (u : PartitionView K V I). u.records) is)
+    loads-bear stands entry f came result (Loads.unshared x l p b parts a q high at is r) = borne-same (ap (λ (u : PartitionView K V I). u.records) is)
 
     pub gives-up-bear : (result : Result (Unit {0}) Refused) → GivesUp v new slot c now result → IsPreserved keeps cmp join code v new
-    gives-up-bear result (GivesUp.unknown h is r) = borne-same (ap (λ (u : CoreView K V I). u.records) is)
-    gives-up-bear result (GivesUp.gives_up x h q is r) = borne-same (ap (λ (u : CoreView K V I). u.records) is)
-    gives-up-bear result (GivesUp.cancels x p h q is r) = borne-released slot c now x h p q (ap (λ (u : CoreView K V I). u.records) is)
+    gives-up-bear result (GivesUp.unknown h is r) = borne-same (ap (λ (u : PartitionView K V I). u.records) is)
+    gives-up-bear result (GivesUp.gives_up x h q is r) = borne-same (ap (λ (u : PartitionView K V I). u.records) is)
+    gives-up-bear result (GivesUp.cancels x p h q is r) = borne-released slot c now x h p q (ap (λ (u : PartitionView K V I). u.records) is)
 
   pub issues-bear : (slot c : ℕ) (op : KeyedOp K V I) (now : ℕ) → Issues code v new slot c op now → IsPreserved keeps cmp join code v new
-  issues-bear slot c op now h = borne-same (ap (λ (u : CoreView K V I). u.records) h.is)
+  issues-bear slot c op now h = borne-same (ap (λ (u : PartitionView K V I). u.records) h.is)
 
   pub enters-bear : (now : ℕ) (result : Result ℕ Refused) → Enters v new now result → IsPreserved keeps cmp join code v new
-  enters-bear now result (Enters.full h is r) = borne-same (ap (λ (u : CoreView K V I). u.records) is)
-  enters-bear now result (Enters.enters slot h is r) = borne-regions (entered v.records.log.regions slot) (raised-self v.records.log.regions.offsets) (ap (λ (u : CoreView K V I). u.records) is)
+  enters-bear now result (Enters.full h is r) = borne-same (ap (λ (u : PartitionView K V I). u.records) is)
+  enters-bear now result (Enters.enters slot h is r) = borne-regions (entered v.records.log.regions slot) (raised-self v.records.log.regions.offsets) (ap (λ (u : PartitionView K V I). u.records) is)
 
   ordered : IsOrdered v.records.log.regions.epochs
   ordered = s.traced.regions.timely.ordered
 
   pub leaves-bear : (slot now : ℕ) (result : Result (Unit {0}) Refused) → Leaves keeps v new slot now result → IsPreserved keeps cmp join code v new
-  leaves-bear slot now result (Leaves.unknown h is r) = borne-same (ap (λ (u : CoreView K V I). u.records) is)
-  leaves-bear slot now result (Leaves.busy c h q is r) = borne-same (ap (λ (u : CoreView K V I). u.records) is)
+  leaves-bear slot now result (Leaves.unknown h is r) = borne-same (ap (λ (u : PartitionView K V I). u.records) is)
+  leaves-bear slot now result (Leaves.busy c h q is r) = borne-same (ap (λ (u : PartitionView K V I). u.records) is)
   leaves-bear slot now result (Leaves.leaves h q is r) = borne-moved _ now (moved-left v.records.log.regions slot ordered s.traced.regions.agree).raised is
 
   pub refreshes-bear : (slot now : ℕ) (result : Result (Unit {0}) Refused) → Refreshes keeps v new slot now result → IsPreserved keeps cmp join code v new
-  refreshes-bear slot now result (Refreshes.unknown h is r) = borne-same (ap (λ (u : CoreView K V I). u.records) is)
+  refreshes-bear slot now result (Refreshes.unknown h is r) = borne-same (ap (λ (u : PartitionView K V I). u.records) is)
   refreshes-bear slot now result (Refreshes.refreshes h is r) =
       borne-moved _ now (moved-refreshed v.records.log.regions slot (entered-fits v.records.log.regions.epochs slot ordered h) ordered s.traced.regions.agree).raised is
 
   pub shifts-bear : (page now : ℕ) (result : Result (Unit {0}) Refused) → Shifts keeps v new page now result → IsPreserved keeps cmp join code v new
-  shifts-bear page now result (Shifts.not_due h is r) = borne-same (ap (λ (u : CoreView K V I). u.records) is)
-  shifts-bear page now result (Shifts.full h w is r) = borne-same (ap (λ (u : CoreView K V I). u.records) is)
+  shifts-bear page now result (Shifts.not_due h is r) = borne-same (ap (λ (u : PartitionView K V I). u.records) is)
+  shifts-bear page now result (Shifts.full h w is r) = borne-same (ap (λ (u : PartitionView K V I). u.records) is)
   shifts-bear page now result (Shifts.shifts h w is r) =
       borne-moved _ now (moved-read_only v.records.log.regions page v.records.log.tail (tail-most v.records s.traced) ordered w h s.traced.regions.agree).raised is
 
   pub evicts-bear : (page now : ℕ) (result : Result (Unit {0}) Refused) → Evicts keeps v new page now result → IsPreserved keeps cmp join code v new
-  evicts-bear page now result (Evicts.not_due h is r) = borne-same (ap (λ (u : CoreView K V I). u.records) is)
-  evicts-bear page now result (Evicts.full h w is r) = borne-same (ap (λ (u : CoreView K V I). u.records) is)
+  evicts-bear page now result (Evicts.not_due h is r) = borne-same (ap (λ (u : PartitionView K V I). u.records) is)
+  evicts-bear page now result (Evicts.full h w is r) = borne-same (ap (λ (u : PartitionView K V I). u.records) is)
   evicts-bear page now result (Evicts.evicts h w is r) = borne-moved _ now (moved-head v.records.log.regions page ordered w h s.traced.regions.agree).raised is
 
   pub flushes-bear : (st : Standing) (bytes : List ℕ) (now : ℕ) (result : Result (Unit {0}) Refused) → Flushes v new st bytes now result → IsPreserved keeps cmp join code v new
-  flushes-bear st bytes now result (Flushes.refused why h is r) = borne-same (ap (λ (u : CoreView K V I). u.records) is)
-  flushes-bear st bytes now result (Flushes.unkept h is r) = borne-same (ap (λ (u : CoreView K V I). u.records) is)
+  flushes-bear st bytes now result (Flushes.refused why h is r) = borne-same (ap (λ (u : PartitionView K V I). u.records) is)
+  flushes-bear st bytes now result (Flushes.unkept h is r) = borne-same (ap (λ (u : PartitionView K V I). u.records) is)
   flushes-bear st bytes now result (Flushes.keeps h is r) =
-      borne-by (with_receipt v.records st) (ap (λ (u : CoreView K V I). u.records) is) (grown-flushed cmp join code v.records s.traced st) (know-flushed cmp join code v.records s.traced st)
+      borne-by (with_receipt v.records st) (ap (λ (u : PartitionView K V I). u.records) is) (grown-flushed cmp join code v.records s.traced st) (know-flushed cmp join code v.records s.traced st)
 
   pub truncates-bear : (page now : ℕ) (result : Result (Unit {0}) Refused)
       → IsKeyOrder cmp
@@ -381,11 +381,11 @@ module _ {K V I : Type 0} {keeps : Bool} (cmp : K → K → Ordering) (join : V 
       → IsStood cmp join new.records
       → Truncates keeps v new page now result
       → IsPreserved keeps cmp join code v new
-  truncates-bear page now result order clear drops cut cut_stood (Truncates.not_due n is r) = borne-same (ap (λ (u : CoreView K V I). u.records) is)
+  truncates-bear page now result order clear drops cut cut_stood (Truncates.not_due n is r) = borne-same (ap (λ (u : PartitionView K V I). u.records) is)
   truncates-bear page now result order clear drops cut cut_stood (Truncates.truncates due is r) =
       let low = start_at v.records.log.bits page in
       let text = new.records.text in
-      let here : new.records ≡ truncated keeps v.records low text = ap (λ (u : CoreView K V I). u.records) is in
+      let here : new.records ≡ truncated keeps v.records low text = ap (λ (u : PartitionView K V I). u.records) is in
       let cut_at : IsTraced keeps code (truncated keeps v.records low text) = subst (IsTraced keeps code) here cut in
       let stood_at : IsStood cmp join (truncated keeps v.records low text) = subst (IsStood cmp join) here cut_stood in
       record {
@@ -398,7 +398,7 @@ module _ {K V I : Type 0} {keeps : Bool} (cmp : K → K → Ordering) (join : V 
       }
 
 -- a record is appended behind the entry of its class
-pub appends-bear : {K V I : Type 0} {keeps : Bool} (cmp : K → K → Ordering) (join : V → V → V) (code : K → ℕ) (v : CoreView K V I) (s : IsSound keeps cmp join code v) (slot c now : ℕ) (write : Write K V) (has : Option V)
+pub appends-bear : {K V I : Type 0} {keeps : Bool} (cmp : K → K → Ordering) (join : V → V → V) (code : K → ℕ) (v : PartitionView K V I) (s : IsSound keeps cmp join code v) (slot c now : ℕ) (write : Write K V) (has : Option V)
     → ((e : IndexEntry) (key : K) (payload : Payload V) (has : Option V) (limit : ℕ) → limit ≤ v.records.log.tail → IsCleared cmp v.records.log.text limit → IsCleared cmp (with_written v.records e key payload has).log.text limit)
     → IsWrite code v write
     → IsPreserved keeps cmp join code v (with_payload v slot c write.entry write.key write.payload has now)

@@ -9,9 +9,9 @@ use Rattle.fkv_operations.specs.declared.entries.IndexEntry.{IndexEntry}
 use Rattle.fkv_partition.specs.declared.contexts.Progress.{Progress}
 use Rattle.fkv_partition.specs.declared.contexts.Progress.TheVariants.{Done, Next, NeedsLoad, Waits}
 use Rattle.fkv_partition.specs.declared.contexts.Wait.TheVariants.{Full}
-use Rattle.fkv_partition.specs.CoreContexts.{context_in, relocating}
+use Rattle.fkv_partition.specs.Contexts.{context_in, relocating}
 use Rattle.fkv_partition.specs.Pending.{AllPend}
-use Rattle.fkv_partition.specs.CoreViews.{slots_of}
+use Rattle.fkv_partition.specs.Views.{slots_of, PartitionView, relocation_at, with_relocation, at_stage}
 use Rattle.fkv_partition.specs.declared.contexts.OpenWork.{OpenWork}
 use Rattle.fkv_partition.specs.declared.contexts.OpenWork.TheVariants.{Relocating}
 use Rattle.fkv_partition.specs.declared.relocations.Relocation.{Relocation}
@@ -20,7 +20,6 @@ use Rattle.fkv_partition.specs.Effect.{IsGiveUp}
 use Rattle.fkv_partition.specs.Checking.{Ends, Asks, ChecksLiveness, renewed}
 use Rattle.fkv_partition.specs.Going.{GoesOn}
 use Rattle.fkv_partition.specs.Reading.{LoadsOn}
-use Rattle.fkv_partition.specs.Views.{PartitionView, relocation_at, with_relocation, at_stage}
 use Rattle.fkv_partition.proofs.EffectLemmas.{Proceeds, set-here, dropped-event}
 use Rattle.fkv_partition.proofs.MoveLemmas.{event-set, open-here, keyless-here, dropped-pends}
 
@@ -36,11 +35,11 @@ proceeds-as x is now p q e h = subst (Proceeds x is now) (sym (ok-is p q e)) h
 
 module _ {K V I : Type 0} (old new : PartitionView K V I) (slot c now : ℕ) (x : Relocation K V) (h : relocation_at old slot c ≡ Some x) where
   -- its context holds this then, and the sessions are as they were
-  set-then : (y : Option (Relocation K V)) (v : PartitionView K V I) → new ≡ v → slots_of v.core ≡ slots_of old.core → v.core.contexts ≡ slice_set old.core.contexts (slot * 8 + c) (option_map Relocating y) → relocation_at new slot c ≡ y
+  set-then : (y : Option (Relocation K V)) (v : PartitionView K V I) → new ≡ v → slots_of v ≡ slots_of old → v.contexts ≡ slice_set old.contexts (slot * 8 + c) (option_map Relocating y) → relocation_at new slot c ≡ y
   set-then y v is slots set =
       ap (λ (w : PartitionView K V I). relocation_at w slot c) is
-      ∙ ap (λ s. relocating (context_in s v.core.contexts slot c)) slots
-      ∙ ap (λ (cs : List (Option (OpenWork K V I))). relocating (context_in (slots_of old.core) cs slot c)) set
+      ∙ ap (λ s. relocating (context_in s v.contexts slot c)) slots
+      ∙ ap (λ (cs : List (Option (OpenWork K V I))). relocating (context_in (slots_of old) cs slot c)) set
       ∙ set-here old slot c now x h y
 
   module _ {O R : Type 0} (progress : Progress K V I O R) where
@@ -150,7 +149,7 @@ module _ {K V I : Type 0} (old new : PartitionView K V I) (slot c now : ℕ) (en
   ]
 
   -- and look-ups are to find what they were to find
-  pub ended-pends : (cmp : K → K → Ordering) → AllPend cmp old.core new.core
+  pub ended-pends : (cmp : K → K → Ordering) → AllPend cmp old new
   ended-pends cmp = elim ends [
     | inl same ↦ rw same (λ s d. refl)
     | inr e ↦ rw e.2 (dropped-pends cmp old slot c now (keyless-here old slot c e.0 e.1))

@@ -20,7 +20,7 @@ use Rattle.fkv_hybrid.proofs.PageLemmas.{begin_place, begins_low}
 use Rattle.fkv_lookups.specs.RecordsViews.{RecordsView}
 use Rattle.fkv_lookups.specs.Traced.{IsTraced}
 use Rattle.fkv_lookups.proofs.TracedLemmas.{raw, traced-raw}
-use Rattle.fkv_partition.specs.CoreSound.{IsSound}
+use Rattle.fkv_partition.specs.KeySound.{IsSound}
 use Rattle.fkv_partition.specs.declared.contexts.Loading.{Loading}
 use Rattle.fkv_partition.proofs.DecidedLemmas.{page_flushed}
 use Rattle.fkv_partition.specs.declared.relocations.Relocation.{Relocation}
@@ -115,31 +115,31 @@ module _ {K V I : Type 0} (v : PartitionView K V I) (slot c : ℕ) (x : Relocati
   pub awaits-some : (begin wanted : ℕ) → Some (pair begin wanted) ≡ option_map pair_of (awaited_by x.target x.stage) → awaited x ≡ Some (record { begin = begin; wanted = wanted })
   awaits-some begin wanted h = told-some (awaited_by x.target x.stage) begin wanted h
 
-  pub awaits-page : (begin wanted : ℕ) → relocation_at v slot c ≡ Some x → Some (pair begin wanted) ≡ option_map pair_of (awaited_by x.target x.stage) → begin ≡ v.core.records.log.begin → AwaitsPage v slot c x wanted
+  pub awaits-page : (begin wanted : ℕ) → relocation_at v slot c ≡ Some x → Some (pair begin wanted) ≡ option_map pair_of (awaited_by x.target x.stage) → begin ≡ v.records.log.begin → AwaitsPage v slot c x wanted
   awaits-page begin wanted here h same = record {
     here = here;
     awaits = subst (λ (n : ℕ). awaited x ≡ Some (record { begin = n; wanted = wanted })) same (awaits-some begin wanted h);
   }
 
-module _ {K V I : Type 0} {keeps : Bool} (cmp : K → K → Ordering) (join : V → V → V) (code : K → ℕ) (v : PartitionView K V I) (sound : IsSound keeps cmp join code v.core) (s : IsCompacting keeps cmp join code v) (slot c : ℕ) (x : Relocation K V) (begin : ℕ) (at : x.stage ≡ Reading begin) where
-  reading : relocation_at v slot c ≡ Some x → IsReading v.core.records x.target begin
-  reading here = subst (λ (q : Stage K V). StageStands keeps cmp join code v.core x.target q) at (stands-here v slot c x here s).stage
+module _ {K V I : Type 0} {keeps : Bool} (cmp : K → K → Ordering) (join : V → V → V) (code : K → ℕ) (v : PartitionView K V I) (sound : IsSound keeps cmp join code v) (s : IsCompacting keeps cmp join code v) (slot c : ℕ) (x : Relocation K V) (begin : ℕ) (at : x.stage ≡ Reading begin) where
+  reading : relocation_at v slot c ≡ Some x → IsReading v.records x.target begin
+  reading here = subst (λ (q : Stage K V). StageStands keeps cmp join code v x.target q) at (stands-here v slot c x here s).stage
 
-  module _ (same : begin ≡ v.core.records.log.begin) (here : relocation_at v slot c ≡ Some x) where
-    pub place-begun : v.core.records.log.begin ≤ x.target
+  module _ (same : begin ≡ v.records.log.begin) (here : relocation_at v slot c ≡ Some x) where
+    pub place-begun : v.records.log.begin ≤ x.target
     place-begun = let h = (reading here).begun in omega arith
 
     -- its page is flushed
-    pub place-flushed : HasReceipt v.core.records.log.receipts (page_at v.core.records.log.bits x.target)
-    place-flushed = page_flushed v.core.records x.target sound.traced place-begun (reading here).on_disk
+    pub place-flushed : HasReceipt v.records.log.receipts (page_at v.records.log.bits x.target)
+    place-flushed = page_flushed v.records x.target sound.traced place-begun (reading here).on_disk
 
     -- what is read there is the record that stands there
     pub place-read : {E : Type 0} (e : Entry K V) (result : Result (Entry K V) E) → result ≡ Ok e
-        → (IsTrue keeps → IfSome (entry_at v.core.records.log.text x.target) (λ y. result ≡ Ok y))
-        → IsTrue keeps → entry_at v.core.records.log.text x.target ≡ Some e
+        → (IsTrue keeps → IfSome (entry_at v.records.log.text x.target) (λ y. result ≡ Ok y))
+        → IsTrue keeps → entry_at v.records.log.text x.target ≡ Some e
     place-read {E} e result is kept yes_keeps =
         let st = stands-here v slot c x here s in
-        by_entry (entry_at v.core.records.log.text x.target) (frozen-held (raw v.core.records) (traced-raw sound.traced sound.stood) x.target st.place place-begun st.frozen yes_keeps) (kept yes_keeps)
+        by_entry (entry_at v.records.log.text x.target) (frozen-held (raw v.records) (traced-raw sound.traced sound.stood) x.target st.place place-begun st.frozen yes_keeps) (kept yes_keeps)
       where
         by_entry : (o : Option (Entry K V)) → IsSome o → IfSome o (λ y. result ≡ Ok y) → o ≡ Some e
         by_entry None some h = absurd (cc)
@@ -147,11 +147,11 @@ module _ {K V I : Type 0} {keeps : Bool} (cmp : K → K → Ordering) (join : V 
 
     -- and so one is read there
     pub place-undamaged : {E P : Type 0} {why : E} (result : Result (Entry K V) E) → result ≡ Err why
-        → (IsTrue keeps → IfSome (entry_at v.core.records.log.text x.target) (λ y. result ≡ Ok y))
+        → (IsTrue keeps → IfSome (entry_at v.records.log.text x.target) (λ y. result ≡ Ok y))
         → IsTrue keeps → P
     place-undamaged {E} {P} {why} result is kept yes_keeps =
         let st = stands-here v slot c x here s in
-        by_entry (entry_at v.core.records.log.text x.target) (frozen-held (raw v.core.records) (traced-raw sound.traced sound.stood) x.target st.place place-begun st.frozen yes_keeps) (kept yes_keeps)
+        by_entry (entry_at v.records.log.text x.target) (frozen-held (raw v.records) (traced-raw sound.traced sound.stood) x.target st.place place-begun st.frozen yes_keeps) (kept yes_keeps)
       where
         by_entry : (o : Option (Entry K V)) → IsSome o → IfSome o (λ y. result ≡ Ok y) → P
         by_entry None some h = absurd (cc)
@@ -181,13 +181,13 @@ stranger-held {K} {V} u v page wanted st why same page_is there told =
 
 -- the page that is at hand is that of the relocation's target, or the one on the way to it
 module _ {K V I : Type 0} {v : PartitionView K V I} {slot c : ℕ} {x : Relocation K V} {wanted : ℕ} {st : Standing} (h : HasPage v slot c x wanted st) where
-  same-wanted : {begin at : ℕ} → awaited x ≡ Some (record { begin = begin; wanted = at }) → (begin ≡ v.core.records.log.begin) × (at ≡ wanted)
-  same-wanted {begin} {at} is = same-awaited (record { begin = begin; wanted = at }) (record { begin = v.core.records.log.begin; wanted = wanted }) (sym is ∙ h.awaits.awaits)
+  same-wanted : {begin at : ℕ} → awaited x ≡ Some (record { begin = begin; wanted = at }) → (begin ≡ v.records.log.begin) × (at ≡ wanted)
+  same-wanted {begin} {at} is = same-awaited (record { begin = begin; wanted = at }) (record { begin = v.records.log.begin; wanted = wanted }) (sym is ∙ h.awaits.awaits)
 
   pub has-place : {begin : ℕ} → x.stage ≡ Reading begin → HasPage v slot c x x.target st
   has-place {begin} at = subst (λ (n : ℕ). HasPage v slot c x n st) (sym (same-wanted {begin = begin} {at = x.target} (ap (awaited_by x.target) at)).1) h
 
-  pub reads-begin : {begin : ℕ} → x.stage ≡ Reading begin → x.stage ≡ Reading v.core.records.log.begin
+  pub reads-begin : {begin : ℕ} → x.stage ≡ Reading begin → x.stage ≡ Reading v.records.log.begin
   reads-begin {begin} at = subst (λ (n : ℕ). x.stage ≡ Reading n) (same-wanted {begin = begin} {at = x.target} (ap (awaited_by x.target) at)).0 at
 
   pub has-way : {e : Entry K V} {l : Loading V} → x.stage ≡ Tracing e l → HasPage v slot c x l.wanted st
@@ -198,7 +198,7 @@ module _ {K V I : Type 0} (v : PartitionView K V I) (slot c : ℕ) where
   pub waits-none-on : relocation_at v slot c ≡ None → (page : ℕ) → WaitsOn v slot c page → ⊥
   waits-none-on none page w = let bad : None ≡ Some w.relocation = sym none ∙ w.awaits.here in absurd (cc)
 
-  waits-open-on : (x : Relocation K V) → relocation_at v slot c ≡ Some x → (page : ℕ) (w : WaitsOn v slot c page) → awaited x ≡ Some (record { begin = v.core.records.log.begin; wanted = w.wanted })
+  waits-open-on : (x : Relocation K V) → relocation_at v slot c ≡ Some x → (page : ℕ) (w : WaitsOn v slot c page) → awaited x ≡ Some (record { begin = v.records.log.begin; wanted = w.wanted })
   waits-open-on x here page w =
       let same : Some x ≡ Some w.relocation = sym here ∙ w.awaits.here in
       let is : x ≡ w.relocation = cc in
@@ -207,5 +207,5 @@ module _ {K V I : Type 0} (v : PartitionView K V I) (slot c : ℕ) where
   pub waits-not-on : (x : Relocation K V) → relocation_at v slot c ≡ Some x → awaited x ≡ None → (page : ℕ) → WaitsOn v slot c page → ⊥
   waits-not-on x here none page w = let bad = sym none ∙ waits-open-on x here page w in absurd (cc)
 
-  pub waits-moved-on : (x : Relocation K V) (begin wanted : ℕ) → relocation_at v slot c ≡ Some x → awaited x ≡ Some (record { begin = begin; wanted = wanted }) → begin ≢ v.core.records.log.begin → (page : ℕ) → WaitsOn v slot c page → ⊥
-  waits-moved-on x begin wanted here is other page w = other (same-awaited (record { begin = begin; wanted = wanted }) (record { begin = v.core.records.log.begin; wanted = w.wanted }) (sym is ∙ waits-open-on x here page w)).0
+  pub waits-moved-on : (x : Relocation K V) (begin wanted : ℕ) → relocation_at v slot c ≡ Some x → awaited x ≡ Some (record { begin = begin; wanted = wanted }) → begin ≢ v.records.log.begin → (page : ℕ) → WaitsOn v slot c page → ⊥
+  waits-moved-on x begin wanted here is other page w = other (same-awaited (record { begin = begin; wanted = wanted }) (record { begin = v.records.log.begin; wanted = w.wanted }) (sym is ∙ waits-open-on x here page w)).0

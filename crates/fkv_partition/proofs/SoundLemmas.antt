@@ -32,10 +32,10 @@ use Rattle.fkv_partition.specs.declared.contexts.OpenWork.{OpenWork}
 use Rattle.fkv_partition.specs.declared.contexts.OpenWork.TheVariants.{OnKey, Relocating}
 use Rattle.fkv_partition.specs.declared.relocations.Relocation.{Relocation}
 use Rattle.fkv_partition.specs.declared.contexts.Phase.TheVariants.{Confirm}
-use Rattle.fkv_partition.specs.CoreContexts.{joined, is_session, at_phase, claim_by, claim_of, claim_at}
-use Rattle.fkv_partition.specs.CoreClaiming.{AreOwned}
-use Rattle.fkv_partition.specs.CoreViews.{CoreView, slots_of, empty_core, partition_of, with_open, relocated, with_context, with_payload, with_replaced, in_regions}
-use Rattle.fkv_partition.specs.CoreSound.{StandsFor, IsSound}
+use Rattle.fkv_partition.specs.Contexts.{joined, is_session, at_phase, claim_by, claim_of, claim_at}
+use Rattle.fkv_partition.specs.Claiming.{AreOwned}
+use Rattle.fkv_partition.specs.Views.{PartitionView, slots_of, empty_partition, partition_of, with_open, with_relocation, with_context, with_payload, with_replaced, in_regions}
+use Rattle.fkv_partition.specs.KeySound.{StandsFor, IsSound}
 use Rattle.fkv_functions.proofs.ListLemmas.{get-set_cases, get-set_same, get-set_other, get-append_cases}
 use Rattle.fkv_texts.proofs.ChangeLemmas.{was_at, set_at-key}
 use Rattle.fkv_partition.proofs.GrownLemmas.{Grows, stands-grown, grown-regions, grown-moved, grown-flushed, grown-appended, grown-replaced}
@@ -46,9 +46,9 @@ set-at xs i y x was is = let set : slice_get (slice_set xs i y) i ≡ Some y = g
 
 -- ---- whole partitions
 module _ {K V I : Type 0} {keeps : Bool} {cmp : K → K → Ordering} {join : V → V → V} {code : K → ℕ} where
-  pub sound-empty : (merges : Bool) (config : Config) (size number : ℕ) → number < 2 ^ config.partition_bits → IsTraced {V = V} keeps code (empty_core {I = I} merges config size number).records
-      → IsStood cmp join (empty_core {I = I} merges config size number).records
-      → ((q : Place) → is_tentative (word_at (empty_core {K = K} {V = V} {I = I} merges config size number).records.words q) ≡ false) → IsSound {V = V} {I = I} keeps cmp join code (empty_core merges config size number)
+  pub sound-empty : (merges : Bool) (config : Config) (size number : ℕ) → number < 2 ^ config.partition_bits → IsTraced {V = V} keeps code (empty_partition {I = I} merges config size number).records
+      → IsStood cmp join (empty_partition {I = I} merges config size number).records
+      → ((q : Place) → is_tentative (word_at (empty_partition {K = K} {V = V} {I = I} merges config size number).records.words q) ≡ false) → IsSound {V = V} {I = I} keeps cmp join code (empty_partition merges config size number)
   sound-empty merges config size number h traced stood quiet = record {
     own = h;
     counted = refl;
@@ -77,9 +77,12 @@ module _ {K V I : Type 0} {keeps : Bool} {cmp : K → K → Ordering} {join : V 
       none_claims (suc n) zero q e = cc
       none_claims (suc n) (suc p) q e = none_claims n p q e
 
-  module _ {v : CoreView K V I} (s : IsSound keeps cmp join code v) where
+  module _ {v : PartitionView K V I} (s : IsSound keeps cmp join code v) where
     pub sound-moment : (now : ℕ) → IsSound keeps cmp join code (record v { moment = now })
     sound-moment now = record { own = s.own; counted = s.counted; places = s.places; traced = s.traced; stood = s.stood; stands = s.stands; owned = s.owned; routed = s.routed; asked = s.asked; merging = s.merging; housed = s.housed }
+
+    pub sound-cleared : (cleared : ℕ) → IsSound keeps cmp join code (record v { cleared = cleared })
+    sound-cleared cleared = record { own = s.own; counted = s.counted; places = s.places; traced = s.traced; stood = s.stood; stands = s.stands; owned = s.owned; routed = s.routed; asked = s.asked; merging = s.merging; housed = s.housed }
 
     -- the regions move, sessions come and go, and none with an open operation goes
     pub sound-regions : (regions : RegionsView) (now : ℕ)
@@ -223,8 +226,8 @@ module _ {K V I : Type 0} {keeps : Bool} {cmp : K → K → Ordering} {join : V 
         sound-changed v.records slot c now (Some (OnKey x)) (same-records slot c (Some (OnKey x)) old quiet) (λ z e. houses) (λ y e. (let same : x ≡ y = cc in subst (Fits v.records) same fits))
 
     -- a relocation is set
-    pub sound-relocated : (slot c now : ℕ) (x : Relocation K V) → claim_at v.contexts (slot * 8 + c) ≡ None → Houses slot c → IsSound keeps cmp join code (relocated v slot c (Some x) now)
-    sound-relocated slot c now x old houses =
+    pub sound-with_relocation : (slot c now : ℕ) (x : Relocation K V) → claim_at v.contexts (slot * 8 + c) ≡ None → Houses slot c → IsSound keeps cmp join code (with_relocation v slot c (Some x) now)
+    sound-with_relocation slot c now x old houses =
         sound-changed v.records slot c now (Some (Relocating x)) (same-records slot c (Some (Relocating x)) old refl) (λ z e. houses) (λ y e. absurd (cc))
 
     pub sound-freed : (slot c now : ℕ) → claim_at v.contexts (slot * 8 + c) ≡ None → IsSound keeps cmp join code (with_open v slot c None now)

@@ -28,17 +28,17 @@ use Rattle.fkv_partition.specs.declared.contexts.Loading.{Loading}
 use Rattle.fkv_partition.specs.declared.contexts.Phase.{Phase}
 use Rattle.fkv_partition.specs.declared.contexts.Phase.TheVariants.{Fresh, Confirm, Prepared, Load}
 use Rattle.fkv_partition.specs.declared.contexts.Progress.{Progress}
-use Rattle.fkv_partition.specs.CoreContexts.{context_in, on_key, at_phase}
-use Rattle.fkv_partition.specs.CoreViews.{CoreView, slots_of, context_at, with_context, in_regions, live_of, MovesTo, held_at}
-use Rattle.fkv_partition.specs.CoreSound.{IsLoading, StandsFor, IsSound}
-use Rattle.fkv_partition.specs.CoreBeginning.{Enters, Issues}
-use Rattle.fkv_partition.specs.CoreEnding.{Leaves, GivesUp}
-use Rattle.fkv_partition.specs.CoreGoing.{Decides, Goes}
-use Rattle.fkv_partition.specs.CoreInstalling.{Installs}
-use Rattle.fkv_partition.specs.CoreLooking.{Refreshes, Shifts, Evicts}
-use Rattle.fkv_partition.specs.CoreFlushing.{Flushes}
-use Rattle.fkv_partition.specs.CoreLoading.{Loads}
-use Rattle.fkv_partition.specs.CoreEffect.{asked_by, IsGiveUp}
+use Rattle.fkv_partition.specs.Contexts.{context_in, on_key, at_phase}
+use Rattle.fkv_partition.specs.Views.{PartitionView, slots_of, context_at, with_context, in_regions, live_of, MovesTo, held_at}
+use Rattle.fkv_partition.specs.KeySound.{IsLoading, StandsFor, IsSound}
+use Rattle.fkv_partition.specs.KeyBeginning.{Enters, Issues}
+use Rattle.fkv_partition.specs.KeyEnding.{Leaves, GivesUp}
+use Rattle.fkv_partition.specs.KeyGoing.{Decides, Goes}
+use Rattle.fkv_partition.specs.KeyInstalling.{Installs}
+use Rattle.fkv_partition.specs.Moves.{Refreshes, Shifts, Evicts}
+use Rattle.fkv_partition.specs.Flushing.{Flushes}
+use Rattle.fkv_partition.specs.KeyLoading.{Loads}
+use Rattle.fkv_partition.specs.KeyEffect.{asked_by, IsGiveUp}
 use Rattle.fkv_partition.specs.Pending.{Pending, pending_by, pending_of, pending, OthersPend, AllPend}
 use Rattle.fkv_partition.proofs.AskedLemmas.{asked-same, context-apart, context-inside, shown-stays}
 use Rattle.fkv_partition.proofs.EventLemmas.{stands-at, refreshed-same, left-same, entered-same}
@@ -85,7 +85,7 @@ pending-kept cmp join code r s (Rmw k i) (Load l) yes_keeps begin kept h = loads
 pending-kept cmp join code r s (Delete k) (Load l) yes_keeps begin kept h = absurd h
 pending-kept cmp join code r s (Merge k i) (Load l) yes_keeps begin kept h = absurd h
 
-module _ {K V I : Type 0} {keeps : Bool} (cmp : K → K → Ordering) (join : V → V → V) (code : K → ℕ) (v : CoreView K V I) (s : IsSound keeps cmp join code v) (yes_keeps : IsTrue keeps) where
+module _ {K V I : Type 0} {keeps : Bool} (cmp : K → K → Ordering) (join : V → V → V) (code : K → ℕ) (v : PartitionView K V I) (s : IsSound keeps cmp join code v) (yes_keeps : IsTrue keeps) where
   all-kept : (r : RecordsView K V) → r.log.begin ≡ v.records.log.begin → KeepsStill cmp v.records r → (t d : ℕ) → pending_of cmp r (context_at v t d) ≡ pending_of cmp v.records (context_at v t d)
   all-kept r begin kept t d = by_context (context_at v t d) refl
     where
@@ -102,10 +102,10 @@ module _ {K V I : Type 0} {keeps : Bool} (cmp : K → K → Ordering) (join : V 
       ∙ all-kept r begin kept t d
 
   -- the new partition is another one, of which this is known
-  as-others : (new u : CoreView K V I) (slot c : ℕ) → new ≡ u → OthersPend cmp v u slot c → OthersPend cmp v new slot c
-  as-others new u slot c is h t d o = ap (λ (w : CoreView K V I). pending cmp w t d) is ∙ h t d o
+  as-others : (new u : PartitionView K V I) (slot c : ℕ) → new ≡ u → OthersPend cmp v u slot c → OthersPend cmp v new slot c
+  as-others new u slot c is h t d o = ap (λ (w : PartitionView K V I). pending cmp w t d) is ∙ h t d o
 
-  module _ (new : CoreView K V I) (slot c now : ℕ) where
+  module _ (new : PartitionView K V I) (slot c now : ℕ) where
     -- a context is set
     set : (x : Context K V I) → context_at v slot c ≡ Some x → (y : Option (Context K V I)) → new ≡ with_context v slot c y now → OthersPend cmp v new slot c
     set x h y is = as-others new _ slot c is (changed-others slot c now x h y v.records refl refl (λ k a low still. refl))
@@ -150,72 +150,72 @@ module _ {K V I : Type 0} {keeps : Bool} (cmp : K → K → Ordering) (join : V 
     installs-others f ask result grows (Installs.done x e value h q n u room free is r) = as-others new _ slot c is (changed-others slot c now x h None (with_written v.records e ask.key (Whole (Some value)) (Some value)) refl refl (λ k a low still. grows e ask.key (Whole (Some value)) (Some value) k a low))
 
 -- ---- pages move
-pub moved-all : {K V I : Type 0} (keeps : Bool) (cmp : K → K → Ordering) (regions : RegionsView) (old new : CoreView K V I) (now : ℕ) → IsTrue keeps → MovesTo keeps regions old new now
+pub moved-all : {K V I : Type 0} (keeps : Bool) (cmp : K → K → Ordering) (regions : RegionsView) (old new : PartitionView K V I) (now : ℕ) → IsTrue keeps → MovesTo keeps regions old new now
     → ((t d : ℕ) → context_in regions.epochs.slots old.contexts t d ≡ held_at old t d)
     → AllPend cmp old new
 moved-all keeps cmp regions old new now yes_keeps m same t d =
-    ap (λ (w : CoreView _ _ _). pending cmp w t d) m.is
+    ap (λ (w : PartitionView _ _ _). pending cmp w t d) m.is
     ∙ ap (λ (r : RecordsView _ _). pending_of cmp new.records (on_key (context_in r.log.regions.epochs.slots old.contexts t d))) m.moves.is
     ∙ ap (λ o. pending_of cmp new.records (on_key o)) (same t d)
     ∙ pending-same cmp old.records new.records (context_at old t d) (ap (λ (r : RecordsView _ _). r.log.begin) m.moves.is) (m.moves.kept yes_keeps)
 
-as-all : {K V I : Type 0} (cmp : K → K → Ordering) (old new : CoreView K V I) → new ≡ old → AllPend cmp old new
-as-all cmp old new is t d = ap (λ (w : CoreView _ _ _). pending cmp w t d) is
+as-all : {K V I : Type 0} (cmp : K → K → Ordering) (old new : PartitionView K V I) → new ≡ old → AllPend cmp old new
+as-all cmp old new is t d = ap (λ (w : PartitionView _ _ _). pending cmp w t d) is
 
-pub refreshes-all : {K V I : Type 0} (keeps : Bool) (cmp : K → K → Ordering) (old new : CoreView K V I) (slot now : ℕ) (result : Result (Unit {0}) Refused) → IsTrue keeps → Refreshes keeps old new slot now result → AllPend cmp old new
+pub refreshes-all : {K V I : Type 0} (keeps : Bool) (cmp : K → K → Ordering) (old new : PartitionView K V I) (slot now : ℕ) (result : Result (Unit {0}) Refused) → IsTrue keeps → Refreshes keeps old new slot now result → AllPend cmp old new
 refreshes-all keeps cmp old new slot now result yes_keeps (Refreshes.unknown h is r) = as-all cmp old new is
 refreshes-all keeps cmp old new slot now result yes_keeps (Refreshes.refreshes h is r) = moved-all keeps cmp _ old new now yes_keeps is (refreshed-same old slot h)
 
-pub shifts-all : {K V I : Type 0} (keeps : Bool) (cmp : K → K → Ordering) (old new : CoreView K V I) (page now : ℕ) (result : Result (Unit {0}) Refused) → IsTrue keeps → Shifts keeps old new page now result → AllPend cmp old new
+pub shifts-all : {K V I : Type 0} (keeps : Bool) (cmp : K → K → Ordering) (old new : PartitionView K V I) (page now : ℕ) (result : Result (Unit {0}) Refused) → IsTrue keeps → Shifts keeps old new page now result → AllPend cmp old new
 shifts-all keeps cmp old new page now result yes_keeps (Shifts.not_due h is r) = as-all cmp old new is
 shifts-all keeps cmp old new page now result yes_keeps (Shifts.full h w is r) = as-all cmp old new is
 shifts-all keeps cmp old new page now result yes_keeps (Shifts.shifts h w is r) = moved-all keeps cmp _ old new now yes_keeps is (λ t d. refl)
 
-pub evicts-all : {K V I : Type 0} (keeps : Bool) (cmp : K → K → Ordering) (old new : CoreView K V I) (page now : ℕ) (result : Result (Unit {0}) Refused) → IsTrue keeps → Evicts keeps old new page now result → AllPend cmp old new
+pub evicts-all : {K V I : Type 0} (keeps : Bool) (cmp : K → K → Ordering) (old new : PartitionView K V I) (page now : ℕ) (result : Result (Unit {0}) Refused) → IsTrue keeps → Evicts keeps old new page now result → AllPend cmp old new
 evicts-all keeps cmp old new page now result yes_keeps (Evicts.not_due h is r) = as-all cmp old new is
 evicts-all keeps cmp old new page now result yes_keeps (Evicts.full h w is r) = as-all cmp old new is
 evicts-all keeps cmp old new page now result yes_keeps (Evicts.evicts h w is r) = moved-all keeps cmp _ old new now yes_keeps is (λ t d. refl)
 
-pub flushes-all : {K V I : Type 0} (cmp : K → K → Ordering) (old new : CoreView K V I) (st : Standing) (bytes : List ℕ) (now : ℕ) (result : Result (Unit {0}) Refused) → Flushes old new st bytes now result → AllPend cmp old new
+pub flushes-all : {K V I : Type 0} (cmp : K → K → Ordering) (old new : PartitionView K V I) (st : Standing) (bytes : List ℕ) (now : ℕ) (result : Result (Unit {0}) Refused) → Flushes old new st bytes now result → AllPend cmp old new
 flushes-all cmp old new st bytes now result (Flushes.refused why h is r) = as-all cmp old new is
 flushes-all cmp old new st bytes now result (Flushes.unkept h is r) = as-all cmp old new is
-flushes-all cmp old new st bytes now result (Flushes.keeps h is r) = λ t d. ap (λ (w : CoreView _ _ _). pending cmp w t d) is ∙ pending-same cmp old.records (with_receipt old.records st) (context_at old t d) refl refl
+flushes-all cmp old new st bytes now result (Flushes.keeps h is r) = λ t d. ap (λ (w : PartitionView _ _ _). pending cmp w t d) is ∙ pending-same cmp old.records (with_receipt old.records st) (context_at old t d) refl refl
 
 -- ---- sessions come and go, operations are issued and given up
-pub gives-up-others : {K V I : Type 0} (cmp : K → K → Ordering) (old new : CoreView K V I) (slot c now : ℕ) (result : Result (Unit {0}) Refused) → GivesUp old new slot c now result → OthersPend cmp old new slot c
-gives-up-others cmp old new slot c now result (GivesUp.unknown h is r) = λ t d o. ap (λ (w : CoreView _ _ _). pending cmp w t d) is
-gives-up-others cmp old new slot c now result (GivesUp.gives_up x h q is r) = λ t d o. ap (λ (w : CoreView _ _ _). pending cmp w t d) is ∙ others-pend cmp old slot c now x h None t d o
+pub gives-up-others : {K V I : Type 0} (cmp : K → K → Ordering) (old new : PartitionView K V I) (slot c now : ℕ) (result : Result (Unit {0}) Refused) → GivesUp old new slot c now result → OthersPend cmp old new slot c
+gives-up-others cmp old new slot c now result (GivesUp.unknown h is r) = λ t d o. ap (λ (w : PartitionView _ _ _). pending cmp w t d) is
+gives-up-others cmp old new slot c now result (GivesUp.gives_up x h q is r) = λ t d o. ap (λ (w : PartitionView _ _ _). pending cmp w t d) is ∙ others-pend cmp old slot c now x h None t d o
 gives-up-others cmp old new slot c now result (GivesUp.cancels x p h q is r) = λ t d o.
-    ap (λ (w : CoreView _ _ _). pending cmp w t d) is
+    ap (λ (w : PartitionView _ _ _). pending cmp w t d) is
     ∙ pending-same cmp old.records (released old.records p) (context_at (with_context old slot c None now) t d) refl refl
     ∙ others-pend cmp old slot c now x h None t d o
 
-pub leaves-all : {K V I : Type 0} (keeps : Bool) (cmp : K → K → Ordering) (old new : CoreView K V I) (slot now : ℕ) (result : Result (Unit {0}) Refused) → IsTrue keeps → Leaves keeps old new slot now result → AllPend cmp old new
+pub leaves-all : {K V I : Type 0} (keeps : Bool) (cmp : K → K → Ordering) (old new : PartitionView K V I) (slot now : ℕ) (result : Result (Unit {0}) Refused) → IsTrue keeps → Leaves keeps old new slot now result → AllPend cmp old new
 leaves-all keeps cmp old new slot now result yes_keeps (Leaves.unknown h is r) = as-all cmp old new is
 leaves-all keeps cmp old new slot now result yes_keeps (Leaves.busy c h q is r) = as-all cmp old new is
 leaves-all keeps cmp old new slot now result yes_keeps (Leaves.leaves h q is r) = moved-all keeps cmp _ old new now yes_keeps is (left-same old slot q)
 
-pub enters-all : {K V I : Type 0} {keeps : Bool} (cmp : K → K → Ordering) (join : V → V → V) (code : K → ℕ) (old new : CoreView K V I) (now : ℕ) (result : Result ℕ Refused) → IsSound keeps cmp join code old → Enters old new now result → AllPend cmp old new
+pub enters-all : {K V I : Type 0} {keeps : Bool} (cmp : K → K → Ordering) (join : V → V → V) (code : K → ℕ) (old new : PartitionView K V I) (now : ℕ) (result : Result ℕ Refused) → IsSound keeps cmp join code old → Enters old new now result → AllPend cmp old new
 enters-all cmp join code old new now result s (Enters.full h is r) = as-all cmp old new is
 enters-all cmp join code old new now result s (Enters.enters slot h is r) = λ t d.
-    ap (λ (w : CoreView _ _ _). pending cmp w t d) is
+    ap (λ (w : PartitionView _ _ _). pending cmp w t d) is
     ∙ ap (λ o. pending_of cmp (in_regions old (entered old.records.log.regions slot) now).records (on_key o)) (entered-same cmp join code old s slot h t d)
     ∙ pending-same cmp old.records (in_regions old (entered old.records.log.regions slot) now).records (context_at old t d) refl refl
 
 -- a context that was free holds an operation that has not begun
-pub issues-all : {K V I : Type 0} (cmp : K → K → Ordering) (code : K → ℕ) (old new : CoreView K V I) (slot c : ℕ) (op : KeyedOp K V I) (now : ℕ) → Issues code old new slot c op now → AllPend cmp old new
+pub issues-all : {K V I : Type 0} (cmp : K → K → Ordering) (code : K → ℕ) (old new : PartitionView K V I) (slot c : ℕ) (op : KeyedOp K V I) (now : ℕ) → Issues code old new slot c op now → AllPend cmp old new
 issues-all {K} {V} {I} cmp code old new slot c op now h = λ t d.
-    ap (λ (w : CoreView K V I). pending cmp w t d) h.is
+    ap (λ (w : PartitionView K V I). pending cmp w t d) h.is
     ∙ shown-stays (λ (o : Option (OpenWork K V I)). pending_of cmp old.records (on_key o)) refl (slots_of old) old.contexts slot c t d (Some (OnKey (record { number = now; op = op; phase = Fresh })))
     (ap (λ (o : Option (OpenWork K V I)). pending_of cmp old.records (on_key o)) (sym (context-inside (slots_of old) old.contexts slot c h.entered h.low) ∙ h.free)) refl
 
 -- ---- a page comes, or what came in its place
-module _ {K V I O R : Type 0} (stands : R → Standing) (entry : ℕ → List ℕ → ℕ → Entry K V → Type 0) (cmp : K → K → Ordering) (join : V → V → V) (f : Meanings K V I O) (old new : CoreView K V I) (slot c now : ℕ) (came : Result (Joined R) Refused) where
+module _ {K V I O R : Type 0} (stands : R → Standing) (entry : ℕ → List ℕ → ℕ → Entry K V → Type 0) (cmp : K → K → Ordering) (join : V → V → V) (f : Meanings K V I O) (old new : PartitionView K V I) (slot c now : ℕ) (came : Result (Joined R) Refused) where
   stays : new ≡ old → OthersPend cmp old new slot c
-  stays is t d o = ap (λ (w : CoreView K V I). pending cmp w t d) is
+  stays is t d o = ap (λ (w : PartitionView K V I). pending cmp w t d) is
 
   sets : (x : Context K V I) → context_at old slot c ≡ Some x → (y : Option (Context K V I)) → new ≡ with_context old slot c y now → OthersPend cmp old new slot c
-  sets x h y is t d o = ap (λ (w : CoreView K V I). pending cmp w t d) is ∙ others-pend cmp old slot c now x h y t d o
+  sets x h y is t d o = ap (λ (w : PartitionView K V I). pending cmp w t d) is ∙ others-pend cmp old slot c now x h y t d o
 
   pub loads-others : (result : Result (Progress K V I O R) Refused) → Loads stands entry cmp join f old new slot c came now result → OthersPend cmp old new slot c
   loads-others result (Loads.unknown h is r) = stays is

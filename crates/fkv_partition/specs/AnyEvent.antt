@@ -8,10 +8,9 @@ use Rattle.fkv_device.specs.Standing.{Standing, Joined}
 use Rattle.fkv_texts.specs.declared.entries.Entry.{Entry}
 use Rattle.fkv_operations.specs.declared.operations.Op.{Op}
 use Rattle.fkv_partition.specs.declared.contexts.Progress.{Progress}
-use Rattle.fkv_partition.specs.CoreSound.{IsSound}
 use Rattle.fkv_partition.specs.Beginning.{LeavesAll}
 use Rattle.fkv_partition.specs.Events.{Enters, Refreshes, Shifts, Evicts, Flushes, Issues, Goes, Installs, Loads, LoadsBy, GivesUp}
-use Rattle.fkv_partition.specs.Sound.{IsCompacting}
+use Rattle.fkv_partition.specs.Sound.{IsPartition}
 use Rattle.fkv_partition.specs.Truncating.{Truncates}
 use Rattle.fkv_partition.specs.Views.{PartitionView, at_moment}
 
@@ -62,12 +61,6 @@ pub data Event {K V I O R : Type 0} (keeps : Bool) (stands : R → Standing) (sp
   -- a page is taken to be written, which lets a moment pass, or is refused
   takes : (now : ℕ) → new ≡ at_moment old now → Event keeps stands spells cmp join f code old new
   takes_none : new ≡ old → Event keeps stands spells cmp join f code old new
-
--- what holds of every partition
-pub record IsPartition {K V I : Type 0} (keeps : Bool) (cmp : K → K → Ordering) (join : V → V → V) (code : K → ℕ)
-    (v : PartitionView K V I) : Type 0 where
-  pub core : IsSound keeps cmp join code v.core
-  pub compacting : IsCompacting keeps cmp join code v
 
 abbrev pub AreEvents : {K V I O R : Type 0} → Bool → (R → Standing) → (ℕ → List ℕ → ℕ → Entry K V → Type 0)
     → (K → K → Ordering) → (V → V → V) → Meanings K V I O → (K → ℕ) → PartitionView K V I → List (PartitionView K V I) → Type 0

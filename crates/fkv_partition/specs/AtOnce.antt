@@ -7,8 +7,8 @@ use Rattle.fkv_operations.specs.declared.operations.Op.TheVariants.{Rmw}
 use Rattle.fkv_operations.specs.declared.operations.Answer.{Answer}
 use Rattle.fkv_operations.specs.declared.operations.Answer.TheVariants.{Value}
 use Rattle.fkv_partition.specs.declared.contexts.Progress.TheVariants.{Done}
-use Rattle.fkv_partition.specs.CoreAtOnce as on_key
-use Rattle.fkv_partition.specs.CoreBeginning.{IsEntered}
+use Rattle.fkv_partition.specs.KeyAtOnce as on_key
+use Rattle.fkv_partition.specs.KeyBeginning.{IsEntered}
 use Rattle.fkv_partition.specs.Views.{PartitionView}
 use Rattle.fkv_partition.specs.Beginning.{IsFirstFree}
 use Rattle.fkv_partition.specs.Events.{Issues, Goes}
@@ -17,10 +17,10 @@ use Rattle.fkv_partition.specs.Effect.{IsIssue, IsEvent}
 -- an operation of this key would be issued here, and would meet this value where it may be changed in place
 pub record IsAtHand {K V I : Type 0} (cmp : K → K → Ordering) (join : V → V → V) (code : K → ℕ) (v : PartitionView K V I) (slot : ℕ)
     (key : K) (held : V) : Type 0 where
-  pub entered : IsEntered v.core slot
+  pub entered : IsEntered v slot
   pub context : ℕ
   pub free : IsFirstFree v slot (Some context)
-  pub hand : on_key.IsAtHand cmp join code v.core slot key held
+  pub hand : on_key.IsAtHand cmp join code v slot key held
 
 -- the update is issued at one moment, and done with this answer when it goes on at another: what stands between them is
 -- what the issue makes
@@ -37,5 +37,5 @@ pub record IsDoneAtOnce {K V I O R : Type 0} (stands : R → Standing) (cmp : K 
 -- a read of a key in a session is done by what this meets, and this answer shows what the key has
 pub record IsReadAtOnce {K V I O : Type 0} (cmp : K → K → Ordering) (join : V → V → V) (f : Meanings K V I O) (code : K → ℕ)
     (v : PartitionView K V I) (slot : ℕ) (key : K) (input : I) (answer : Answer O) : Type 0 where
-  pub entered : IsEntered v.core slot
-  pub read : on_key.IsReadAtOnce cmp join f code v.core slot key input answer
+  pub entered : IsEntered v slot
+  pub read : on_key.IsReadAtOnce cmp join f code v slot key input answer

@@ -7,17 +7,16 @@ use Rattle.fkv_functions.specs.declared.refusals.What.TheVariants.{Partition}
 use Rattle.fkv_operations.specs.After.{key_of, is_merge}
 use Rattle.fkv_operations.specs.declared.operations.KeyedOp.{KeyedOp}
 use Rattle.fkv_partition.specs.declared.contexts.Phase.TheVariants as phase
-use Rattle.fkv_partition.specs.CoreContexts.{is_session, joined}
-use Rattle.fkv_partition.specs.CoreBeginning.{IsEntered}
-use Rattle.fkv_partition.specs.CoreEnding.{Leaves}
-use Rattle.fkv_partition.specs.CoreViews.{slots_of, partition_of, seen_at, with_context}
+use Rattle.fkv_partition.specs.Contexts.{is_session, joined}
+use Rattle.fkv_partition.specs.KeyBeginning.{IsEntered}
+use Rattle.fkv_partition.specs.KeyEnding.{Leaves}
+use Rattle.fkv_partition.specs.Views.{slots_of, partition_of, seen_at, with_context, PartitionView, relocation_at, with_relocation}
 use Rattle.fkv_partition.specs.declared.relocations.Relocation.{Relocation}
 use Rattle.fkv_partition.specs.declared.relocations.Stage.TheVariants.{Fresh}
-use Rattle.fkv_partition.specs.Views.{PartitionView, relocation_at, with_relocation, with_core}
 
 -- nothing stands in a context of a slot
 abbrev pub IsFree : {K V I : Type 0} → PartitionView K V I → ℕ → ℕ → Type 0
-IsFree v slot c = joined (slice_get v.core.contexts (slot * 8 + c)) ≡ None
+IsFree v slot c = joined (slice_get v.contexts (slot * 8 + c)) ≡ None
 
 -- the lowest free context of a slot, or that there is none
 abbrev pub IsFirstFree : {K V I : Type 0} → PartitionView K V I → ℕ → Option ℕ → Type 0
@@ -32,60 +31,59 @@ IsFirstOpen v slot (Some c) =
 
 pub data IssuesOnKey {K V I : Type 0} (code : K → ℕ) (old new : PartitionView K V I) (slot : ℕ) (op : KeyedOp K V I) (now : ℕ)
     (result : Result ℕ Refused) : Type 0 where
-  unknown : is_session (slots_of old.core) slot ≡ false
+  unknown : is_session (slots_of old) slot ≡ false
       → new ≡ old
       → result ≡ Err Unknown
       → IssuesOnKey code old new slot op now result
-  stranger : IsEntered old.core slot
-      → partition_of old.core.count (code (key_of op)) ≢ old.core.number
+  stranger : IsEntered old slot
+      → partition_of old.count (code (key_of op)) ≢ old.number
       → new ≡ old
-      → result ≡ Err (Stranger Partition old.core.number (partition_of old.core.count (code (key_of op))))
+      → result ≡ Err (Stranger Partition old.number (partition_of old.count (code (key_of op))))
       → IssuesOnKey code old new slot op now result
-  unmerged : IsEntered old.core slot
-      → partition_of old.core.count (code (key_of op)) ≡ old.core.number
+  unmerged : IsEntered old slot
+      → partition_of old.count (code (key_of op)) ≡ old.number
       → is_merge op ≡ true
-      → old.core.merges ≡ false
+      → old.merges ≡ false
       → new ≡ old
       → result ≡ Err NoMerge
       → IssuesOnKey code old new slot op now result
-  full : IsEntered old.core slot
-      → partition_of old.core.count (code (key_of op)) ≡ old.core.number
-      → (is_merge op ≡ true → old.core.merges ≡ true)
+  full : IsEntered old slot
+      → partition_of old.count (code (key_of op)) ≡ old.number
+      → (is_merge op ≡ true → old.merges ≡ true)
       → IsFirstFree old slot None
       → new ≡ old
       → result ≡ Err NoContext
       → IssuesOnKey code old new slot op now result
   issues : (c : ℕ)
-      → IsEntered old.core slot
-      → partition_of old.core.count (code (key_of op)) ≡ old.core.number
-      → (is_merge op ≡ true → old.core.merges ≡ true)
+      → IsEntered old slot
+      → partition_of old.count (code (key_of op)) ≡ old.number
+      → (is_merge op ≡ true → old.merges ≡ true)
       → IsFirstFree old slot (Some c)
-      → new ≡ with_core old (with_context old.core slot c
-      (Some (record { number = now; op = op; phase = phase.Fresh })) now)
+      → new ≡ with_context old slot c (Some (record { number = now; op = op; phase = phase.Fresh })) now
       → result ≡ Ok c
       → IssuesOnKey code old new slot op now result
 
 -- a relocation has the place that is cleared next, which is to lie below what its session sees as safely read-only
 pub data Relocates {K V I : Type 0} (old new : PartitionView K V I) (slot now : ℕ) (result : Result ℕ Refused)
     : Type 0 where
-  unknown : is_session (slots_of old.core) slot ≡ false
+  unknown : is_session (slots_of old) slot ≡ false
       → new ≡ old
       → result ≡ Err Unknown
       → Relocates old new slot now result
-  not_due : IsEntered old.core slot
-      → (seen_at old.core slot).safe_read_only ≤ old.cleared
+  not_due : IsEntered old slot
+      → (seen_at old slot).safe_read_only ≤ old.cleared
       → new ≡ old
       → result ≡ Err NotDue
       → Relocates old new slot now result
-  full : IsEntered old.core slot
-      → old.cleared < (seen_at old.core slot).safe_read_only
+  full : IsEntered old slot
+      → old.cleared < (seen_at old slot).safe_read_only
       → IsFirstFree old slot None
       → new ≡ old
       → result ≡ Err NoContext
       → Relocates old new slot now result
   relocates : (c : ℕ)
-      → IsEntered old.core slot
-      → old.cleared < (seen_at old.core slot).safe_read_only
+      → IsEntered old slot
+      → old.cleared < (seen_at old slot).safe_read_only
       → IsFirstFree old slot (Some c)
       → new ≡ with_relocation old slot c (Some (record { number = now; target = old.cleared; stage = Fresh })) now
       → result ≡ Ok c
@@ -100,8 +98,7 @@ pub data LeavesAll {K V I : Type 0} (keeps : Bool) (old new : PartitionView K V 
       → result ≡ Err Busy
       → LeavesAll keeps old new slot now result
   leaves : ((c : ℕ) → relocation_at old slot c ≡ None)
-      → Leaves keeps old.core new.core slot now result
-      → new ≡ with_core old new.core
+      → Leaves keeps old new slot now result
       → LeavesAll keeps old new slot now result
 
 pub data Drops {K V I : Type 0} (old new : PartitionView K V I) (slot c now : ℕ)

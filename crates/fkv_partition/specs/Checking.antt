@@ -15,7 +15,7 @@ use Rattle.fkv_lookups.specs.Decisions.{low_of}
 use Rattle.fkv_index.specs.Places.{word_at}
 use Rattle.fkv_operations.specs.declared.entries.IndexEntry.{IndexEntry}
 use Rattle.fkv_hybrid.specs.Views.{IsFull}
-use Rattle.fkv_partition.specs.CoreViews.{CoreView, partition_of, found_for, entry_for, seen_at, reached_from}
+use Rattle.fkv_partition.specs.Views.{PartitionView, partition_of, found_for, entry_for, seen_at, reached_from, with_relocation, at_stage, done_at, again_at}
 use Rattle.fkv_partition.specs.declared.relocations.Relocation.{Relocation}
 use Rattle.fkv_partition.specs.declared.relocations.Liveness.{Liveness}
 use Rattle.fkv_partition.specs.declared.relocations.Liveness.TheVariants.{Superseded, Last, Further}
@@ -24,7 +24,6 @@ use Rattle.fkv_partition.specs.declared.contexts.Progress.{Progress}
 use Rattle.fkv_partition.specs.declared.contexts.Progress.TheVariants.{Done, Next, NeedsLoad, Waits}
 use Rattle.fkv_operations.specs.declared.operations.Answer.TheVariants.{Cleared}
 use Rattle.fkv_partition.specs.declared.contexts.Wait.TheVariants.{Full}
-use Rattle.fkv_partition.specs.Views.{PartitionView, with_relocation, at_stage, done_at, again_at}
 
 -- the higher of two addresses
 abbrev pub higher_of : ℕ → ℕ → ℕ
@@ -42,18 +41,18 @@ abbrev pub liveness : {K V : Type 0} → ℕ → ChainResult K V → Liveness V
 liveness place g = liveness_at place g.parts g.position
 
 -- the lowest address to which the session at a slot follows that way in memory
-abbrev pub above : {K V I : Type 0} → CoreView K V I → ℕ → ℕ → ℕ
+abbrev pub above : {K V I : Type 0} → PartitionView K V I → ℕ → ℕ → ℕ
 above v slot place = higher_of (place + 1) (low_of v.records.log.begin (seen_at v slot))
 
 -- what its look-up tells of a record of this key
-abbrev pub told_above : {K V I : Type 0} → (K → K → Ordering) → (V → V → V) → (K → ℕ) → CoreView K V I → ℕ → ℕ → K
+abbrev pub told_above : {K V I : Type 0} → (K → K → Ordering) → (V → V → V) → (K → ℕ) → PartitionView K V I → ℕ → ℕ → K
     → Liveness V
 told_above cmp join code v slot place k =
     liveness place (reached_from cmp join code v slot k (above v slot place) (entry_for code v k))
 
 -- why a record is not appended again: it is a tombstone; its key belongs elsewhere, or has no entry, which only untrue
 -- bytes of a device bring; or a newer record of its key that is no delta is met in memory
-pub data NeedsNoCopy {K V I : Type 0} (cmp : K → K → Ordering) (join : V → V → V) (code : K → ℕ) (v : CoreView K V I)
+pub data NeedsNoCopy {K V I : Type 0} (cmp : K → K → Ordering) (join : V → V → V) (code : K → ℕ) (v : PartitionView K V I)
     (slot place : ℕ) (entry : Entry K V) : Type 0 where
   tombstone : entry.value ≡ None → NeedsNoCopy cmp join code v slot place entry
   foreign : partition_of v.count (code entry.key) ≢ v.number → NeedsNoCopy cmp join code v slot place entry
@@ -62,7 +61,7 @@ pub data NeedsNoCopy {K V I : Type 0} (cmp : K → K → Ordering) (join : V →
 
 -- a record with a value or a part whose key belongs here and has this entry, from which the look-up in memory tells this of
 -- it
-pub record IsChecked {K V I : Type 0} (cmp : K → K → Ordering) (join : V → V → V) (code : K → ℕ) (v : CoreView K V I)
+pub record IsChecked {K V I : Type 0} (cmp : K → K → Ordering) (join : V → V → V) (code : K → ℕ) (v : PartitionView K V I)
     (slot place : ℕ) (entry : Entry K V) (kept : IndexEntry) (outcome : Liveness V) : Type 0 where
   pub some : entry.value ≢ None
   pub own : partition_of v.count (code entry.key) ≡ v.number
@@ -77,23 +76,23 @@ renewed join entry parts = record entry { value = onto join entry.value parts; d
 -- event, or waits where there is no room; where it has moved, the relocation is to begin anew
 pub data Ends {K V I O R : Type 0} (old new : PartitionView K V I) (slot c : ℕ) (x : Relocation K V) (entry : Entry K V)
     (kept : IndexEntry) (now : ℕ) (result : Result (Progress K V I O R) Refused) : Type 0 where
-  moved : word_at old.core.records.words kept.place ≢ kept.word
+  moved : word_at old.records.words kept.place ≢ kept.word
       → new ≡ with_relocation old slot c (Some (at_stage x Fresh)) now
       → result ≡ Ok Next
       → Ends old new slot c x entry kept now result
-  worn : word_at old.core.records.words kept.place ≡ kept.word
-      → old.core.records.log.tail ≡ 2 ^ 48
+  worn : word_at old.records.words kept.place ≡ kept.word
+      → old.records.log.tail ≡ 2 ^ 48
       → new ≡ old
       → result ≡ Err Worn
       → Ends old new slot c x entry kept now result
-  full : word_at old.core.records.words kept.place ≡ kept.word
-      → IsFull old.core.records.log
+  full : word_at old.records.words kept.place ≡ kept.word
+      → IsFull old.records.log
       → new ≡ with_relocation old slot c (Some (at_stage x (Ready entry kept))) now
       → result ≡ Ok (Waits Full)
       → Ends old new slot c x entry kept now result
-  appends : word_at old.core.records.words kept.place ≡ kept.word
-      → old.core.records.log.tail ≢ 2 ^ 48
-      → (IsFull old.core.records.log → ⊥)
+  appends : word_at old.records.words kept.place ≡ kept.word
+      → old.records.log.tail ≢ 2 ^ 48
+      → (IsFull old.records.log → ⊥)
       → new ≡ again_at old slot c x.target kept entry now
       → result ≡ Ok (Done Cleared now)
       → Ends old new slot c x entry kept now result
@@ -102,7 +101,7 @@ pub data Ends {K V I O R : Type 0} (old new : PartitionView K V I) (slot c : ℕ
 pub data Asks {K V I O R : Type 0} (stands : R → Standing) (old new asking : PartitionView K V I) (wanted : ℕ)
     (result : Result (Progress K V I O R) Refused) : Type 0 where
   asks : (r : R)
-      → IsHeldBy old.core.records.log.receipts (page_at old.core.records.log.bits wanted) (stands r)
+      → IsHeldBy old.records.log.receipts (page_at old.records.log.bits wanted) (stands r)
       → new ≡ asking
       → result ≡ Ok (NeedsLoad r wanted)
       → Asks stands old new asking wanted result
@@ -111,16 +110,16 @@ pub data Asks {K V I O R : Type 0} (stands : R → Standing) (old new asking : P
 pub data ChecksLiveness {K V I O R : Type 0} (stands : R → Standing) (cmp : K → K → Ordering) (join : V → V → V) (code : K → ℕ)
     (old new : PartitionView K V I) (slot c : ℕ) (x : Relocation K V) (entry : Entry K V) (now : ℕ)
     (result : Result (Progress K V I O R) Refused) : Type 0 where
-  superseded : NeedsNoCopy cmp join code old.core slot x.target entry
+  superseded : NeedsNoCopy cmp join code old slot x.target entry
       → new ≡ done_at old slot c x.target now
       → result ≡ Ok (Done Cleared now)
       → ChecksLiveness stands cmp join code old new slot c x entry now result
   last : (kept : IndexEntry) (parts : Option V)
-      → IsChecked cmp join code old.core slot x.target entry kept (Last parts)
+      → IsChecked cmp join code old slot x.target entry kept (Last parts)
       → Ends old new slot c x (renewed join entry parts) kept now result
       → ChecksLiveness stands cmp join code old new slot c x entry now result
   further : (kept : IndexEntry) (b : ℕ) (parts : Option V)
-      → IsChecked cmp join code old.core slot x.target entry kept (Further b parts)
+      → IsChecked cmp join code old slot x.target entry kept (Further b parts)
       → Asks stands old new (with_relocation old slot c (Some (at_stage x (Tracing entry
-      (record { begin = old.core.records.log.begin; kept = kept; wanted = b; parts = parts; looked = now })))) now) b result
+      (record { begin = old.records.log.begin; kept = kept; wanted = b; parts = parts; looked = now })))) now) b result
       → ChecksLiveness stands cmp join code old new slot c x entry now result

@@ -1,7 +1,7 @@
--- What an event does, for cores and partitions: its effect on the live map, on what the contexts ask, and on the
--- look-ups that wait for a page. `earlier` is what each context asks before it, and `later` what it asks then; `before` is the
--- address below which all is cleared before it, and `after` the one then. `Effect` says it of partitions; `CoreEffect` says it
--- of cores, which clear nothing.
+-- What an event does: its effect on the live map, on what the contexts ask, and on the look-ups that wait for a page.
+-- `earlier` is what each context asks before it, and `later` what it asks then; `before` is the address below which all is
+-- cleared before it, and `after` the one then. `Effect` says it of all that a partition is asked; `KeyEffect` says it of
+-- operations on keys, which clear nothing.
 use Rattle.std.specs.Prelude.{◌≡◌, ◌≢◌, ◌≤◌, ◌⊎◌, ℕ, Bool, IsTrue, Option, Some, None}
 use Rattle.std.specs.declared.cmp.Ordering.{Ordering}
 use Rattle.fkv_functions.specs.Meanings.{Meanings}
@@ -15,7 +15,7 @@ use Rattle.fkv_operations.specs.declared.operations.Op.TheVariants.{Read, Rmw}
 use Rattle.fkv_partition.specs.declared.contexts.Progress.{Progress}
 use Rattle.fkv_partition.specs.declared.contexts.Progress.TheVariants.{Done, Next, NeedsBuild, NeedsLoad, Waits}
 use Rattle.fkv_partition.specs.Pending.{Pending, pending}
-use Rattle.fkv_partition.specs.CoreViews.{CoreView, live_of, partition_of}
+use Rattle.fkv_partition.specs.Views.{PartitionView, live_of, partition_of}
 
 -- what an open context asks: the moment of its issue, and its operation
 pub record Asked (K V I : Type 0) : Type 0 where
@@ -45,7 +45,7 @@ HasEffect cmp f m m' now x is (NeedsBuild ask) =
     × (x.op ≡ Rmw ask.key ask.input)
 
 -- what an event of a session, or of one of its contexts, leaves as it was; what is cleared never falls
-pub record LeavesOthers {K V I : Type 0} (earlier later : Asks K V I) (old new : CoreView K V I)
+pub record LeavesOthers {K V I : Type 0} (earlier later : Asks K V I) (old new : PartitionView K V I)
     (before after slot c now : ℕ) : Type 0 where
   pub others : (s d : ℕ) → (s ≢ slot) ⊎ (d ≢ c) → later s d ≡ earlier s d
   pub number : new.number ≡ old.number
@@ -57,7 +57,7 @@ pub record LeavesOthers {K V I : Type 0} (earlier later : Asks K V I) (old new :
 
 -- a session is entered, refreshed or left, an offset moves, or a page is taken or flushed: no context asks anything else,
 -- and the text stays, where the device keeps
-pub record IsQuiet {K V I : Type 0} (earlier later : Asks K V I) (keeps : Bool) (old new : CoreView K V I)
+pub record IsQuiet {K V I : Type 0} (earlier later : Asks K V I) (keeps : Bool) (old new : PartitionView K V I)
     (before after now : ℕ) : Type 0 where
   pub same : (s d : ℕ) → later s d ≡ earlier s d
   pub text : IsTrue keeps → new.records.text ≡ old.records.text
@@ -68,12 +68,12 @@ pub record IsQuiet {K V I : Type 0} (earlier later : Asks K V I) (keeps : Bool) 
   pub moment : new.moment ≡ now
 
 -- an operation's key, if it has one, belongs here
-abbrev pub IsOwn : {K V I : Type 0} → (K → ℕ) → CoreView K V I → Op K V I → Type 0
+abbrev pub IsOwn : {K V I : Type 0} → (K → ℕ) → PartitionView K V I → Op K V I → Type 0
 IsOwn {K} {V} {I} code v op =
     (o : KeyedOp K V I) → keyed op ≡ Some o → partition_of v.count (code (key_of o)) ≡ v.number
 
 -- an operation is issued in a context which asked nothing
-pub record IsIssue {K V I : Type 0} (earlier later : Asks K V I) (code : K → ℕ) (old new : CoreView K V I)
+pub record IsIssue {K V I : Type 0} (earlier later : Asks K V I) (code : K → ℕ) (old new : PartitionView K V I)
     (before after slot c : ℕ) (op : Op K V I) (now : ℕ) : Type 0 where
   pub closed : earlier slot c ≡ None
   pub opened : later slot c ≡ Some (record { number = now; op = op })
@@ -84,7 +84,7 @@ pub record IsIssue {K V I : Type 0} (earlier later : Asks K V I) (code : K → �
 
 -- an event of one context. What is cleared rises by relocations alone
 pub record IsEvent {K V I O R : Type 0} (earlier later : Asks K V I) (cmp : K → K → Ordering) (f : Meanings K V I O)
-    (old new : CoreView K V I) (before after slot c now : ℕ) (progress : Progress K V I O R) : Type 0 where
+    (old new : PartitionView K V I) (before after slot c now : ℕ) (progress : Progress K V I O R) : Type 0 where
   pub question : Asked K V I
   pub was : earlier slot c ≡ Some question
   pub effect : HasEffect cmp f (live_of cmp old) (live_of cmp new) now question (later slot c) progress
@@ -92,7 +92,7 @@ pub record IsEvent {K V I O R : Type 0} (earlier later : Asks K V I) (cmp : K �
   pub frame : LeavesOthers earlier later old new before after slot c now
 
 -- an operation ends without effect
-pub record IsGiveUp {K V I : Type 0} (earlier later : Asks K V I) (old new : CoreView K V I) (before after slot c now : ℕ)
+pub record IsGiveUp {K V I : Type 0} (earlier later : Asks K V I) (old new : PartitionView K V I) (before after slot c now : ℕ)
     : Type 0 where
   pub question : Asked K V I
   pub was : earlier slot c ≡ Some question
@@ -102,13 +102,13 @@ pub record IsGiveUp {K V I : Type 0} (earlier later : Asks K V I) (old new : Cor
   pub frame : LeavesOthers earlier later old new before after slot c now
 
 -- what an operation that asks for a page is to find: what the live map says of its key, if it has one
-abbrev pub to_find : {K V I : Type 0} → (K → K → Ordering) → CoreView K V I → ℕ → Option (KeyedOp K V I)
+abbrev pub to_find : {K V I : Type 0} → (K → K → Ordering) → PartitionView K V I → ℕ → Option (KeyedOp K V I)
     → Option (Pending V)
 to_find cmp v now None = None
 to_find cmp v now (Some o) = Some (record { moment = now; value = live_of cmp v (key_of o) })
 
 -- an operation was open, and now waits for a page
-pub record IsAsking {K V I : Type 0} (earlier : Asks K V I) (cmp : K → K → Ordering) (old new : CoreView K V I)
+pub record IsAsking {K V I : Type 0} (earlier : Asks K V I) (cmp : K → K → Ordering) (old new : PartitionView K V I)
     (slot c now : ℕ) : Type 0 where
   pub question : Asked K V I
   pub was : earlier slot c ≡ Some question
@@ -116,7 +116,7 @@ pub record IsAsking {K V I : Type 0} (earlier : Asks K V I) (cmp : K → K → O
 
 -- what an event leaves its context to find: where it asks for a page, what the live map said of its key then, and nothing
 -- else
-abbrev pub Finds : {K V I O R : Type 0} → Asks K V I → (K → K → Ordering) → CoreView K V I → CoreView K V I → ℕ → ℕ → ℕ
+abbrev pub Finds : {K V I O R : Type 0} → Asks K V I → (K → K → Ordering) → PartitionView K V I → PartitionView K V I → ℕ → ℕ → ℕ
     → Progress K V I O R → Type 0
 Finds earlier cmp old new slot c now (Done a effect) = pending cmp new slot c ≡ None
 Finds earlier cmp old new slot c now Next = pending cmp new slot c ≡ None
@@ -143,7 +143,7 @@ HasLoaded {K} {V} f x is was then (NeedsBuild ask) = (is ≡ Some x)
 
 -- no load of an operation on a key changes the live map
 pub record IsLoaded {K V I O R : Type 0} (earlier later : Asks K V I) (cmp : K → K → Ordering) (f : Meanings K V I O)
-    (old new : CoreView K V I) (before after slot c now : ℕ) (progress : Progress K V I O R) : Type 0 where
+    (old new : PartitionView K V I) (before after slot c now : ℕ) (progress : Progress K V I O R) : Type 0 where
   pub question : Asked K V I
   pub was : earlier slot c ≡ Some question
   pub effect : HasLoaded f question (later slot c) (pending cmp old slot c) (pending cmp new slot c) progress
@@ -154,7 +154,7 @@ pub record IsLoaded {K V I O R : Type 0} (earlier later : Asks K V I) (cmp : K �
 -- the log's start is cut: no context asks anything else, each look-up that waits for a page is to look again, and on a
 -- device that keeps the live map stays
 pub record IsTruncation {K V I : Type 0} (earlier later : Asks K V I) (keeps : Bool) (cmp : K → K → Ordering)
-    (old new : CoreView K V I) (before after page now : ℕ) : Type 0 where
+    (old new : PartitionView K V I) (before after page now : ℕ) : Type 0 where
   pub same : (s d : ℕ) → later s d ≡ earlier s d
   pub pend : (s d : ℕ) → pending cmp new s d ≡ None
   pub live : IsTrue keeps → Same (live_of cmp new) (live_of cmp old)

@@ -1,5 +1,6 @@
--- What each event does: a relation with a rule for each case. What belongs to operations on keys is the rule of the core;
--- what belongs to relocations stands in `Beginning`, `Going`, `Reading` and `Truncating`.
+-- What each event does: a relation with a rule for each case. What belongs to operations on keys stands in `KeyBeginning`,
+-- `KeyGoing`, `KeyInstalling`, `KeyLoading` and `KeyEnding`; what belongs to relocations in `Beginning`, `Going`, `Reading` and
+-- `Truncating`.
 use Rattle.std.specs.Prelude.{◌≡◌, ℕ, Bool, List, Some, None, Result, Err}
 use Rattle.std.specs.declared.cmp.Ordering.{Ordering}
 use Rattle.fkv_functions.specs.Meanings.{Meanings}
@@ -13,47 +14,42 @@ use Rattle.fkv_operations.specs.declared.operations.KeyedOp.{KeyedOp}
 use Rattle.fkv_operations.specs.declared.operations.Op.{Op}
 use Rattle.fkv_operations.specs.declared.operations.Op.TheVariants.{Relocate}
 use Rattle.fkv_partition.specs.declared.contexts.Progress.{Progress}
-use Rattle.fkv_partition.specs.CoreBeginning as beginning
-use Rattle.fkv_partition.specs.CoreEnding as ending
-use Rattle.fkv_partition.specs.CoreFlushing as flushing
-use Rattle.fkv_partition.specs.CoreGoing as going
-use Rattle.fkv_partition.specs.CoreInstalling as installing
-use Rattle.fkv_partition.specs.CoreLoading as loading
-use Rattle.fkv_partition.specs.CoreLooking as looking
+use Rattle.fkv_partition.specs.KeyBeginning as beginning
+use Rattle.fkv_partition.specs.KeyEnding as ending
+use Rattle.fkv_partition.specs.Flushing as flushing
+use Rattle.fkv_partition.specs.KeyGoing as going
+use Rattle.fkv_partition.specs.KeyInstalling as installing
+use Rattle.fkv_partition.specs.KeyLoading as loading
+use Rattle.fkv_partition.specs.Moves as looking
 use Rattle.fkv_partition.specs.declared.relocations.Relocation.{Relocation}
 use Rattle.fkv_partition.specs.Beginning.{IssuesOnKey, Relocates, Drops}
 use Rattle.fkv_partition.specs.Going.{GoesOn}
 use Rattle.fkv_partition.specs.Reading.{LoadsOn, WaitsOn}
-use Rattle.fkv_partition.specs.Grown.{RelocationsStay}
-use Rattle.fkv_partition.specs.Views.{PartitionView, relocation_at, with_core}
-
--- relocations stay, and what is cleared
-pub record IsPassedOn {K V I : Type 0} (old new : PartitionView K V I) : Type 0 where
-  pub is : new ≡ with_core old new.core
-  pub relocations : RelocationsStay old.core new.core
+pub use Rattle.fkv_partition.specs.Grown.{IsPassedOn}
+use Rattle.fkv_partition.specs.Views.{PartitionView, relocation_at}
 
 pub record Enters {K V I : Type 0} (old new : PartitionView K V I) (now : ℕ) (result : Result ℕ Refused) : Type 0 where
-  pub does : beginning.Enters old.core new.core now result
+  pub does : beginning.Enters old new now result
   pub rest : IsPassedOn old new
 
 pub record Refreshes {K V I : Type 0} (keeps : Bool) (old new : PartitionView K V I) (slot now : ℕ)
     (result : Result (Unit {0}) Refused) : Type 0 where
-  pub does : looking.Refreshes keeps old.core new.core slot now result
+  pub does : looking.Refreshes keeps old new slot now result
   pub rest : IsPassedOn old new
 
 pub record Shifts {K V I : Type 0} (keeps : Bool) (old new : PartitionView K V I) (page now : ℕ)
     (result : Result (Unit {0}) Refused) : Type 0 where
-  pub does : looking.Shifts keeps old.core new.core page now result
+  pub does : looking.Shifts keeps old new page now result
   pub rest : IsPassedOn old new
 
 pub record Evicts {K V I : Type 0} (keeps : Bool) (old new : PartitionView K V I) (page now : ℕ)
     (result : Result (Unit {0}) Refused) : Type 0 where
-  pub does : looking.Evicts keeps old.core new.core page now result
+  pub does : looking.Evicts keeps old new page now result
   pub rest : IsPassedOn old new
 
 pub record Flushes {K V I : Type 0} (old new : PartitionView K V I) (s : Standing) (bytes : List ℕ) (now : ℕ)
     (result : Result (Unit {0}) Refused) : Type 0 where
-  pub does : flushing.Flushes old.core new.core s bytes now result
+  pub does : flushing.Flushes old new s bytes now result
   pub rest : IsPassedOn old new
 
 -- an operation on a key, or a relocation, is issued
@@ -71,7 +67,7 @@ pub data Goes {K V I O R : Type 0} (stands : R → Standing) (cmp : K → K → 
     (result : Result (Progress K V I O R) Refused)
     : Type 0 where
   on_key : relocation_at old slot c ≡ None
-      → going.Goes stands cmp join f code old.core new.core slot c now result
+      → going.Goes stands cmp join f code old new slot c now result
       → IsPassedOn old new
       → Goes stands cmp join f code old new slot c now result
   relocation : (x : Relocation K V)
@@ -84,7 +80,7 @@ pub data Installs {K V I O R : Type 0} (cmp : K → K → Ordering) (f : Meaning
     (old new : PartitionView K V I) (slot c : ℕ) (ask : Ask K V I) (now : ℕ)
     (result : Result (Progress K V I O R) Refused) : Type 0 where
   on_key : relocation_at old slot c ≡ None
-      → installing.Installs cmp f code old.core new.core slot c ask now result
+      → installing.Installs cmp f code old new slot c ask now result
       → IsPassedOn old new
       → Installs cmp f code old new slot c ask now result
   relocation : (x : Relocation K V)
@@ -98,7 +94,7 @@ pub data Loads {K V I O R : Type 0} (stands : R → Standing) (spells : ℕ → 
     (cmp : K → K → Ordering) (join : V → V → V) (f : Meanings K V I O) (code : K → ℕ)
     (old new : PartitionView K V I) (slot c : ℕ) (came : Result (Joined R) Refused) (now : ℕ) (result : Result (Progress K V I O R) Refused) : Type 0 where
   on_key : relocation_at old slot c ≡ None
-      → loading.Loads stands spells cmp join f old.core new.core slot c came now result
+      → loading.Loads stands spells cmp join f old new slot c came now result
       → IsPassedOn old new
       → Loads stands spells cmp join f code old new slot c came now result
   relocation : (x : Relocation K V)
@@ -108,7 +104,7 @@ pub data Loads {K V I O R : Type 0} (stands : R → Standing) (spells : ℕ → 
 
 -- what is open in a context waits for this page, and Begin has not moved since
 pub data WaitsFor {K V I : Type 0} (v : PartitionView K V I) (slot c page : ℕ) : Type 0 where
-  on_key : relocation_at v slot c ≡ None → loading.WaitsFor v.core slot c page → WaitsFor v slot c page
+  on_key : relocation_at v slot c ≡ None → loading.WaitsFor v slot c page → WaitsFor v slot c page
   relocation : WaitsOn v slot c page → WaitsFor v slot c page
 
 -- the page that is waited for is read by the receipt that is kept of it
@@ -116,14 +112,14 @@ abbrev pub LoadsBy : {K V I O R : Type 0} → (R → Standing) → (ℕ → List
     → (K → K → Ordering) → (V → V → V) → Meanings K V I O → (K → ℕ) → PartitionView K V I → PartitionView K V I
     → ℕ → ℕ → ℕ → ℕ → ℕ → Result (Progress K V I O R) Refused → Type 0
 LoadsBy stands spells cmp join f code old new slot c now before after result = loading.ReadsBy stands
-    old.core.records.log.receipts (WaitsFor old slot c)
+    old.records.log.receipts (WaitsFor old slot c)
     (λ came. Loads stands spells cmp join f code old new slot c came now result) old new before after result
 
 -- what is open in a context is given up
 pub data GivesUp {K V I : Type 0} (old new : PartitionView K V I) (slot c now : ℕ)
     (result : Result (Unit {0}) Refused) : Type 0 where
   on_key : relocation_at old slot c ≡ None
-      → ending.GivesUp old.core new.core slot c now result
+      → ending.GivesUp old new slot c now result
       → IsPassedOn old new
       → GivesUp old new slot c now result
   relocation : (x : Relocation K V)

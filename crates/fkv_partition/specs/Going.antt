@@ -9,14 +9,13 @@ use Rattle.fkv_texts.specs.declared.entries.Entry.{Entry}
 use Rattle.fkv_texts.specs.Text.{entry_at}
 use Rattle.fkv_lookups.specs.Decisions.{low_of}
 use Rattle.fkv_operations.specs.declared.entries.IndexEntry.{IndexEntry}
-use Rattle.fkv_partition.specs.CoreViews.{seen_at}
+use Rattle.fkv_partition.specs.Views.{seen_at, PartitionView, relocation_at, with_relocation, at_stage}
 use Rattle.fkv_partition.specs.declared.relocations.Relocation.{Relocation}
 use Rattle.fkv_partition.specs.declared.relocations.Stage.{Stage}
 use Rattle.fkv_partition.specs.declared.relocations.Stage.TheVariants.{Fresh, Reading, Tracing, Ready}
 use Rattle.fkv_partition.specs.declared.contexts.Progress.{Progress}
 use Rattle.fkv_partition.specs.declared.contexts.Progress.TheVariants.{Done}
 use Rattle.fkv_operations.specs.declared.operations.Answer.TheVariants.{Cleared}
-use Rattle.fkv_partition.specs.Views.{PartitionView, relocation_at, with_relocation, at_stage}
 use Rattle.fkv_partition.specs.Checking.{Ends, Asks, ChecksLiveness}
 
 -- the page that a relocation waits for: where Begin was when it was asked for, and the address wanted
@@ -40,7 +39,7 @@ is_awaiting (Some x) = is_some (awaited x)
 
 -- the lowest address that the session at a slot reads in memory
 abbrev pub low_at : {K V I : Type 0} → PartitionView K V I → ℕ → ℕ
-low_at v slot = low_of v.core.records.log.begin (seen_at v.core slot)
+low_at v slot = low_of v.records.log.begin (seen_at v slot)
 
 pub data GoesOn {K V I O R : Type 0} (stands : R → Standing) (cmp : K → K → Ordering) (join : V → V → V) (code : K → ℕ)
     (old new : PartitionView K V I) (slot c now : ℕ) (result : Result (Progress K V I O R) Refused) : Type 0 where
@@ -72,7 +71,7 @@ pub data GoesOn {K V I O R : Type 0} (stands : R → Standing) (cmp : K → K �
       → x.stage ≡ Fresh
       → x.target ≡ old.cleared
       → low_at old slot ≤ x.target
-      → entry_at old.core.records.log.text x.target ≡ Some entry
+      → entry_at old.records.log.text x.target ≡ Some entry
       → ChecksLiveness stands cmp join code old new slot c x entry now result
       → GoesOn stands cmp join code old new slot c now result
   reads : (x : Relocation K V)
@@ -81,5 +80,5 @@ pub data GoesOn {K V I O R : Type 0} (stands : R → Standing) (cmp : K → K �
       → x.target ≡ old.cleared
       → x.target < low_at old slot
       → Asks stands old new (with_relocation old slot c
-      (Some (at_stage x (Reading old.core.records.log.begin))) now) x.target result
+      (Some (at_stage x (Reading old.records.log.begin))) now) x.target result
       → GoesOn stands cmp join code old new slot c now result

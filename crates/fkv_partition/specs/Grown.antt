@@ -15,9 +15,9 @@ use Rattle.fkv_operations.specs.KeptWords.{ReusesNoAddress}
 use Rattle.fkv_lookups.specs.RecordsViews.{RecordsView, indexed}
 use Rattle.fkv_texts.specs.Deltas.{IsCleared}
 use Rattle.fkv_partition.specs.declared.contexts.Loading.{Loading}
-use Rattle.fkv_partition.specs.CoreContexts.{joined, is_session, relocating}
-use Rattle.fkv_partition.specs.CoreSound.{IsKept, IsLoading}
-use Rattle.fkv_partition.specs.CoreViews.{CoreView, slots_of}
+use Rattle.fkv_partition.specs.Contexts.{joined, is_session, relocating}
+use Rattle.fkv_partition.specs.KeySound.{IsKept, IsLoading}
+use Rattle.fkv_partition.specs.Views.{PartitionView, slots_of}
 
 -- what a prepared update of any key kept, and what a look-up of any key that waits for a page is to find, whether or not
 -- the partition has a context of it
@@ -65,15 +65,21 @@ pub record IsGrown {K V : Type 0} (keeps : Bool) (cmp : K → K → Ordering) (o
 
 -- both of an event; and on a device that keeps, no address is used twice
 pub record IsPreserved {K V I : Type 0} (keeps : Bool) (cmp : K → K → Ordering) (join : V → V → V) (code : K → ℕ)
-    (old new : CoreView K V I) : Type 0 where
+    (old new : PartitionView K V I) : Type 0 where
   pub bears : Bears keeps cmp join code old.records new.records
   pub grown : IsGrown keeps cmp old.records new.records
   pub next : IsTrue keeps → ReusesNoAddress cmp (indexed old.records) (indexed new.records)
 
--- relocations stay in their contexts, and who was entered is
-abbrev pub RelocationsStay : {K V I : Type 0} → CoreView K V I → CoreView K V I → Type 0
+-- relocations stay in their contexts
+abbrev pub RelocationsStay : {K V I : Type 0} → PartitionView K V I → PartitionView K V I → Type 0
 RelocationsStay old new =
     (p : ℕ) → relocating (joined (slice_get new.contexts p)) ≡ relocating (joined (slice_get old.contexts p))
 
-abbrev pub AllStay : {K V I : Type 0} → CoreView K V I → CoreView K V I → Type 0
+-- so does what is cleared
+pub record IsPassedOn {K V I : Type 0} (old new : PartitionView K V I) : Type 0 where
+  pub cleared : new.cleared ≡ old.cleared
+  pub relocations : RelocationsStay old new
+
+-- who was entered is
+abbrev pub AllStay : {K V I : Type 0} → PartitionView K V I → PartitionView K V I → Type 0
 AllStay old new = (s : ℕ) → is_session (slots_of old) s ≡ true → is_session (slots_of new) s ≡ true

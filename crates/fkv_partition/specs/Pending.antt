@@ -9,7 +9,7 @@ use Rattle.fkv_lookups.specs.RecordsViews.{RecordsView}
 use Rattle.fkv_partition.specs.declared.contexts.Context.{Context}
 use Rattle.fkv_partition.specs.declared.contexts.Phase.{Phase}
 use Rattle.fkv_partition.specs.declared.contexts.Phase.TheVariants.{Fresh, Confirm, Prepared, Load}
-use Rattle.fkv_partition.specs.CoreViews.{CoreView, context_at}
+use Rattle.fkv_partition.specs.Views.{PartitionView, context_at}
 
 -- the moment of a look-up, and the value that it is to find, or none
 pub record Pending (V : Type 0) : Type 0 where
@@ -34,13 +34,13 @@ abbrev pub pending_of : {K V I : Type 0} → (K → K → Ordering) → RecordsV
 pending_of cmp r None = None
 pending_of cmp r (Some x) = pending_by cmp r x.op x.phase
 
-abbrev pub pending : {K V I : Type 0} → (K → K → Ordering) → CoreView K V I → ℕ → ℕ → Option (Pending V)
+abbrev pub pending : {K V I : Type 0} → (K → K → Ordering) → PartitionView K V I → ℕ → ℕ → Option (Pending V)
 pending cmp v slot c = pending_of cmp v.records (context_at v slot c)
 
 -- what the others are to find stays; and so it does of all
-abbrev pub OthersPend : {K V I : Type 0} → (K → K → Ordering) → CoreView K V I → CoreView K V I → ℕ → ℕ
+abbrev pub OthersPend : {K V I : Type 0} → (K → K → Ordering) → PartitionView K V I → PartitionView K V I → ℕ → ℕ
     → Type 0
 OthersPend cmp old new slot c = (s d : ℕ) → (s ≢ slot) ⊎ (d ≢ c) → pending cmp new s d ≡ pending cmp old s d
 
-abbrev pub AllPend : {K V I : Type 0} → (K → K → Ordering) → CoreView K V I → CoreView K V I → Type 0
+abbrev pub AllPend : {K V I : Type 0} → (K → K → Ordering) → PartitionView K V I → PartitionView K V I → Type 0
 AllPend cmp old new = (s d : ℕ) → pending cmp new s d ≡ pending cmp old s d

@@ -12,7 +12,7 @@ use Rattle.fkv_texts.specs.declared.entries.ChainPosition.TheVariants.{Below}
 use Rattle.fkv_hybrid.specs.Loads.{IsHeldBy, first_place}
 use Rattle.fkv_lookups.specs.declared.chain_results.ChainResult.{ChainResult}
 use Rattle.fkv_lookups.specs.Lookups.{ComesToInPage}
-use Rattle.fkv_partition.specs.CoreLoading.{ReadsBy}
+use Rattle.fkv_partition.specs.KeyLoading.{ReadsBy}
 use Rattle.fkv_partition.specs.declared.contexts.Loading.{Loading}
 use Rattle.fkv_partition.specs.declared.relocations.Relocation.{Relocation}
 use Rattle.fkv_partition.specs.declared.relocations.Stage.TheVariants.{Fresh, Reading, Tracing}
@@ -28,21 +28,21 @@ use Rattle.fkv_partition.specs.Going.{Awaited, awaited}
 pub record AwaitsPage {K V I : Type 0} (v : PartitionView K V I) (slot c : ℕ) (x : Relocation K V) (wanted : ℕ)
     : Type 0 where
   pub here : relocation_at v slot c ≡ Some x
-  pub awaits : awaited x ≡ Some (record { begin = v.core.records.log.begin; wanted = wanted })
+  pub awaits : awaited x ≡ Some (record { begin = v.records.log.begin; wanted = wanted })
 
 -- and the page is the one that is kept of that address
 pub record HasPage {K V I : Type 0} (v : PartitionView K V I) (slot c : ℕ) (x : Relocation K V) (wanted : ℕ)
     (s : Standing) : Type 0 where
   pub awaits : AwaitsPage v slot c x wanted
-  pub own : IsHeldBy v.core.records.log.receipts (page_at v.core.records.log.bits wanted) s
+  pub own : IsHeldBy v.records.log.receipts (page_at v.records.log.bits wanted) s
 
 -- from the address wanted, with the parts that were collected, the records that the page's bytes spell above a place come to
 -- this
 abbrev pub TracesTo : {K V I : Type 0} → (ℕ → List ℕ → ℕ → Entry K V → Type 0) → (K → K → Ordering) → (V → V → V)
     → PartitionView K V I → ℕ → K → Loading V → List ℕ → Result (ChainResult K V) Refused → Type 0
-TracesTo entry cmp join v place k l bytes reached = ComesToInPage join (entry v.core.records.log.bits bytes) cmp k
-    v.core.records.log.bits
-    (higher_of (place + 1) (first_place v.core.records.log.bits (page_at v.core.records.log.bits l.wanted)))
+TracesTo entry cmp join v place k l bytes reached = ComesToInPage join (entry v.records.log.bits bytes) cmp k
+    v.records.log.bits
+    (higher_of (place + 1) (first_place v.records.log.bits (page_at v.records.log.bits l.wanted)))
     l.wanted l.parts reached
 
 pub data LoadsOn {K V I O R : Type 0} (stands : R → Standing) (spells : ℕ → List ℕ → ℕ → Entry K V → Type 0)
@@ -62,7 +62,7 @@ pub data LoadsOn {K V I O R : Type 0} (stands : R → Standing) (spells : ℕ �
   moved : (x : Relocation K V) (a : Awaited)
       → relocation_at old slot c ≡ Some x
       → awaited x ≡ Some a
-      → a.begin ≢ old.core.records.log.begin
+      → a.begin ≢ old.records.log.begin
       → new ≡ with_relocation old slot c (Some (at_stage x Fresh)) now
       → result ≡ Ok Next
       → LoadsOn stands spells cmp join code old new slot c came now result
@@ -84,7 +84,7 @@ pub data LoadsOn {K V I O R : Type 0} (stands : R → Standing) (spells : ℕ �
   stranger : (x : Relocation K V) (wanted : ℕ) (p : Joined R) (s : Standing)
       → AwaitsPage old slot c x wanted
       → came ≡ Ok p
-      → IsHeldBy old.core.records.log.receipts (page_at old.core.records.log.bits wanted) s
+      → IsHeldBy old.records.log.receipts (page_at old.records.log.bits wanted) s
       → s ≢ stands p.receipt
       → new ≡ old
       → result ≡ Err (Stranger what.Receipt s.number (stands p.receipt).number)
@@ -95,16 +95,16 @@ pub data LoadsOn {K V I O R : Type 0} (stands : R → Standing) (spells : ℕ �
       → x.stage ≡ Reading begin
       → HasPage old slot c x x.target (stands p.receipt)
       → came ≡ Ok p
-      → spells old.core.records.log.bits p.bytes x.target e
+      → spells old.records.log.bits p.bytes x.target e
       → ChecksLiveness stands cmp join code old new slot c x e now result
       → LoadsOn stands spells cmp join code old new slot c came now result
   damaged : (x : Relocation K V) (begin : ℕ) (p : Joined R)
       → x.stage ≡ Reading begin
       → HasPage old slot c x x.target (stands p.receipt)
       → came ≡ Ok p
-      → ((e : Entry K V) → spells old.core.records.log.bits p.bytes x.target e → ⊥)
+      → ((e : Entry K V) → spells old.records.log.bits p.bytes x.target e → ⊥)
       → new ≡ with_relocation old slot c None now
-      → result ≡ Err (Damaged (page_at old.core.records.log.bits x.target))
+      → result ≡ Err (Damaged (page_at old.records.log.bits x.target))
       → LoadsOn stands spells cmp join code old new slot c came now result
   -- it is a page on the way from the entry to its place: a newer record of the key that is no delta is met
   newer : (x : Relocation K V) (e : Entry K V) (l : Loading V) (p : Joined R) (r : ChainResult K V)
@@ -132,7 +132,7 @@ pub data LoadsOn {K V I O R : Type 0} (stands : R → Standing) (spells : ℕ �
       → came ≡ Ok p
       → TracesTo spells cmp join old x.target e.key l p.bytes (Ok (record { parts = parts; position = Below b }))
       → x.target < b
-      → IsRecordStart old.core.records.log.bits old.core.records.record_size b
+      → IsRecordStart old.records.log.bits old.records.record_size b
       → Asks stands old new (with_relocation old slot c
       (Some (at_stage x (Tracing e (record l { wanted = b; parts = parts })))) now) b result
       → LoadsOn stands spells cmp join code old new slot c came now result
@@ -143,7 +143,7 @@ pub data LoadsOn {K V I O R : Type 0} (stands : R → Standing) (spells : ℕ �
       → came ≡ Ok p
       → TracesTo spells cmp join old x.target e.key l p.bytes (Err why)
       → new ≡ with_relocation old slot c None now
-      → result ≡ Err (Damaged (page_at old.core.records.log.bits l.wanted))
+      → result ≡ Err (Damaged (page_at old.records.log.bits l.wanted))
       → LoadsOn stands spells cmp join code old new slot c came now result
   bad_link : (x : Relocation K V) (e : Entry K V) (l : Loading V) (p : Joined R) (b : ℕ) (parts : Option V)
       → x.stage ≡ Tracing e l
@@ -151,9 +151,9 @@ pub data LoadsOn {K V I O R : Type 0} (stands : R → Standing) (spells : ℕ �
       → came ≡ Ok p
       → TracesTo spells cmp join old x.target e.key l p.bytes (Ok (record { parts = parts; position = Below b }))
       → x.target < b
-      → ¬ IsRecordStart old.core.records.log.bits old.core.records.record_size b
+      → ¬ IsRecordStart old.records.log.bits old.records.record_size b
       → new ≡ with_relocation old slot c None now
-      → result ≡ Err (Damaged (page_at old.core.records.log.bits l.wanted))
+      → result ≡ Err (Damaged (page_at old.records.log.bits l.wanted))
       → LoadsOn stands spells cmp join code old new slot c came now result
 
 -- the relocation that is open in a context waits for this page, and Begin has not moved since
@@ -161,12 +161,12 @@ pub record WaitsOn {K V I : Type 0} (v : PartitionView K V I) (slot c page : ℕ
   pub relocation : Relocation K V
   pub wanted : ℕ
   pub awaits : AwaitsPage v slot c relocation wanted
-  pub page_is : page ≡ page_at v.core.records.log.bits wanted
+  pub page_is : page ≡ page_at v.records.log.bits wanted
 
 -- and the same where the page is read by the receipt that is kept of it
 abbrev pub LoadsOnBy : {K V I O R : Type 0} → (R → Standing) → (ℕ → List ℕ → ℕ → Entry K V → Type 0)
     → (K → K → Ordering) → (V → V → V) → (K → ℕ) → PartitionView K V I → PartitionView K V I → ℕ → ℕ → ℕ → ℕ → ℕ
     → Result (Progress K V I O R) Refused → Type 0
-LoadsOnBy stands spells cmp join code old new slot c now before after result = ReadsBy stands old.core.records.log.receipts
+LoadsOnBy stands spells cmp join code old new slot c now before after result = ReadsBy stands old.records.log.receipts
     (WaitsOn old slot c) (λ came. LoadsOn stands spells cmp join code old new slot c came now result) old new before after
     result

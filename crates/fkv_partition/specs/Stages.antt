@@ -9,8 +9,8 @@ use Rattle.fkv_texts.specs.Deltas.{AreDeltasBetween}
 use Rattle.fkv_lookups.specs.RecordsViews.{RecordsView}
 use Rattle.fkv_operations.specs.declared.entries.IndexEntry.{IndexEntry}
 use Rattle.fkv_partition.specs.declared.contexts.Loading.{Loading}
-use Rattle.fkv_partition.specs.CoreSound.{IsKept, IsLoading}
-use Rattle.fkv_partition.specs.CoreViews.{CoreView, partition_of}
+use Rattle.fkv_partition.specs.KeySound.{IsKept, IsLoading}
+use Rattle.fkv_partition.specs.Views.{PartitionView, partition_of}
 use Rattle.fkv_partition.specs.declared.relocations.Relocation.{Relocation}
 use Rattle.fkv_partition.specs.declared.relocations.Stage.{Stage}
 use Rattle.fkv_partition.specs.declared.relocations.Stage.TheVariants.{Fresh, Reading, Tracing, Ready}
@@ -45,7 +45,7 @@ pub record IsReady {K V : Type 0} (keeps : Bool) (cmp : K → K → Ordering) (j
   pub own : IsTrue keeps → (d : Entry K V) → entry_at r.log.text place ≡ Some d → d.key ≡ entry.key
   pub between : IsTrue keeps → AreDeltasBetween cmp r.log.text entry.key place (address_of kept.word)
 
-abbrev pub StageStands : {K V I : Type 0} → Bool → (K → K → Ordering) → (V → V → V) → (K → ℕ) → CoreView K V I → ℕ → Stage K V
+abbrev pub StageStands : {K V I : Type 0} → Bool → (K → K → Ordering) → (V → V → V) → (K → ℕ) → PartitionView K V I → ℕ → Stage K V
     → Type 0
 StageStands keeps cmp join code v place Fresh = Unit {0}
 StageStands keeps cmp join code v place (Reading begin) = IsReading v.records place begin
@@ -56,7 +56,7 @@ StageStands keeps cmp join code v place (Ready entry kept) =
 
 -- its place is that of a frozen record, and was not cleared when it was issued
 pub record RelocationStands {K V I : Type 0} (keeps : Bool) (cmp : K → K → Ordering) (join : V → V → V) (code : K → ℕ)
-    (v : CoreView K V I) (cleared : ℕ) (x : Relocation K V) : Type 0 where
+    (v : PartitionView K V I) (cleared : ℕ) (x : Relocation K V) : Type 0 where
   pub place : IsRecordStart v.records.log.bits v.records.record_size x.target
   pub frozen : x.target < v.records.log.regions.offsets.safe_read_only
   pub issued : x.target ≤ cleared

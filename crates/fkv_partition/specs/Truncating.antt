@@ -5,22 +5,22 @@ use Rattle.fkv_functions.specs.declared.refusals.Refused.TheVariants.{NotDue}
 use Rattle.fkv_records.specs.Places.{start_at}
 use Rattle.fkv_lookups.specs.RecordsViews.{truncated}
 use Rattle.fkv_hybrid.specs.Views.{IsTruncationDue}
-use Rattle.fkv_partition.specs.Views.{PartitionView, with_core}
+use Rattle.fkv_partition.specs.Views.{PartitionView}
 
 -- Begin may move to the start of a page where it rises, no higher than Head, and nothing above is dropped that is not
 -- cleared
 pub record IsDue {K V I : Type 0} (v : PartitionView K V I) (page : ℕ) : Type 0 where
-  pub due : IsTruncationDue v.core.records.log page
-  pub cleared : start_at v.core.records.log.bits page ≤ v.cleared
+  pub due : IsTruncationDue v.records.log page
+  pub cleared : start_at v.records.log.bits page ≤ v.cleared
 
 pub data Truncates {K V I : Type 0} (keeps : Bool) (old new : PartitionView K V I) (page now : ℕ)
     (result : Result (Unit {0}) Refused) : Type 0 where
   not_due : ¬ IsDue old page → new ≡ old → result ≡ Err NotDue → Truncates keeps old new page now result
   truncates : IsDue old page
-      → new ≡ with_core old (record old.core {
-        records = truncated keeps old.core.records (start_at old.core.records.log.bits page) new.core.records.text;
+      → new ≡ record old {
+        records = truncated keeps old.records (start_at old.records.log.bits page) new.records.text;
         moment = now;
-      })
+      }
       → result ≡ Ok tt
       → Truncates keeps old new page now result
 

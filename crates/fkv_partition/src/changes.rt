@@ -10,21 +10,24 @@ ghost use Rattle.fkv_operations.specs.Classes.{IsClass};
 ghost use Rattle.fkv_lookups.specs.RecordsViews.{class_in, confirmed, released, with_value, IsReplaceable};
 ghost use Rattle.fkv_hybrid.specs.Views.{IsFull};
 ghost use Rattle.fkv_lookups.specs.Payloads.{standing};
-ghost use Rattle.fkv_partition.specs.CoreContexts.{joined, on_key, at_phase, claim_by, claim_at};
-ghost use Rattle.fkv_partition.specs.CoreClaiming.{IsClaimed};
+ghost use Rattle.fkv_partition.specs.Contexts.{joined, on_key, at_phase, claim_by, claim_at};
+ghost use Rattle.fkv_partition.specs.Claiming.{IsClaimed};
 ghost use Rattle.fkv_regions.specs.RegionsView.{left};
-ghost use Rattle.fkv_partition.specs.CoreViews.{context_at, open_context, MovesTo, partition_of, relocated, with_context, with_payload, with_replaced, live_of};
-ghost use Rattle.fkv_partition.specs.CoreSound.{StandsFor};
-ghost use Rattle.fkv_partition.specs.CoreBeginning.{IsEntered};
+ghost use Rattle.fkv_partition.specs.Views.{at_moment, context_at, open_context, MovesTo, partition_of, with_relocation, with_context, with_payload, with_replaced, live_of};
+ghost use Rattle.fkv_partition.specs.KeySound.{StandsFor};
+ghost use Rattle.fkv_partition.specs.KeyBeginning.{IsEntered};
+ghost use Rattle.fkv_partition.specs.Sound.{MayClear};
+ghost use Rattle.fkv_partition.specs.Stages.{RelocationStands};
 ghost use Rattle.fkv_partition.specs.Writes.{IsWrite};
 
 use crate::contexts::{Context, ContextOf, OpenWork, Phase, move_on, set_context};
-use crate::cores::Core;
+use crate::partitions::Partition;
 use crate::relocations::RelocationOf;
 use fkv_device::Receipt;
 use fkv_functions::{Mergeable, Refused};
 use fkv_index::Place;
 use fkv_lookups::Payload;
+use fkv_lookups::clearing::cleared_stay;
 use fkv_lookups::laws::{records_change, records_grow};
 use fkv_operations::{Class, IndexEntry, KeyedOpOf};
 use fkv_records::Address;
@@ -49,12 +52,20 @@ impl<K: Copy, V: Copy> Clone for Write<K, V> {
     }
 }
 
-impl<F: Mergeable, R: Receipt> Core<F, R> {
+impl<F: Mergeable, R: Receipt> Partition<F, R> {
     /// A moment passes, and nothing else changes.
-    pub fn pass(&mut self, now: u64)
-        ensures { self.new ≡ record self.old { moment = now } }
+    pub(crate) fn pass(&mut self, now: u64)
+        ensures { self.new ≡ at_moment self.old now }
     {
         self.moment = now;
+    }
+
+    /// Clears up to an address, where that may be. Nothing else changes.
+    pub(crate) fn clear_to(&mut self, address: Address)
+        requires clears { MayClear R.keeps F.Key.cmp self.old address }
+        ensures { self.new ≡ record self.old { cleared = address } }
+    {
+        self.cleared = address;
     }
 
     /// Frees a context, where what is open there, if anything, waits to confirm no entry.
@@ -106,7 +117,8 @@ impl<F: Mergeable, R: Receipt> Core<F, R> {
         requires entered { IsEntered self.old slot }
         requires context { context < 8 }
         requires keyless { on_key (joined (slice_get self.old.contexts (slot * 8 + context))) ≡ None }
-        ensures { self.new ≡ relocated self.old slot context (Some relocation) now }
+        requires stands { RelocationStands R.keeps F.Key.cmp F.parts.joined F.code self.old self.old.cleared relocation }
+        ensures { self.new ≡ with_relocation self.old slot context (Some relocation) now }
     {
         self.moment = now;
         set_context(
@@ -167,6 +179,7 @@ impl<F: Mergeable, R: Receipt> Core<F, R> {
         ensures { self.new ≡ with_replaced self.old slot context address value now }
     {
         records_change::<F::Key, F::Value>();
+        cleared_stay::<F::Key, F::Value>();
         self.records.known();
         self.records.replace(address, value);
         self.records.known();
@@ -181,6 +194,7 @@ impl<F: Mergeable, R: Receipt> Core<F, R> {
         ensures { self.new ≡ record self.old { records = with_value self.old.records address (Some value); moment = now } }
     {
         records_change::<F::Key, F::Value>();
+        cleared_stay::<F::Key, F::Value>();
         self.records.known();
         self.records.replace(address, Some(value));
         self.records.known();
@@ -273,7 +287,7 @@ impl<F: Mergeable, R: Receipt> Core<F, R> {
     /// Appends a record, moves the entry of its class to it, and frees the context, whose operation waits to confirm no
     /// entry. Answers the record's address, or `None` where there is no room for one: then a moment passes, and nothing
     /// else changes. Refused, and then nothing changes: `Worn` where no address is left.
-    pub fn append(
+    pub(crate) fn append(
         &mut self,
         slot: usize,
         context: usize,
@@ -294,6 +308,7 @@ impl<F: Mergeable, R: Receipt> Core<F, R> {
         ensures unchanged { OnErr result (self.new ≡ self.old) }
     {
         records_grow::<F::Key, F::Value>();
+        cleared_stay::<F::Key, F::Value>();
         match self.records.append(write.entry, write.key, write.payload) {
             Err(refused) => return Err(refused),
             Ok(None) => {

@@ -3,8 +3,7 @@ ghost use Rattle.std.specs.Prelude.{◌≡◌, ◌≢◌, ◌<◌, ◌≤◌, Is
 ghost use Rattle.fkv_texts.specs.Text.{entry_at};
 ghost use Rattle.fkv_index.specs.Words.{address_of};
 ghost use Rattle.fkv_lookups.specs.RecordsViews.{class_in, IsEntryOf};
-ghost use Rattle.fkv_partition.specs.CoreViews.{partition_of, found_for, entry_for};
-ghost use Rattle.fkv_partition.specs.Views.{relocation_at};
+ghost use Rattle.fkv_partition.specs.Views.{partition_of, found_for, entry_for, relocation_at};
 ghost use Rattle.fkv_partition.specs.Relocating.{IsRelocating};
 ghost use Rattle.fkv_partition.specs.Checking.{ChecksLiveness};
 
@@ -28,32 +27,32 @@ impl<F: Mergeable, R: Receipt> Partition<F, R> {
         functions: &F,
         now: u64,
     ) -> Result<ProgressOf<F, R>, Refused>
-        requires later { self.old.core.moment < now }
+        requires later { self.old.moment < now }
         requires session { slot < 16 }
         requires context { context < 8 }
         requires here { relocation_at self.old slot context ≡ Some relocation.now }
         requires stands { entry.address ≡ relocation.now.target }
-        requires begun { self.old.core.records.log.begin ≤ relocation.now.target }
-        requires is { IsTrue R.keeps → entry_at self.old.core.records.log.text relocation.now.target ≡ Some entry }
+        requires begun { self.old.records.log.begin ≤ relocation.now.target }
+        requires is { IsTrue R.keeps → entry_at self.old.records.log.text relocation.now.target ≡ Some entry }
         ensures effect { ChecksLiveness R.stands F.Key.cmp F.parts.joined F.code self.old self.new slot context relocation.now entry now
             result }
         ensures event { IfOk result (λ _. IsRelocating R.keeps F.Key.cmp self.old self.new slot context now) }
         ensures cleared { result ≡ Ok (Progress.Done Answer.Cleared now) → relocation.now.target < self.new.cleared }
         ensures unchanged { OnErr result (self.new ≡ self.old) }
-        ensures moment { self.new.core.moment ≤ now }
+        ensures moment { self.new.moment ≤ now }
     {
         self.known();
         let target = relocation.target;
-        let home = self.core.home(functions, &entry.key);
+        let home = self.home(functions, &entry.key);
         if entry.value.is_none() {
             self.finish(slot, context, target, now);
             return Ok(Progress::Done(Answer::Cleared, now));
         }
-        if home != self.core.number() {
+        if home != self.number() {
             self.finish(slot, context, target, now);
             return Ok(Progress::Done(Answer::Cleared, now));
         }
-        let (_class, found) = self.core.find(functions, &entry.key);
+        let (_class, found) = self.find(functions, &entry.key);
         match found {
             None => {
                 self.finish(slot, context, target, now);
@@ -75,32 +74,30 @@ impl<F: Mergeable, R: Receipt> Partition<F, R> {
         functions: &F,
         now: u64,
     ) -> Result<ProgressOf<F, R>, Refused>
-        requires later { self.old.core.moment < now }
+        requires later { self.old.moment < now }
         requires session { slot < 16 }
         requires context { context < 8 }
         requires here { relocation_at self.old slot context ≡ Some relocation.now }
         requires stands { entry.address ≡ relocation.now.target }
-        requires begun { self.old.core.records.log.begin ≤ relocation.now.target }
-        requires is { IsTrue R.keeps → entry_at self.old.core.records.log.text relocation.now.target ≡ Some entry }
+        requires begun { self.old.records.log.begin ≤ relocation.now.target }
+        requires is { IsTrue R.keeps → entry_at self.old.records.log.text relocation.now.target ≡ Some entry }
         requires some { entry.value ≢ None }
-        requires own { partition_of self.old.core.count (F.code entry.key) ≡ self.old.core.number }
-        requires found { found_for F.code self.old.core entry.key ≡ Some kept }
-        requires leads { entry_for F.code self.old.core entry.key ≡ Some (address_of kept.word) }
-        requires entry_stands { IsEntryOf self.old.core.records
-            (class_in F.code self.old.core.records entry.key) kept }
+        requires own { partition_of self.old.count (F.code entry.key) ≡ self.old.number }
+        requires found { found_for F.code self.old entry.key ≡ Some kept }
+        requires leads { entry_for F.code self.old entry.key ≡ Some (address_of kept.word) }
+        requires entry_stands { IsEntryOf self.old.records
+            (class_in F.code self.old.records entry.key) kept }
         ensures effect { ChecksLiveness R.stands F.Key.cmp F.parts.joined F.code self.old self.new slot context relocation.now entry now
             result }
         ensures event { IfOk result (λ _. IsRelocating R.keeps F.Key.cmp self.old self.new slot context now) }
         ensures cleared { result ≡ Ok (Progress.Done Answer.Cleared now) → relocation.now.target < self.new.cleared }
         ensures unchanged { OnErr result (self.new ≡ self.old) }
-        ensures moment { self.new.core.moment ≤ now }
+        ensures moment { self.new.moment ≤ now }
     {
         self.known();
         let target = relocation.target;
-        let low = higher_of(target + 1, self.core.lowest(slot));
-        let came = self
-            .core
-            .reach(functions, slot, &entry.key, low, Some(kept.address()));
+        let low = higher_of(target + 1, self.lowest(slot));
+        let came = self.reach(functions, slot, &entry.key, low, Some(kept.address()));
         match liveness_of(target, &came) {
             Liveness::Superseded => {
                 self.finish(slot, context, target, now);
@@ -112,7 +109,7 @@ impl<F: Mergeable, R: Receipt> Partition<F, R> {
             }
             Liveness::Further(wanted, parts) => {
                 let loading = Loading {
-                    begin: self.core.records().begin(),
+                    begin: self.records().begin(),
                     kept,
                     wanted,
                     parts,

@@ -1,6 +1,6 @@
 //! The open operations of a partition: how far each is, and what an event of it answers.
 ghost use Rattle.std.specs.Prelude.{◌≡◌, ⊤, ◌+◌, ◌*◌, ◌<◌, ◌≤◌, ◌⊎◌, ◌↔◌, length, Option, Some, None, IfSome, IfNone, cond, nat_lt, slice_get, slice_range, slice_set, position, is_none, is_some, IsTrue};
-ghost use Rattle.fkv_partition.specs.CoreContexts.{joined, on_key, relocating, at_phase, question_in, claim_by, loading_by};
+ghost use Rattle.fkv_partition.specs.Contexts.{joined, on_key, relocating, at_phase, question_in, claim_by, loading_by};
 
 use crate::relocations::Relocation;
 use fkv_device::Receipt;

@@ -3,18 +3,18 @@ ghost use Rattle.std.specs.Prelude.{◌≡◌, ◌<◌, ◌≤◌, IsSome, Optio
 ghost use Rattle.fkv_operations.specs.After.{key_of};
 ghost use Rattle.fkv_lookups.specs.RecordsViews.{class_in, IsEntryOf};
 ghost use Rattle.fkv_texts.specs.Text.{entry_at, last_of};
-ghost use Rattle.fkv_partition.specs.CoreContexts.{question_in, claim_by, loading_by};
-ghost use Rattle.fkv_partition.specs.CoreViews.{context_at, found_for};
+ghost use Rattle.fkv_partition.specs.Contexts.{question_in, claim_by, loading_by};
+ghost use Rattle.fkv_partition.specs.Views.{context_at, found_for};
 ghost use Rattle.fkv_partition.specs.Writes.{IsWrite};
-ghost use Rattle.fkv_partition.specs.CoreGoing.{Decides, IsDecided, Goes};
-ghost use Rattle.fkv_partition.specs.CoreEffect.{IsEvent};
+ghost use Rattle.fkv_partition.specs.KeyGoing.{Decides, IsDecided, Goes};
+ghost use Rattle.fkv_partition.specs.KeyEffect.{IsEvent};
 
 use crate::changes::Write;
 use crate::contexts::{
     ContextOf, Loading, Phase, Progress, ProgressOf, Wait, claim_of, loading_of, question_of,
 };
-use crate::cores::Core;
 use crate::looking::address_of;
+use crate::partitions::Partition;
 use fkv_device::Receipt;
 use fkv_functions::{Ask, Mergeable, Refused};
 use fkv_index::Place;
@@ -24,7 +24,7 @@ use fkv_operations::{AnswerOf, IndexEntry};
 use fkv_records::Address;
 use fkv_texts::{ChainPosition, Entry};
 
-impl<F: Mergeable, R: Receipt> Core<F, R> {
+impl<F: Mergeable, R: Receipt> Partition<F, R> {
     /// Goes on with an operation: it looks its key up, and what it meets decides. A read is finished with
     /// its answer, and a delete of a key without a value. A write of a class without an entry makes a tentative one
     /// and answers `Next`; the next call confirms it, or takes it back where another entry of its tag stands in the
@@ -39,7 +39,7 @@ impl<F: Mergeable, R: Receipt> Core<F, R> {
     /// in this order, and then nothing changes: `Unknown` where no operation is open there; `NotReady` where it waits
     /// for a page; `Worn` where a record is to be appended and no address is left; `NoMemory` where an entry is to be
     /// made and no place of its bucket is empty, or where the receipt of a page can't be shared.
-    pub fn go(
+    pub(crate) fn go_on_key(
         &mut self,
         slot: usize,
         context: usize,

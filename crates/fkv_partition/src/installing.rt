@@ -1,21 +1,21 @@
 //! How a built value becomes the key's.
 ghost use Rattle.std.specs.Prelude.{◌≡◌, ◌<◌, ◌≤◌, Some, IsTrue, IfOk, OnErr};
 ghost use Rattle.fkv_index.specs.Places.{word_at};
-ghost use Rattle.fkv_partition.specs.CoreContexts.{question_in};
-ghost use Rattle.fkv_partition.specs.CoreViews.{context_at};
-ghost use Rattle.fkv_partition.specs.CoreInstalling.{Asks, Installs};
-ghost use Rattle.fkv_partition.specs.CoreEffect.{IsEvent};
+ghost use Rattle.fkv_partition.specs.Contexts.{question_in};
+ghost use Rattle.fkv_partition.specs.Views.{context_at};
+ghost use Rattle.fkv_partition.specs.KeyInstalling.{Asks, Installs};
+ghost use Rattle.fkv_partition.specs.KeyEffect.{IsEvent};
 
 use crate::changes::Write;
 use crate::contexts::{Phase, Progress, ProgressOf, Wait, question_of};
-use crate::cores::Core;
+use crate::partitions::Partition;
 use fkv_device::Receipt;
 use fkv_functions::{Built, Functions, Mergeable, Refused, What};
 use fkv_lookups::Payload;
 use fkv_lookups::laws::{entries_lead, records_grow};
 use fkv_operations::{Answer, IndexEntry};
 
-impl<F: Mergeable, R: Receipt> Core<F, R> {
+impl<F: Mergeable, R: Receipt> Partition<F, R> {
     /// Appends what was built for an update, where the place of its key's entry still holds the word that it held when
     /// the update asked; else the update is to look again, and the answer is `Next`. Where the functions decline the
     /// update, it is done and nothing is appended. Refused, in this order, and then
@@ -23,7 +23,7 @@ impl<F: Mergeable, R: Receipt> Core<F, R> {
     /// to be built, `Stranger` where this answers another question; where it does, `Worn`
     /// where no address is left. Where there is no room for a record, the answer is `Waits`, and the update stays as it
     /// is.
-    pub fn install(
+    pub(crate) fn install_on_key(
         &mut self,
         slot: usize,
         context: usize,

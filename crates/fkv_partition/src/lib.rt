@@ -1,9 +1,9 @@
 //! Partitions: every event of a store on one thread, relocations among the operations.
 //!
 //! A [`Partition`] has the sessions and operations of one part of a store's keys. A contract sees it (`specs/Views.antt`) as
-//! its core, which has the records and the operations on keys, what is cleared, and the relocations that are open. What an
-//! event does is one relation an event (`specs/Events.antt`); its effect on the live map, on what the contexts ask and on
-//! look-ups that wait for a page stands in `specs/Effect.antt`.
+//! its records, what is open in the contexts of its sessions, and what is cleared. What an event does is one relation an event
+//! (`specs/Events.antt`); its effect on the live map, on what the contexts ask and on look-ups that wait for a page stands in
+//! `specs/Effect.antt`.
 //!
 //! A relocation is an operation without a key. It takes the lowest address that is not cleared; the record there is read, in
 //! memory or from the device, and the chain of its key's class is followed from the entry of the class down to it. Where a
@@ -16,17 +16,12 @@
 mod asking;
 mod changes;
 mod checking;
-mod clearing;
 pub mod contexts;
-mod core_laws;
-mod core_reading;
-mod core_updating;
-mod cores;
 mod ending;
 mod flushing;
 mod going;
 mod installing;
-mod keyed;
+mod issuing;
 pub mod laws;
 pub mod limits;
 mod listing;
@@ -35,18 +30,21 @@ mod looking;
 pub mod operations;
 pub mod pages;
 pub mod partitions;
+mod pending_laws;
 mod places;
 mod preserving;
 mod reading;
+mod reading_at_once;
 mod regions;
 mod relocating;
 pub mod relocations;
 pub mod sessions;
 pub mod updating;
+mod updating_at_once;
 
 pub use contexts::{Progress, ProgressOf, Wait};
-pub use core_laws::pendings_stay;
 pub use limits::{Config, kept_page, read_only_page};
 pub use listing::pairs_of;
 pub use partitions::Partition;
+pub use pending_laws::pendings_stay;
 pub use relocations::{Liveness, Relocation, Stage};

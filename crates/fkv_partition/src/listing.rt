@@ -7,9 +7,9 @@ ghost use Rattle.fkv_functions.specs.Plain.{Same};
 ghost use Rattle.fkv_records.specs.Places.{page_at};
 ghost use Rattle.fkv_hybrid.specs.Scans.{IsScanRefusal, MayFail};
 ghost use Rattle.fkv_lookups.specs.Overlays.{with_text, HasFront};
-ghost use Rattle.fkv_partition.specs.CoreViews.{live_of, partition_of, IsBare};
+ghost use Rattle.fkv_partition.specs.Views.{live_of, partition_of, IsBare};
 
-use crate::cores::Core;
+use crate::partitions::Partition;
 use fkv_device::{PageReader, Receipt};
 use fkv_functions::{Mergeable, Refused};
 use std::alloc::Global;
@@ -32,7 +32,7 @@ pub fn pairs_of<K: Ord + Copy + Drop, V: Copy + Drop>(
     Ok(pairs)
 }
 
-impl<F: Mergeable, R: Receipt> Core<F, R> {
+impl<F: Mergeable, R: Receipt> Partition<F, R> {
     /// Puts the live map into a map in which no key of this partition has a value: each key that has a record gets its value
     /// there, none where it is gone, and the others stay. Flushed pages are read from the device, each once, the others from their frames. On a device that keeps all
     /// keys with a record belong to this partition. Refused: `NoMemory`, or as the device refuses a flushed page; `Damaged`
@@ -64,7 +64,7 @@ impl<F: Mergeable, R: Receipt> Core<F, R> {
         self.records.put_live(functions, reader, map)
     }
 
-    /// The live map: each live key with its value, keys rising. It is read as [`Core::put_live`] reads it. Refused:
+    /// The live map: each live key with its value, keys rising. It is read as [`Partition::put_live`] reads it. Refused:
     /// as there.
     pub fn live<P: PageReader<Receipt = R>>(
         &self,

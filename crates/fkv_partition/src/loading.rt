@@ -8,14 +8,14 @@ ghost use Rattle.fkv_hybrid.specs.Scans.{MayFail};
 ghost use Rattle.fkv_operations.specs.After.{key_of, shown_of};
 ghost use Rattle.fkv_operations.specs.declared.operations.KeyedOp.TheVariants.{Read, Rmw};
 ghost use Rattle.fkv_partition.specs.declared.contexts.Phase.TheVariants.{Prepared, Load};
-ghost use Rattle.fkv_partition.specs.CoreContexts.{at_phase};
-ghost use Rattle.fkv_partition.specs.CoreLoading.{AwaitsPage, MayLoad, Loads, WaitsFor, LoadsBy};
-ghost use Rattle.fkv_partition.specs.CoreSound.{IsKept, IsLoading};
-ghost use Rattle.fkv_partition.specs.CoreEffect.{IsLoaded};
-ghost use Rattle.fkv_partition.specs.CoreViews.{with_context};
+ghost use Rattle.fkv_partition.specs.Contexts.{at_phase};
+ghost use Rattle.fkv_partition.specs.KeyLoading.{AwaitsPage, MayLoad, Loads, WaitsFor, LoadsBy};
+ghost use Rattle.fkv_partition.specs.KeySound.{IsKept, IsLoading};
+ghost use Rattle.fkv_partition.specs.KeyEffect.{IsLoaded};
+ghost use Rattle.fkv_partition.specs.Views.{with_context};
 
 use crate::contexts::{ContextOf, Loading, Phase, Progress, ProgressOf, loading_of};
-use crate::cores::Core;
+use crate::partitions::Partition;
 use fkv_device::{Loaded, PageReader, Receipt};
 use fkv_functions::{Ask, Mergeable, Refused};
 use fkv_lookups::chain_results::onto;
@@ -35,7 +35,7 @@ pub fn is_no_memory(refused: &Refused) -> bool
     }
 }
 
-impl<F: Mergeable, R: Receipt> Core<F, R> {
+impl<F: Mergeable, R: Receipt> Partition<F, R> {
     /// Goes on with an operation that waits for a page, with that page as a device gave it, or with the refusal that came
     /// in its place. Where Begin has moved since the look-up the operation is to look again, whatever came, and the answer
     /// is `Next`. Else the records of the page are followed along the key's class, and the parts of the key's deltas are
@@ -46,7 +46,7 @@ impl<F: Mergeable, R: Receipt> Core<F, R> {
     /// one that is kept of it; `Damaged` where its bytes spell no record on the way, or lead to no place, which ends the
     /// operation too; `NoMemory` where the receipt of the next page can't be shared. A refusal that ends no operation
     /// changes nothing.
-    pub fn load(
+    pub(crate) fn load_on_key(
         &mut self,
         slot: usize,
         context: usize,
@@ -86,12 +86,12 @@ impl<F: Mergeable, R: Receipt> Core<F, R> {
         }
     }
 
-    /// Goes on with an operation that waits for a page, as [`Core::load`] does, with the page that is read here, by the
+    /// Goes on with an operation that waits for a page, as [`Partition::load_on_key`] does, with the page that is read here, by the
     /// receipt that is kept of it: so the page is the one that was asked for, and is compared with none. Where nothing is
     /// open there, the operation waits for no page, or Begin has moved, nothing is read. Refused as `load` is, but never by
     /// `Stranger`; and by what the reader tells, and `NoMemory` where the receipt can't be shared: then nothing changes, and
     /// the page may be asked for again.
-    pub fn load_by<P: PageReader<Receipt = R>>(
+    pub(crate) fn load_by_on_key<P: PageReader<Receipt = R>>(
         &mut self,
         slot: usize,
         context: usize,
@@ -136,7 +136,7 @@ impl<F: Mergeable, R: Receipt> Core<F, R> {
     }
 
     /// Reads a flushed page by the receipt that is kept of it. Refused: `NoMemory`, or as the reader tells.
-    pub fn read<P: PageReader<Receipt = R>>(
+    pub(crate) fn read<P: PageReader<Receipt = R>>(
         &self,
         reader: &mut P,
         page: u64,

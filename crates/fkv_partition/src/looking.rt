@@ -7,17 +7,14 @@ ghost use Rattle.fkv_texts.specs.declared.entries.Entry.{Entry};
 ghost use Rattle.fkv_lookups.specs.Decisions.{decision, low_of};
 ghost use Rattle.fkv_operations.specs.Classes.{IsClass};
 ghost use Rattle.fkv_lookups.specs.RecordsViews.{class_in, IsEntryOf};
-ghost use Rattle.fkv_partition.specs.CoreContexts.{is_session, joined, relocating};
-ghost use Rattle.fkv_partition.specs.CoreBeginning.{IsEntered};
-ghost use Rattle.fkv_partition.specs.CoreViews.{MayNeedPage, context_at, entry_for, found_for, newest_in_memory, met_at, open_context, partition_of, relocation_in, reached_from, seen_at, slots_of};
-ghost use Rattle.fkv_partition.specs.CoreSound.{IsSound};
+ghost use Rattle.fkv_partition.specs.Contexts.{is_session, joined, relocating};
+ghost use Rattle.fkv_partition.specs.KeyBeginning.{IsEntered};
+ghost use Rattle.fkv_partition.specs.Views.{MayNeedPage, context_at, entry_for, found_for, newest_in_memory, met_at, open_context, partition_of, relocation_at, reached_from, seen_at, slots_of};
 
 use crate::contexts::{
-    ContextOf, holds_relocation, is_vacant, open_context, operation_at, relocating_context,
-    relocation_at,
+    ContextOf, holds_relocation, open_context, operation_at, relocating_context,
 };
-use crate::cores::Core;
-use crate::relocations::RelocationOf;
+use crate::partitions::Partition;
 use fkv_device::Receipt;
 use fkv_functions::{Functions, Mergeable};
 use fkv_lookups::decisions::blind;
@@ -40,25 +37,9 @@ pub(crate) fn address_of(entry: &Option<IndexEntry>) -> Option<Address>
     }
 }
 
-impl<F: Mergeable, R: Receipt> Core<F, R> {
-    /// What holds of every partition. It does nothing when it runs.
-    pub fn known(&self)
-        ensures { IsSound R.keeps F.Key.cmp F.parts.joined F.code self.now }
-    {
-        let _moment = self.moment;
-    }
-
-    /// Whether the functions merge.
-    pub fn merges(&self) -> bool
-        ensures value { result ≡ self.now.merges }
-        ensures functions { result ≡ F.MERGES }
-    {
-        let _moment = self.moment;
-        F::MERGES
-    }
-
+impl<F: Mergeable, R: Receipt> Partition<F, R> {
     /// Whether an operation is a merge, and the functions don't merge.
-    pub fn lacks_merges(&self, op: &KeyedOpOf<F>) -> bool
+    pub(crate) fn lacks_merges(&self, op: &KeyedOpOf<F>) -> bool
         ensures lacks { OnTrue result ((is_merge op.now ≡ true) × (self.now.merges ≡ false)) }
         ensures merges { OnFalse result (is_merge op.now ≡ true → self.now.merges ≡ true) }
     {
@@ -67,7 +48,7 @@ impl<F: Mergeable, R: Receipt> Core<F, R> {
     }
 
     /// The operation that is open in a context.
-    pub fn open(&self, slot: usize, context: usize) -> Option<ContextOf<F>>
+    pub(crate) fn open(&self, slot: usize, context: usize) -> Option<ContextOf<F>>
         ensures value { result ≡ context_at self.now slot context }
         ensures session { IfSome result (λ _. slot < 16) }
         ensures context { IfSome result (λ _. context < 8) }
@@ -78,21 +59,9 @@ impl<F: Mergeable, R: Receipt> Core<F, R> {
         operation_at(&self.contexts, slot, context)
     }
 
-    /// The relocation that is open in a context.
-    pub fn relocation(&self, slot: usize, context: usize) -> Option<RelocationOf<F>>
-        ensures value { result ≡ relocation_in self.now slot context }
-        ensures session { IfSome result (λ _. slot < 16) }
-        ensures context { IfSome result (λ _. context < 8) }
-    {
-        if !self.records.is_entered(slot) {
-            return None;
-        }
-        relocation_at(&self.contexts, slot, context)
-    }
-
     /// Whether a relocation is open in a context.
-    pub fn holds_relocation(&self, slot: usize, context: usize) -> bool
-        ensures { result ≡ is_some (relocation_in self.now slot context) }
+    pub(crate) fn is_relocating(&self, slot: usize, context: usize) -> bool
+        ensures { result ≡ is_some (relocation_at self.now slot context) }
     {
         if !self.records.is_entered(slot) {
             return false;
@@ -101,24 +70,15 @@ impl<F: Mergeable, R: Receipt> Core<F, R> {
     }
 
     /// The lowest context of a slot in which a relocation stands.
-    pub fn first_relocation(&self, slot: usize) -> Option<usize>
+    pub(crate) fn first_relocation(&self, slot: usize) -> Option<usize>
         requires { slot < 16 }
         ensures { result ≡ position (λ o. is_some (relocating o)) (slice_range self.now.contexts (slot * 8) (slot * 8 + 8)) }
     {
         relocating_context(&self.contexts, slot)
     }
 
-    /// Whether nothing stands in a context of a slot.
-    pub fn is_vacant(&self, slot: usize, context: usize) -> bool
-        requires session { slot < 16 }
-        requires context { context < 8 }
-        ensures { IsTrue result ↔ (joined (slice_get self.now.contexts (slot * 8 + context)) ≡ None) }
-    {
-        is_vacant(&self.contexts, slot, context)
-    }
-
     /// Whether a slot is that of a session.
-    pub fn is_session(&self, slot: usize) -> bool
+    pub(crate) fn is_session(&self, slot: usize) -> bool
         ensures value { result ≡ is_session (slots_of self.now) slot }
         ensures within { IsTrue result → slot < 16 }
     {
@@ -134,7 +94,7 @@ impl<F: Mergeable, R: Receipt> Core<F, R> {
     }
 
     /// The number of the partition to which a key belongs.
-    pub fn home(&self, functions: &F, key: &F::Key) -> u64
+    pub(crate) fn home(&self, functions: &F, key: &F::Key) -> u64
         ensures { result ≡ partition_of self.now.count (F.code key.now) }
     {
         self.known();
@@ -142,7 +102,7 @@ impl<F: Mergeable, R: Receipt> Core<F, R> {
     }
 
     /// The class of a key, and its final entry.
-    pub fn find(&self, functions: &F, key: &F::Key) -> (Class, Option<IndexEntry>)
+    pub(crate) fn find(&self, functions: &F, key: &F::Key) -> (Class, Option<IndexEntry>)
         ensures class { result.0 ≡ class_in F.code self.now.records key.now }
         ensures range { IsClass self.now.records.bucket_bits result.0 }
         ensures entry { result.1 ≡ found_for F.code self.now key.now }
@@ -186,24 +146,8 @@ impl<F: Mergeable, R: Receipt> Core<F, R> {
         }
     }
 
-    /// Whether a session is entered at a slot and the last record of a key that it reads in memory, if any, has no value of the
-    /// key: it is a delta, or the records of the key's class go on in a page on the device. Then an update of the key reads a
-    /// page, or collects parts, down to a page, it may be.
-    pub fn may_need_page(&self, slot: usize, functions: &F, key: &F::Key) -> bool
-        ensures { IsTrue result ↔ MayNeedPage F.Key.cmp F.code self.now slot key.now }
-    {
-        if !self.is_session(slot) {
-            return false;
-        }
-        let entry = self.entry_address(functions, key);
-        match self.newest_in_memory(slot, key, entry) {
-            ChainPosition::Found(newest) => newest.delta,
-            ChainPosition::Below(address) => self.records.begin() <= address,
-        }
-    }
-
     /// The lowest address that the session at a slot reads in memory.
-    pub fn lowest(&self, slot: usize) -> Address
+    pub(crate) fn lowest(&self, slot: usize) -> Address
         requires { IsEntered self.now slot }
         ensures value { result ≡ low_of self.now.records.log.begin (seen_at self.now slot) }
         ensures begin { self.now.records.log.begin ≤ result }
@@ -213,9 +157,9 @@ impl<F: Mergeable, R: Receipt> Core<F, R> {
         low_of(self.records.begin(), &view)
     }
 
-    /// What a look-up of a key comes to in memory, no lower than an address that a session reads there ([`Core::lowest`]), by
+    /// What a look-up of a key comes to in memory, no lower than an address that a session reads there ([`Partition::lowest`]), by
     /// the address to which the entry of the key's class leads.
-    pub fn reach(
+    pub(crate) fn reach(
         &self,
         functions: &F,
         slot: usize,

@@ -1,4 +1,4 @@
-//! Operations: on keys, which are the core's, and relocations. Each stands in a context of a session from its issue on, and
+//! Operations: on keys, and relocations. Each stands in a context of a session from its issue on, and
 //! goes on by events of its own session.
 ghost use Rattle.std.specs.Prelude.{◌≡◌, ◌≢◌, ◌+◌, ◌<◌, ◌≤◌, ◌⊎◌, ℕ, IsTrue, None, Ok, Err, IfOk, IfErr, IfSome, IsSome, OnOk, OnErr};
 ghost use Rattle.fkv_hybrid.specs.Loads.{IsHeldBy};
@@ -7,7 +7,7 @@ ghost use Rattle.fkv_hybrid.specs.Scans.{MayFail};
 ghost use Rattle.fkv_operations.specs.declared.operations.Answer.TheVariants.{Cleared};
 ghost use Rattle.fkv_operations.specs.declared.operations.Op.TheVariants.{Relocate};
 ghost use Rattle.fkv_partition.specs.declared.contexts.Progress.TheVariants.{Done};
-ghost use Rattle.fkv_partition.specs.CoreEffect as key_effect;
+ghost use Rattle.fkv_partition.specs.KeyEffect as key_effect;
 ghost use Rattle.fkv_partition.specs.Pending.{AllPend, OthersPend};
 ghost use Rattle.fkv_partition.specs.Views.{relocation_at};
 ghost use Rattle.fkv_partition.specs.Effect.{IsIssue, IsEvent, IsLoad, IsGiveUp, Finds};
@@ -16,8 +16,9 @@ ghost use Rattle.fkv_partition.specs.Reading.{WaitsOn};
 ghost use Rattle.fkv_partition.specs.Events.{Issues, Goes, Installs, Loads, LoadsBy, WaitsFor, GivesUp};
 
 use crate::contexts::ProgressOf;
-use crate::core_laws::{loads_end, pendings_stay};
 use crate::partitions::Partition;
+use crate::pending_laws::{loads_end, pendings_stay};
+use crate::preserving::{loads_preserve_sessions, sessions_preserved};
 use fkv_device::{Loaded, PageReader, Receipt};
 use fkv_functions::{Built, Mergeable, Refused};
 use fkv_operations::OpOf;
@@ -35,15 +36,15 @@ impl<F: Mergeable, R: Receipt> Partition<F, R> {
         functions: &F,
         now: u64,
     ) -> Result<usize, Refused>
-        requires later { self.old.core.moment < now }
+        requires later { self.old.moment < now }
         ensures effect { Issues F.code self.old self.new slot op now result }
         ensures event { IfOk result (λ context. IsIssue F.code self.old self.new slot context op now) }
         ensures relocating { op ≡ Relocate → IfOk result (λ context.
             IsRelocating R.keeps F.Key.cmp self.old self.new slot context now) }
-        ensures pends { IsTrue R.keeps → AllPend F.Key.cmp self.old.core self.new.core }
+        ensures pends { IsTrue R.keeps → AllPend F.Key.cmp self.old self.new }
         ensures within { IfOk result (λ context. (slot < 16) × (context < 8)) }
         ensures unchanged { OnErr result (self.new ≡ self.old) }
-        ensures moment { self.new.core.moment ≤ now }
+        ensures moment { self.new.moment ≤ now }
     {
         pendings_stay::<F::Key, F::Value, F::Input, F::Output, R>();
         self.known();
@@ -84,25 +85,26 @@ impl<F: Mergeable, R: Receipt> Partition<F, R> {
         functions: &F,
         now: u64,
     ) -> Result<ProgressOf<F, R>, Refused>
-        requires later { self.old.core.moment < now }
+        requires later { self.old.moment < now }
         ensures effect { Goes R.stands F.Key.cmp F.parts.joined F.meaning F.code self.old self.new slot context now result }
         // of an operation on a key also where the device does not keep
         ensures on_key { relocation_at self.old slot context ≡ None → IfOk result (λ progress.
-            key_effect.IsEvent F.Key.cmp F.meaning self.old.core self.new.core slot context now progress) }
+            key_effect.IsEvent F.Key.cmp F.meaning self.old self.new slot context now progress) }
         // and of a relocation
         ensures relocating { IsSome (relocation_at self.old slot context) → IfOk result (λ _.
             IsRelocating R.keeps F.Key.cmp self.old self.new slot context now) }
         ensures event { IsTrue R.keeps → IfOk result (λ progress.
             IsEvent F.Key.cmp F.meaning self.old self.new slot context now progress) }
-        ensures others { IsTrue R.keeps → OthersPend F.Key.cmp self.old.core self.new.core slot context }
+        ensures others { IsTrue R.keeps → OthersPend F.Key.cmp self.old self.new slot context }
         ensures finds { IsTrue R.keeps → IfOk result (λ progress.
             Finds F.Key.cmp self.old self.new slot context now progress) }
         ensures cleared { result ≡ Ok (Done Cleared now)
             → IfSome (relocation_at self.old slot context) (λ x. x.target < self.new.cleared) }
         ensures within { IfOk result (λ _. (slot < 16) × (context < 8)) }
         ensures unchanged { OnErr result (self.new ≡ self.old) }
-        ensures moment { self.new.core.moment ≤ now }
+        ensures moment { self.new.moment ≤ now }
     {
+        sessions_preserved::<F::Key, F::Value, F::Input, F::Output, R>();
         pendings_stay::<F::Key, F::Value, F::Input, F::Output, R>();
         self.known();
         if self.holds_relocation(slot, context) {
@@ -126,17 +128,18 @@ impl<F: Mergeable, R: Receipt> Partition<F, R> {
         functions: &F,
         now: u64,
     ) -> Result<ProgressOf<F, R>, Refused>
-        requires later { self.old.core.moment < now }
+        requires later { self.old.moment < now }
         ensures effect { Installs F.Key.cmp F.meaning F.code self.old self.new slot context built now result }
         ensures event { IsTrue R.keeps → IfOk result (λ progress.
             IsEvent F.Key.cmp F.meaning self.old self.new slot context now progress) }
-        ensures others { IsTrue R.keeps → OthersPend F.Key.cmp self.old.core self.new.core slot context }
+        ensures others { IsTrue R.keeps → OthersPend F.Key.cmp self.old self.new slot context }
         ensures finds { IsTrue R.keeps → IfOk result (λ progress.
             Finds F.Key.cmp self.old self.new slot context now progress) }
         ensures within { IfOk result (λ _. (slot < 16) × (context < 8)) }
         ensures unchanged { OnErr result (self.new ≡ self.old) }
-        ensures moment { self.new.core.moment ≤ now }
+        ensures moment { self.new.moment ≤ now }
     {
+        sessions_preserved::<F::Key, F::Value, F::Input, F::Output, R>();
         pendings_stay::<F::Key, F::Value, F::Input, F::Output, R>();
         self.known();
         if self.holds_relocation(slot, context) {
@@ -170,7 +173,7 @@ impl<F: Mergeable, R: Receipt> Partition<F, R> {
         functions: &F,
         now: u64,
     ) -> Result<ProgressOf<F, R>, Refused>
-        requires later { self.old.core.moment < now }
+        requires later { self.old.moment < now }
         ensures effect { Loads R.stands (IsEntryIn F.Key.codec F.Value.codec) F.Key.cmp F.parts.joined F.meaning F.code self.old self.new slot context came now result }
         // on a device that keeps, what comes of it is what the look-up was to find
         ensures event { IsTrue R.keeps → IfOk result (λ progress.
@@ -181,12 +184,13 @@ impl<F: Mergeable, R: Receipt> Partition<F, R> {
         // there it finds no damage, and tells only of what came in place of the page
         ensures undamaged { IsTrue R.keeps → (page : ℕ) → result ≡ Err (Refused.Damaged page) → came ≡ Err (Refused.Damaged page) }
         ensures fails { IfErr result (λ _. (self.new ≡ self.old) ⊎ IsGiveUp self.old self.new slot context now) }
-        ensures others { IsTrue R.keeps → OthersPend F.Key.cmp self.old.core self.new.core slot context }
+        ensures others { IsTrue R.keeps → OthersPend F.Key.cmp self.old self.new slot context }
         ensures cleared { result ≡ Ok (Done Cleared now)
             → IfSome (relocation_at self.old slot context) (λ x. x.target < self.new.cleared) }
         ensures within { IfOk result (λ _. (slot < 16) × (context < 8)) }
-        ensures moment { self.new.core.moment ≤ now }
+        ensures moment { self.new.moment ≤ now }
     {
+        loads_preserve_sessions::<F, R>();
         loads_end::<F, R>();
         self.known();
         if self.holds_relocation(slot, context) {
@@ -214,7 +218,7 @@ impl<F: Mergeable, R: Receipt> Partition<F, R> {
         reader: &mut P,
         now: u64,
     ) -> Result<ProgressOf<F, R>, Refused>
-        requires later { self.old.core.moment < now }
+        requires later { self.old.moment < now }
         ensures effect { LoadsBy R.stands (IsEntryIn F.Key.codec F.Value.codec) F.Key.cmp F.parts.joined F.meaning F.code self.old self.new slot context now
             (P.failures reader.old) (P.failures reader.new) result }
         // on a device that keeps, what comes of it is what the look-up was to find
@@ -227,17 +231,18 @@ impl<F: Mergeable, R: Receipt> Partition<F, R> {
         ensures undamaged { IsTrue R.keeps → (page : ℕ) → result ≡ Err (Refused.Damaged page)
             → P.failures reader.new ≡ P.failures reader.old + 1 }
         ensures fails { IfErr result (λ _. (self.new ≡ self.old) ⊎ IsGiveUp self.old self.new slot context now) }
-        ensures others { IsTrue R.keeps → OthersPend F.Key.cmp self.old.core self.new.core slot context }
+        ensures others { IsTrue R.keeps → OthersPend F.Key.cmp self.old self.new slot context }
         ensures cleared { result ≡ Ok (Done Cleared now)
             → IfSome (relocation_at self.old slot context) (λ x. x.target < self.new.cleared) }
         ensures once { P.reads reader.new ≤ P.reads reader.old + 1 }
         ensures unread { ((page : ℕ) → WaitsFor self.old slot context page → ⊥) → reader.new ≡ reader.old }
         // the reader fails only where it may for the receipt that is kept of a page
         ensures caused { P.failures reader.new ≢ P.failures reader.old → (page : ℕ)
-            × MayFail R.stands P.can_fail self.old.core.records.log.receipts self.old.core.records.log.bits page }
+            × MayFail R.stands P.can_fail self.old.records.log.receipts self.old.records.log.bits page }
         ensures within { IfOk result (λ _. (slot < 16) × (context < 8)) }
-        ensures moment { self.new.core.moment ≤ now }
+        ensures moment { self.new.moment ≤ now }
     {
+        loads_preserve_sessions::<F, R>();
         loads_end::<F, R>();
         self.known();
         if self.holds_relocation(slot, context) {
@@ -258,9 +263,9 @@ impl<F: Mergeable, R: Receipt> Partition<F, R> {
         functions: &F,
         now: u64,
     ) -> Result<ProgressOf<F, R>, Refused>
-        requires later { self.old.core.moment < now }
+        requires later { self.old.moment < now }
         requires own { (page : ℕ) → WaitsOn self.old slot context page
-            → IsHeldBy self.old.core.records.log.receipts page (R.stands loaded.receipt) }
+            → IsHeldBy self.old.records.log.receipts page (R.stands loaded.receipt) }
         ensures effect { Loads R.stands (IsEntryIn F.Key.codec F.Value.codec) F.Key.cmp F.parts.joined F.meaning F.code self.old self.new slot context (Ok loaded) now result }
         // on a device that keeps, what comes of it is what the look-up was to find
         ensures event { IsTrue R.keeps → IfOk result (λ progress.
@@ -271,12 +276,13 @@ impl<F: Mergeable, R: Receipt> Partition<F, R> {
         // there it finds no damage
         ensures undamaged { IsTrue R.keeps → (page : ℕ) → result ≢ Err (Refused.Damaged page) }
         ensures fails { IfErr result (λ _. (self.new ≡ self.old) ⊎ IsGiveUp self.old self.new slot context now) }
-        ensures others { IsTrue R.keeps → OthersPend F.Key.cmp self.old.core self.new.core slot context }
+        ensures others { IsTrue R.keeps → OthersPend F.Key.cmp self.old self.new slot context }
         ensures cleared { result ≡ Ok (Done Cleared now)
             → IfSome (relocation_at self.old slot context) (λ x. x.target < self.new.cleared) }
         ensures within { IfOk result (λ _. (slot < 16) × (context < 8)) }
-        ensures moment { self.new.core.moment ≤ now }
+        ensures moment { self.new.moment ≤ now }
     {
+        loads_preserve_sessions::<F, R>();
         loads_end::<F, R>();
         self.known();
         if self.holds_relocation(slot, context) {
@@ -289,14 +295,15 @@ impl<F: Mergeable, R: Receipt> Partition<F, R> {
     /// Gives up what is open in a context: it ends without effect, and its context is free; an entry that it waited to
     /// confirm is taken back. Refused, and then nothing changes: `Unknown` where nothing is open there.
     pub fn give_up(&mut self, slot: usize, context: usize, now: u64) -> Result<(), Refused>
-        requires later { self.old.core.moment < now }
+        requires later { self.old.moment < now }
         ensures effect { GivesUp self.old self.new slot context now result }
         ensures event { OnOk result (IsGiveUp self.old self.new slot context now) }
-        ensures others { OthersPend F.Key.cmp self.old.core self.new.core slot context }
+        ensures others { OthersPend F.Key.cmp self.old self.new slot context }
         ensures within { OnOk result ((slot < 16) × (context < 8)) }
         ensures unchanged { OnErr result (self.new ≡ self.old) }
-        ensures moment { self.new.core.moment ≤ now }
+        ensures moment { self.new.moment ≤ now }
     {
+        sessions_preserved::<F::Key, F::Value, F::Input, F::Output, R>();
         pendings_stay::<F::Key, F::Value, F::Input, F::Output, R>();
         self.known();
         if self.holds_relocation(slot, context) {

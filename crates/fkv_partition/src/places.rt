@@ -5,13 +5,13 @@ ghost use Rattle.fkv_records.specs.Places.{IsRecordStart};
 ghost use Rattle.fkv_texts.specs.declared.entries.Entry.{Entry};
 ghost use Rattle.fkv_texts.specs.Text.{entry_at};
 ghost use Rattle.fkv_texts.specs.Deltas.{IsSuperseded};
-ghost use Rattle.fkv_partition.specs.CoreContexts.{is_session, joined};
-ghost use Rattle.fkv_partition.specs.CoreViews.{slots_of};
-ghost use Rattle.fkv_partition.specs.CoreBeginning.{IsEntered};
-ghost use Rattle.fkv_partition.specs.Views.{at_moment, at_stage, cleared_past, done_at, relocation_at, with_relocation};
+ghost use Rattle.fkv_partition.specs.Contexts.{is_session, joined};
+ghost use Rattle.fkv_partition.specs.Views.{slots_of, at_stage, cleared_past, done_at, relocation_at, with_relocation};
+ghost use Rattle.fkv_partition.specs.KeyBeginning.{IsEntered};
 ghost use Rattle.fkv_partition.specs.Stages.{RelocationStands, StageStands};
 ghost use Rattle.fkv_partition.specs.Beginning.{IsFree, IsFirstOpen};
 
+use crate::contexts::{is_vacant, set_context};
 use crate::partitions::Partition;
 use crate::relocations::{RelocationOf, StageOf, in_stage};
 use fkv_device::Receipt;
@@ -26,7 +26,7 @@ impl<F: Mergeable, R: Receipt> Partition<F, R> {
         requires context { context < 8 }
         ensures { IsTrue result ↔ IsFree self.now slot context }
     {
-        self.core.is_vacant(slot, context)
+        is_vacant(&self.contexts, slot, context)
     }
 
     /// Whether what is open in a context is a relocation.
@@ -34,31 +34,24 @@ impl<F: Mergeable, R: Receipt> Partition<F, R> {
         ensures some { OnTrue result ((x : _) × (relocation_at self.now slot context ≡ Some x)) }
         ensures none { OnFalse result (relocation_at self.now slot context ≡ None) }
     {
-        self.core.holds_relocation(slot, context)
+        self.is_relocating(slot, context)
     }
 
     /// Whether a relocation of a session is open.
     pub(crate) fn has_relocation(&self, slot: usize) -> bool
         ensures { IsTrue result ↔ ((c : ℕ) × (x : _) × (relocation_at self.now slot c ≡ Some x)) }
     {
-        self.core.is_session(slot) && self.core.first_relocation(slot).is_some()
+        self.is_session(slot) && self.first_relocation(slot).is_some()
     }
 
     /// The lowest context of a session in which a relocation is open.
     pub fn open_relocation(&self, slot: usize) -> Option<usize>
         ensures { IsFirstOpen self.now slot result }
     {
-        if !self.core.is_session(slot) {
+        if !self.is_session(slot) {
             return None;
         }
-        self.core.first_relocation(slot)
-    }
-
-    /// A moment passes, and nothing else changes.
-    pub(crate) fn pass(&mut self, now: u64)
-        ensures { self.new ≡ at_moment self.old now }
-    {
-        self.core.pass(now);
+        self.first_relocation(slot)
     }
 
     /// Opens a relocation in a free context.
@@ -71,12 +64,12 @@ impl<F: Mergeable, R: Receipt> Partition<F, R> {
     )
         requires session { slot < 16 }
         requires context { context < 8 }
-        requires entered { IsEntered self.old.core slot }
+        requires entered { IsEntered self.old slot }
         requires free { IsFree self.old slot context }
-        requires stands { RelocationStands R.keeps F.Key.cmp F.parts.joined F.code self.old.core self.old.cleared relocation }
+        requires stands { RelocationStands R.keeps F.Key.cmp F.parts.joined F.code self.old self.old.cleared relocation }
         ensures { self.new ≡ with_relocation self.old slot context (Some relocation) now }
     {
-        self.core.set_relocation(slot, context, relocation, now);
+        self.set_relocation(slot, context, relocation, now);
     }
 
     /// Moves a relocation to another stage.
@@ -91,11 +84,12 @@ impl<F: Mergeable, R: Receipt> Partition<F, R> {
         requires session { slot < 16 }
         requires context { context < 8 }
         requires here { relocation_at self.old slot context ≡ Some relocation.now }
-        requires stands { StageStands R.keeps F.Key.cmp F.parts.joined F.code self.old.core relocation.now.target stage }
+        requires stands { StageStands R.keeps F.Key.cmp F.parts.joined F.code self.old relocation.now.target stage }
         ensures { self.new ≡ with_relocation self.old slot context (Some (at_stage relocation.now stage)) now }
     {
+        self.known();
         let moved = in_stage(relocation, stage);
-        self.core.set_relocation(slot, context, moved, now);
+        self.set_relocation(slot, context, moved, now);
     }
 
     /// Frees the context of a relocation, which has no effect.
@@ -105,16 +99,16 @@ impl<F: Mergeable, R: Receipt> Partition<F, R> {
         requires here { IsSome (relocation_at self.old slot context) }
         ensures { self.new ≡ with_relocation self.old slot context None now }
     {
-        self.core.free(slot, context, now);
+        self.free(slot, context, now);
     }
 
     /// What is cleared once the record at a place is.
     pub(crate) fn past(&self, place: Address) -> Address
-        requires place { IsRecordStart self.now.core.records.log.bits self.now.core.records.record_size place }
+        requires place { IsRecordStart self.now.records.log.bits self.now.records.record_size place }
         ensures { result ≡ cleared_past self.now place }
     {
         if self.cleared <= place {
-            self.core.records().next(place)
+            self.records().next(place)
         } else {
             self.cleared
         }
@@ -126,17 +120,18 @@ impl<F: Mergeable, R: Receipt> Partition<F, R> {
         requires context { context < 8 }
         requires here { IsSome (relocation_at self.old slot context) }
         requires issued { place ≤ self.old.cleared }
-        requires place { IsRecordStart self.old.core.records.log.bits self.old.core.records.record_size place }
-        requires low { place < self.old.core.records.log.tail }
+        requires place { IsRecordStart self.old.records.log.bits self.old.records.record_size place }
+        requires low { place < self.old.records.log.tail }
         requires superseded { IsTrue R.keeps → (e : Entry F.Key F.Value)
-            → entry_at self.old.core.records.log.text place ≡ Some e
-            → IsSuperseded F.Key.cmp self.old.core.records.log.text e }
+            → entry_at self.old.records.log.text place ≡ Some e
+            → IsSuperseded F.Key.cmp self.old.records.log.text e }
         ensures { self.new ≡ done_at self.old slot context place now }
     {
         cleared_stay::<F::Key, F::Value>();
-        self.core.known();
+        self.known();
         let cleared = self.past(place);
-        self.core.free(slot, context, now);
+        self.moment = now;
         self.cleared = cleared;
+        set_context(&mut self.contexts, slot, context, None);
     }
 }

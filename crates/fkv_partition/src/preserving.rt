@@ -14,19 +14,19 @@ ghost use Rattle.fkv_hybrid.specs.Views.{IsTruncationDue};
 ghost use Rattle.fkv_texts.specs.Deltas.{IsCleared};
 ghost use Rattle.fkv_partition.specs.declared.changes.Write.{Write};
 ghost use Rattle.fkv_partition.specs.declared.contexts.Progress.{Progress};
-ghost use Rattle.fkv_partition.specs.CoreContexts.{is_session};
-ghost use Rattle.fkv_partition.specs.CoreViews.{CoreView, slots_of, with_payload};
-ghost use Rattle.fkv_partition.specs.CoreBeginning.{Enters, Issues};
-ghost use Rattle.fkv_partition.specs.CoreEnding.{Leaves, GivesUp};
-ghost use Rattle.fkv_partition.specs.CoreGoing.{Goes};
-ghost use Rattle.fkv_partition.specs.CoreInstalling.{Installs};
-ghost use Rattle.fkv_partition.specs.CoreLooking.{Refreshes, Shifts, Evicts};
-ghost use Rattle.fkv_partition.specs.CoreFlushing.{Flushes};
-ghost use Rattle.fkv_partition.specs.CoreLoading.{Loads};
-ghost use Rattle.fkv_partition.specs.CoreTruncating.{Truncates};
+ghost use Rattle.fkv_partition.specs.Contexts.{is_session};
+ghost use Rattle.fkv_partition.specs.Views.{PartitionView, slots_of, with_payload};
+ghost use Rattle.fkv_partition.specs.KeyBeginning.{Enters, Issues};
+ghost use Rattle.fkv_partition.specs.KeyEnding.{Leaves, GivesUp};
+ghost use Rattle.fkv_partition.specs.KeyGoing.{Goes};
+ghost use Rattle.fkv_partition.specs.KeyInstalling.{Installs};
+ghost use Rattle.fkv_partition.specs.Moves.{Refreshes, Shifts, Evicts};
+ghost use Rattle.fkv_partition.specs.Flushing.{Flushes};
+ghost use Rattle.fkv_partition.specs.KeyLoading.{Loads};
+ghost use Rattle.fkv_partition.specs.Cutting.{Truncates};
 ghost use Rattle.fkv_partition.specs.Writes.{IsWrite};
-ghost use Rattle.fkv_partition.specs.Grown.{IsPreserved, RelocationsStay, AllStay};
-ghost use Rattle.fkv_partition.specs.CoreSound.{IsSound};
+ghost use Rattle.fkv_partition.specs.Grown.{IsPreserved, IsPassedOn, AllStay};
+ghost use Rattle.fkv_partition.specs.KeySound.{IsSound};
 
 use fkv_device::Receipt;
 use fkv_functions::Mergeable;
@@ -37,42 +37,42 @@ use fkv_lookups::laws::{meetings_tell, records_change};
 /// every event; no offset falls, what is frozen stays, and what was cleared is cleared.
 pub fn events_preserve<K, V, I, O, R>()
     ensures goes { (keeps : Bool) (stands : R → Standing) (cmp : K → K → Ordering) (join : V → V → V) (f : Meanings K V I O) (code : K → ℕ)
-        (old new : CoreView K V I) (slot c now : ℕ) (result : Result (Progress K V I O R) Refused)
+        (old new : PartitionView K V I) (slot c now : ℕ) (result : Result (Progress K V I O R) Refused)
         → IsKeyOrder cmp → IsSound keeps cmp join code old
         → Goes stands cmp join f code old new slot c now result
         → IsPreserved keeps cmp join code old new }
     ensures installs { (keeps : Bool) (cmp : K → K → Ordering) (join : V → V → V) (f : Meanings K V I O) (code : K → ℕ)
-        (old new : CoreView K V I) (slot c : ℕ) (ask : Ask K V I) (now : ℕ)
+        (old new : PartitionView K V I) (slot c : ℕ) (ask : Ask K V I) (now : ℕ)
         (result : Result (Progress K V I O R) Refused)
         → IsSound keeps cmp join code old
         → Installs cmp f code old new slot c ask now result
         → IsPreserved keeps cmp join code old new }
-    ensures gives_up { (keeps : Bool) (cmp : K → K → Ordering) (join : V → V → V) (code : K → ℕ) (old new : CoreView K V I)
+    ensures gives_up { (keeps : Bool) (cmp : K → K → Ordering) (join : V → V → V) (code : K → ℕ) (old new : PartitionView K V I)
         (slot c now : ℕ) (result : Result (Unit {0}) Refused)
         → IsSound keeps cmp join code old → GivesUp old new slot c now result → IsPreserved keeps cmp join code old new }
-    ensures issues { (keeps : Bool) (cmp : K → K → Ordering) (join : V → V → V) (code : K → ℕ) (old new : CoreView K V I)
+    ensures issues { (keeps : Bool) (cmp : K → K → Ordering) (join : V → V → V) (code : K → ℕ) (old new : PartitionView K V I)
         (slot c : ℕ) (op : KeyedOp K V I) (now : ℕ)
         → IsSound keeps cmp join code old → Issues code old new slot c op now → IsPreserved keeps cmp join code old new }
-    ensures enters { (keeps : Bool) (cmp : K → K → Ordering) (join : V → V → V) (code : K → ℕ) (old new : CoreView K V I) (now : ℕ)
+    ensures enters { (keeps : Bool) (cmp : K → K → Ordering) (join : V → V → V) (code : K → ℕ) (old new : PartitionView K V I) (now : ℕ)
         (result : Result ℕ Refused)
         → IsSound keeps cmp join code old → Enters old new now result → IsPreserved keeps cmp join code old new }
-    ensures leaves { (keeps : Bool) (cmp : K → K → Ordering) (join : V → V → V) (code : K → ℕ) (old new : CoreView K V I)
+    ensures leaves { (keeps : Bool) (cmp : K → K → Ordering) (join : V → V → V) (code : K → ℕ) (old new : PartitionView K V I)
         (slot now : ℕ) (result : Result (Unit {0}) Refused)
         → IsSound keeps cmp join code old → Leaves keeps old new slot now result → IsPreserved keeps cmp join code old new }
-    ensures refreshes { (keeps : Bool) (cmp : K → K → Ordering) (join : V → V → V) (code : K → ℕ) (old new : CoreView K V I)
+    ensures refreshes { (keeps : Bool) (cmp : K → K → Ordering) (join : V → V → V) (code : K → ℕ) (old new : PartitionView K V I)
         (slot now : ℕ) (result : Result (Unit {0}) Refused)
         → IsSound keeps cmp join code old → Refreshes keeps old new slot now result → IsPreserved keeps cmp join code old new }
-    ensures shifts { (keeps : Bool) (cmp : K → K → Ordering) (join : V → V → V) (code : K → ℕ) (old new : CoreView K V I)
+    ensures shifts { (keeps : Bool) (cmp : K → K → Ordering) (join : V → V → V) (code : K → ℕ) (old new : PartitionView K V I)
         (page now : ℕ) (result : Result (Unit {0}) Refused)
         → IsSound keeps cmp join code old → Shifts keeps old new page now result → IsPreserved keeps cmp join code old new }
-    ensures evicts { (keeps : Bool) (cmp : K → K → Ordering) (join : V → V → V) (code : K → ℕ) (old new : CoreView K V I)
+    ensures evicts { (keeps : Bool) (cmp : K → K → Ordering) (join : V → V → V) (code : K → ℕ) (old new : PartitionView K V I)
         (page now : ℕ) (result : Result (Unit {0}) Refused)
         → IsSound keeps cmp join code old → Evicts keeps old new page now result → IsPreserved keeps cmp join code old new }
-    ensures flushes { (keeps : Bool) (cmp : K → K → Ordering) (join : V → V → V) (code : K → ℕ) (old new : CoreView K V I)
+    ensures flushes { (keeps : Bool) (cmp : K → K → Ordering) (join : V → V → V) (code : K → ℕ) (old new : PartitionView K V I)
         (s : Standing) (bytes : List ℕ) (now : ℕ) (result : Result (Unit {0}) Refused)
         → IsSound keeps cmp join code old → Flushes old new s bytes now result → IsPreserved keeps cmp join code old new }
     // the log's start is cut where all below is cleared
-    ensures truncates { (keeps : Bool) (cmp : K → K → Ordering) (join : V → V → V) (code : K → ℕ) (old new : CoreView K V I)
+    ensures truncates { (keeps : Bool) (cmp : K → K → Ordering) (join : V → V → V) (code : K → ℕ) (old new : PartitionView K V I)
         (page now : ℕ) (result : Result (Unit {0}) Refused)
         → IsKeyOrder cmp → IsSound keeps cmp join code old
         → (IsTrue keeps → IsTruncationDue old.records.log page
@@ -81,7 +81,7 @@ pub fn events_preserve<K, V, I, O, R>()
         → IsSound keeps cmp join code new
         → IsPreserved keeps cmp join code old new }
     // a record is appended behind the entry of its class
-    ensures appends { (keeps : Bool) (cmp : K → K → Ordering) (join : V → V → V) (code : K → ℕ) (v : CoreView K V I) (slot c now : ℕ)
+    ensures appends { (keeps : Bool) (cmp : K → K → Ordering) (join : V → V → V) (code : K → ℕ) (v : PartitionView K V I) (slot c now : ℕ)
         (write : Write K V) (has : Option V)
         → IsSound keeps cmp join code v → IsWrite code v write
         → IsPreserved keeps cmp join code v (with_payload v slot c write.entry write.key write.payload has now) }
@@ -93,7 +93,7 @@ pub fn events_preserve<K, V, I, O, R>()
 
 /// So it is where a page comes: a load changes no record.
 pub fn loads_preserve<F: Mergeable, R: Receipt>()
-    ensures { (keeps : Bool) (code : F.Key → ℕ) (old new : CoreView F.Key F.Value F.Input) (slot c : ℕ)
+    ensures { (keeps : Bool) (code : F.Key → ℕ) (old new : PartitionView F.Key F.Value F.Input) (slot c : ℕ)
         (came : Result (Joined R) Refused) (now : ℕ)
         (result : Result (Progress F.Key F.Value F.Input F.Output R) Refused)
         → IsSound keeps F.Key.cmp F.parts.joined code old
@@ -105,41 +105,41 @@ pub fn loads_preserve<F: Mergeable, R: Receipt>()
 /// was entered is, but the one that leaves.
 pub fn sessions_preserved<K, V, I, O, R>()
     ensures goes { (stands : R → Standing) (cmp : K → K → Ordering) (join : V → V → V) (f : Meanings K V I O) (code : K → ℕ)
-        (old new : CoreView K V I) (slot c now : ℕ) (result : Result (Progress K V I O R) Refused)
-        → Goes stands cmp join f code old new slot c now result → RelocationsStay old new × AllStay old new }
-    ensures installs { (cmp : K → K → Ordering) (join : V → V → V) (f : Meanings K V I O) (code : K → ℕ) (old new : CoreView K V I)
+        (old new : PartitionView K V I) (slot c now : ℕ) (result : Result (Progress K V I O R) Refused)
+        → Goes stands cmp join f code old new slot c now result → IsPassedOn old new × AllStay old new }
+    ensures installs { (cmp : K → K → Ordering) (join : V → V → V) (f : Meanings K V I O) (code : K → ℕ) (old new : PartitionView K V I)
         (slot c : ℕ) (ask : Ask K V I) (now : ℕ) (result : Result (Progress K V I O R) Refused)
-        → Installs cmp f code old new slot c ask now result → RelocationsStay old new × AllStay old new }
-    ensures gives_up { (old new : CoreView K V I) (slot c now : ℕ) (result : Result (Unit {0}) Refused)
-        → GivesUp old new slot c now result → RelocationsStay old new × AllStay old new }
-    ensures issues { (code : K → ℕ) (old new : CoreView K V I) (slot c : ℕ) (op : KeyedOp K V I) (now : ℕ)
+        → Installs cmp f code old new slot c ask now result → IsPassedOn old new × AllStay old new }
+    ensures gives_up { (old new : PartitionView K V I) (slot c now : ℕ) (result : Result (Unit {0}) Refused)
+        → GivesUp old new slot c now result → IsPassedOn old new × AllStay old new }
+    ensures issues { (code : K → ℕ) (old new : PartitionView K V I) (slot c : ℕ) (op : KeyedOp K V I) (now : ℕ)
         → Issues code old new slot c op now
-        → RelocationsStay old new × AllStay old new }
-    ensures enters { (old new : CoreView K V I) (now : ℕ) (result : Result ℕ Refused)
-        → Enters old new now result → RelocationsStay old new × AllStay old new }
-    ensures leaves { (keeps : Bool) (old new : CoreView K V I) (slot now : ℕ) (result : Result (Unit {0}) Refused)
+        → IsPassedOn old new × AllStay old new }
+    ensures enters { (old new : PartitionView K V I) (now : ℕ) (result : Result ℕ Refused)
+        → Enters old new now result → IsPassedOn old new × AllStay old new }
+    ensures leaves { (keeps : Bool) (old new : PartitionView K V I) (slot now : ℕ) (result : Result (Unit {0}) Refused)
         → Leaves keeps old new slot now result
-        → RelocationsStay old new
+        → IsPassedOn old new
         × ((s : ℕ) → s ≢ slot → is_session (slots_of old) s ≡ true → is_session (slots_of new) s ≡ true) }
-    ensures refreshes { (keeps : Bool) (old new : CoreView K V I) (slot now : ℕ)
+    ensures refreshes { (keeps : Bool) (old new : PartitionView K V I) (slot now : ℕ)
         (result : Result (Unit {0}) Refused)
-        → Refreshes keeps old new slot now result → RelocationsStay old new × AllStay old new }
-    ensures shifts { (keeps : Bool) (old new : CoreView K V I) (page now : ℕ) (result : Result (Unit {0}) Refused)
-        → Shifts keeps old new page now result → RelocationsStay old new × AllStay old new }
-    ensures evicts { (keeps : Bool) (old new : CoreView K V I) (page now : ℕ) (result : Result (Unit {0}) Refused)
-        → Evicts keeps old new page now result → RelocationsStay old new × AllStay old new }
-    ensures flushes { (old new : CoreView K V I) (s : Standing) (bytes : List ℕ) (now : ℕ)
+        → Refreshes keeps old new slot now result → IsPassedOn old new × AllStay old new }
+    ensures shifts { (keeps : Bool) (old new : PartitionView K V I) (page now : ℕ) (result : Result (Unit {0}) Refused)
+        → Shifts keeps old new page now result → IsPassedOn old new × AllStay old new }
+    ensures evicts { (keeps : Bool) (old new : PartitionView K V I) (page now : ℕ) (result : Result (Unit {0}) Refused)
+        → Evicts keeps old new page now result → IsPassedOn old new × AllStay old new }
+    ensures flushes { (old new : PartitionView K V I) (s : Standing) (bytes : List ℕ) (now : ℕ)
         (result : Result (Unit {0}) Refused)
-        → Flushes old new s bytes now result → RelocationsStay old new × AllStay old new }
-    ensures truncates { (keeps : Bool) (old new : CoreView K V I) (page now : ℕ)
+        → Flushes old new s bytes now result → IsPassedOn old new × AllStay old new }
+    ensures truncates { (keeps : Bool) (old new : PartitionView K V I) (page now : ℕ)
         (result : Result (Unit {0}) Refused)
-        → Truncates keeps old new page now result → RelocationsStay old new × AllStay old new }
+        → Truncates keeps old new page now result → IsPassedOn old new × AllStay old new }
 {}
 
 /// So it is where a page comes.
 pub fn loads_preserve_sessions<F: Mergeable, R: Receipt>()
-    ensures { (old new : CoreView F.Key F.Value F.Input) (slot c : ℕ) (came : Result (Joined R) Refused)
+    ensures { (old new : PartitionView F.Key F.Value F.Input) (slot c : ℕ) (came : Result (Joined R) Refused)
         (now : ℕ) (result : Result (Progress F.Key F.Value F.Input F.Output R) Refused)
         → Loads R.stands (IsEntryIn F.Key.codec F.Value.codec) F.Key.cmp F.parts.joined F.meaning old new slot c came now result
-        → RelocationsStay old new × AllStay old new }
+        → IsPassedOn old new × AllStay old new }
 {}

@@ -39,14 +39,14 @@ impl<F: Mergeable, R: Receipt> Partition<F, R> {
         functions: &F,
         now: u64,
     ) -> Result<ProgressOf<F, R>, Refused>
-        requires later { self.old.core.moment < now }
+        requires later { self.old.moment < now }
         ensures effect { LoadsOn R.stands (IsEntryIn F.Key.codec F.Value.codec) F.Key.cmp F.parts.joined F.code self.old self.new slot context came now result }
         ensures event { IfOk result (λ _. IsRelocating R.keeps F.Key.cmp self.old self.new slot context now) }
         ensures cleared { result ≡ Ok (Progress.Done Answer.Cleared now)
             → IfSome (relocation_at self.old slot context) (λ x. x.target < self.new.cleared) }
         ensures within { IfOk result (λ _. (slot < 16) × (context < 8)) }
         ensures undamaged { IsTrue R.keeps → (page : ℕ) → result ≡ Err (Refused.Damaged page) → came ≡ Err (Refused.Damaged page) }
-        ensures moment { self.new.core.moment ≤ now }
+        ensures moment { self.new.moment ≤ now }
     {
         let Some(relocation) = self.relocation(slot, context) else {
             return Err(Refused::Unknown);
@@ -54,7 +54,7 @@ impl<F: Mergeable, R: Receipt> Partition<F, R> {
         let Some((begin, wanted)) = awaited(relocation.target, &relocation.stage) else {
             return Err(Refused::NotReady);
         };
-        if begin != self.core.records().begin() {
+        if begin != self.records().begin() {
             self.set_stage(slot, context, &relocation, Stage::Fresh, now);
             return Ok(Progress::Next);
         }
@@ -67,7 +67,7 @@ impl<F: Mergeable, R: Receipt> Partition<F, R> {
                 Err(refused)
             }
             Ok(loaded) => {
-                self.receive(slot, context, &relocation, wanted, loaded, functions, now)
+                self.receive_place(slot, context, &relocation, wanted, loaded, functions, now)
             }
         }
     }
@@ -84,7 +84,7 @@ impl<F: Mergeable, R: Receipt> Partition<F, R> {
         reader: &mut P,
         now: u64,
     ) -> Result<ProgressOf<F, R>, Refused>
-        requires later { self.old.core.moment < now }
+        requires later { self.old.moment < now }
         ensures effect { LoadsOnBy R.stands (IsEntryIn F.Key.codec F.Value.codec) F.Key.cmp F.parts.joined F.code self.old self.new slot context now
             (P.failures reader.old) (P.failures reader.new) result }
         ensures event { IfOk result (λ _. IsRelocating R.keeps F.Key.cmp self.old self.new slot context now) }
@@ -93,11 +93,11 @@ impl<F: Mergeable, R: Receipt> Partition<F, R> {
         ensures once { P.reads reader.new ≤ P.reads reader.old + 1 }
         ensures unread { ((page : ℕ) → WaitsOn self.old slot context page → ⊥) → reader.new ≡ reader.old }
         ensures caused { P.failures reader.new ≢ P.failures reader.old → (page : ℕ)
-            × MayFail R.stands P.can_fail self.old.core.records.log.receipts self.old.core.records.log.bits page }
+            × MayFail R.stands P.can_fail self.old.records.log.receipts self.old.records.log.bits page }
         ensures within { IfOk result (λ _. (slot < 16) × (context < 8)) }
         ensures undamaged { IsTrue R.keeps → (page : ℕ) → result ≡ Err (Refused.Damaged page)
             → P.failures reader.new ≡ P.failures reader.old + 1 }
-        ensures moment { self.new.core.moment ≤ now }
+        ensures moment { self.new.moment ≤ now }
     {
         let Some(relocation) = self.relocation(slot, context) else {
             return Err(Refused::Unknown);
@@ -105,14 +105,14 @@ impl<F: Mergeable, R: Receipt> Partition<F, R> {
         let Some((begin, wanted)) = awaited(relocation.target, &relocation.stage) else {
             return Err(Refused::NotReady);
         };
-        let begins = self.core.records().begin();
+        let begins = self.records().begin();
         if begin != begins {
             self.set_stage(slot, context, &relocation, Stage::Fresh, now);
             return Ok(Progress::Next);
         }
         self.known();
-        let page = self.core.records().page_of(wanted);
-        match self.core.read(reader, page) {
+        let page = self.records().page_of(wanted);
+        match self.read(reader, page) {
             Err(refused) => Err(refused),
             Ok(loaded) => self.read_on(slot, context, &relocation, loaded, functions, now),
         }
@@ -128,16 +128,16 @@ impl<F: Mergeable, R: Receipt> Partition<F, R> {
         functions: &F,
         now: u64,
     ) -> Result<ProgressOf<F, R>, Refused>
-        requires later { self.old.core.moment < now }
+        requires later { self.old.moment < now }
         requires own { (page : ℕ) → WaitsOn self.old slot context page
-            → IsHeldBy self.old.core.records.log.receipts page (R.stands loaded.receipt) }
+            → IsHeldBy self.old.records.log.receipts page (R.stands loaded.receipt) }
         ensures effect { LoadsOn R.stands (IsEntryIn F.Key.codec F.Value.codec) F.Key.cmp F.parts.joined F.code self.old self.new slot context (Ok loaded) now result }
         ensures event { IfOk result (λ _. IsRelocating R.keeps F.Key.cmp self.old self.new slot context now) }
         ensures cleared { result ≡ Ok (Progress.Done Answer.Cleared now)
             → IfSome (relocation_at self.old slot context) (λ x. x.target < self.new.cleared) }
         ensures within { IfOk result (λ _. (slot < 16) × (context < 8)) }
         ensures undamaged { IsTrue R.keeps → (page : ℕ) → result ≢ Err (Refused.Damaged page) }
-        ensures moment { self.new.core.moment ≤ now }
+        ensures moment { self.new.moment ≤ now }
     {
         let Some(relocation) = self.relocation(slot, context) else {
             return Err(Refused::Unknown);
@@ -145,7 +145,7 @@ impl<F: Mergeable, R: Receipt> Partition<F, R> {
         let Some((begin, _wanted)) = awaited(relocation.target, &relocation.stage) else {
             return Err(Refused::NotReady);
         };
-        let begins = self.core.records().begin();
+        let begins = self.records().begin();
         if begin != begins {
             self.set_stage(slot, context, &relocation, Stage::Fresh, now);
             return Ok(Progress::Next);
@@ -154,7 +154,7 @@ impl<F: Mergeable, R: Receipt> Partition<F, R> {
     }
 
     /// Takes a page that came for a relocation, where it is the one that is kept.
-    fn receive(
+    fn receive_place(
         &mut self,
         slot: usize,
         context: usize,
@@ -164,7 +164,7 @@ impl<F: Mergeable, R: Receipt> Partition<F, R> {
         functions: &F,
         now: u64,
     ) -> Result<ProgressOf<F, R>, Refused>
-        requires later { self.old.core.moment < now }
+        requires later { self.old.moment < now }
         requires session { slot < 16 }
         requires context { context < 8 }
         requires awaits { AwaitsPage self.old slot context relocation.now wanted }
@@ -172,11 +172,11 @@ impl<F: Mergeable, R: Receipt> Partition<F, R> {
         ensures event { IfOk result (λ _. IsRelocating R.keeps F.Key.cmp self.old self.new slot context now) }
         ensures cleared { result ≡ Ok (Progress.Done Answer.Cleared now) → relocation.now.target < self.new.cleared }
         ensures undamaged { IsTrue R.keeps → (page : ℕ) → result ≢ Err (Refused.Damaged page) }
-        ensures moment { self.new.core.moment ≤ now }
+        ensures moment { self.new.moment ≤ now }
     {
         self.known();
-        let page = self.core.records().page_of(wanted);
-        if let Err(refused) = self.core.records().is_own(&loaded, page) {
+        let page = self.records().page_of(wanted);
+        if let Err(refused) = self.records().is_own(&loaded, page) {
             return Err(refused);
         }
         self.read_on(slot, context, relocation, loaded, functions, now)
@@ -192,7 +192,7 @@ impl<F: Mergeable, R: Receipt> Partition<F, R> {
         functions: &F,
         now: u64,
     ) -> Result<ProgressOf<F, R>, Refused>
-        requires later { self.old.core.moment < now }
+        requires later { self.old.moment < now }
         requires session { slot < 16 }
         requires context { context < 8 }
         requires has { (wanted : _) × HasPage self.old slot context relocation.now wanted (R.stands loaded.receipt) }
@@ -200,7 +200,7 @@ impl<F: Mergeable, R: Receipt> Partition<F, R> {
         ensures event { IfOk result (λ _. IsRelocating R.keeps F.Key.cmp self.old self.new slot context now) }
         ensures cleared { result ≡ Ok (Progress.Done Answer.Cleared now) → relocation.now.target < self.new.cleared }
         ensures undamaged { IsTrue R.keeps → (page : ℕ) → result ≢ Err (Refused.Damaged page) }
-        ensures moment { self.new.core.moment ≤ now }
+        ensures moment { self.new.moment ≤ now }
     {
         match relocation.stage {
             Stage::Reading(_) => {
@@ -225,21 +225,21 @@ impl<F: Mergeable, R: Receipt> Partition<F, R> {
         functions: &F,
         now: u64,
     ) -> Result<ProgressOf<F, R>, Refused>
-        requires later { self.old.core.moment < now }
+        requires later { self.old.moment < now }
         requires session { slot < 16 }
         requires context { context < 8 }
         requires has { HasPage self.old slot context relocation.now relocation.now.target (R.stands loaded.now.receipt) }
-        requires reads { relocation.now.stage ≡ Reading self.old.core.records.log.begin }
+        requires reads { relocation.now.stage ≡ Reading self.old.records.log.begin }
         ensures effect { LoadsOn R.stands (IsEntryIn F.Key.codec F.Value.codec) F.Key.cmp F.parts.joined F.code self.old self.new slot context (Ok loaded.now) now result }
         ensures event { IfOk result (λ _. IsRelocating R.keeps F.Key.cmp self.old self.new slot context now) }
         ensures cleared { result ≡ Ok (Progress.Done Answer.Cleared now) → relocation.now.target < self.new.cleared }
         ensures undamaged { IsTrue R.keeps → (page : ℕ) → result ≢ Err (Refused.Damaged page) }
-        ensures moment { self.new.core.moment ≤ now }
+        ensures moment { self.new.moment ≤ now }
     {
         self.known();
         let target = relocation.target;
-        let page = self.core.records().page_of(target);
-        match self.core.records().own_record_in(loaded, target) {
+        let page = self.records().page_of(target);
+        match self.records().own_record_in(loaded, target) {
             Err(_damaged) => {
                 self.end(slot, context, now);
                 Err(Refused::Damaged { page })
@@ -260,7 +260,7 @@ impl<F: Mergeable, R: Receipt> Partition<F, R> {
         functions: &F,
         now: u64,
     ) -> Result<ProgressOf<F, R>, Refused>
-        requires later { self.old.core.moment < now }
+        requires later { self.old.moment < now }
         requires session { slot < 16 }
         requires context { context < 8 }
         requires has { HasPage self.old slot context relocation.now loading.wanted (R.stands loaded.now.receipt) }
@@ -269,13 +269,13 @@ impl<F: Mergeable, R: Receipt> Partition<F, R> {
         ensures event { IfOk result (λ _. IsRelocating R.keeps F.Key.cmp self.old self.new slot context now) }
         ensures cleared { result ≡ Ok (Progress.Done Answer.Cleared now) → relocation.now.target < self.new.cleared }
         ensures undamaged { IsTrue R.keeps → (page : ℕ) → result ≢ Err (Refused.Damaged page) }
-        ensures moment { self.new.core.moment ≤ now }
+        ensures moment { self.new.moment ≤ now }
     {
         self.known();
         let target = relocation.target;
-        let page = self.core.records().page_of(loading.wanted);
-        let low = higher_of(target + 1, self.core.records().first_of(page));
-        let came = match self.core.records().trace_in(
+        let page = self.records().page_of(loading.wanted);
+        let low = higher_of(target + 1, self.records().first_of(page));
+        let came = match self.records().trace_in(
             functions,
             loaded,
             &entry.key,
@@ -299,7 +299,7 @@ impl<F: Mergeable, R: Receipt> Partition<F, R> {
                 self.append_again(slot, context, relocation, whole, loading.kept, now)
             }
             Liveness::Further(address, parts) => {
-                if !self.core.records().is_record_start(address) {
+                if !self.records().is_record_start(address) {
                     self.end(slot, context, now);
                     return Err(Refused::Damaged { page });
                 }

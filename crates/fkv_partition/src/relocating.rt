@@ -12,7 +12,6 @@ ghost use Rattle.fkv_partition.specs.Going.{GoesOn};
 use crate::changes::Write;
 use crate::contexts::{Progress, ProgressOf, Wait};
 use crate::partitions::Partition;
-use crate::preserving::events_preserve;
 use crate::relocations::{EntryOf, RelocationOf, Stage, StageOf};
 use fkv_device::Receipt;
 use fkv_functions::{Mergeable, Refused};
@@ -37,14 +36,14 @@ impl<F: Mergeable, R: Receipt> Partition<F, R> {
         functions: &F,
         now: u64,
     ) -> Result<ProgressOf<F, R>, Refused>
-        requires later { self.old.core.moment < now }
+        requires later { self.old.moment < now }
         ensures effect { GoesOn R.stands F.Key.cmp F.parts.joined F.code self.old self.new slot context now result }
         ensures event { IfOk result (λ _. IsRelocating R.keeps F.Key.cmp self.old self.new slot context now) }
         ensures cleared { result ≡ Ok (Progress.Done Answer.Cleared now)
             → IfSome (relocation_at self.old slot context) (λ x. x.target < self.new.cleared) }
         ensures within { IfOk result (λ _. (slot < 16) × (context < 8)) }
         ensures unchanged { OnErr result (self.new ≡ self.old) }
-        ensures moment { self.new.core.moment ≤ now }
+        ensures moment { self.new.moment ≤ now }
     {
         let Some(relocation) = self.relocation(slot, context) else {
             return Err(Refused::Unknown);
@@ -74,7 +73,7 @@ impl<F: Mergeable, R: Receipt> Partition<F, R> {
         functions: &F,
         now: u64,
     ) -> Result<ProgressOf<F, R>, Refused>
-        requires later { self.old.core.moment < now }
+        requires later { self.old.moment < now }
         requires session { slot < 16 }
         requires context { context < 8 }
         requires here { relocation_at self.old slot context ≡ Some relocation.now }
@@ -84,12 +83,12 @@ impl<F: Mergeable, R: Receipt> Partition<F, R> {
         ensures event { IfOk result (λ _. IsRelocating R.keeps F.Key.cmp self.old self.new slot context now) }
         ensures cleared { result ≡ Ok (Progress.Done Answer.Cleared now) → relocation.now.target < self.new.cleared }
         ensures unchanged { OnErr result (self.new ≡ self.old) }
-        ensures moment { self.new.core.moment ≤ now }
+        ensures moment { self.new.moment ≤ now }
     {
         self.known();
         let target = relocation.target;
-        let view = self.core.records().view(slot);
-        let begin = self.core.records().begin();
+        let view = self.records().view(slot);
+        let begin = self.records().begin();
         if target < low_of(begin, &view) {
             return self.ask(
                 slot,
@@ -100,7 +99,7 @@ impl<F: Mergeable, R: Receipt> Partition<F, R> {
                 now,
             );
         }
-        let entry = self.core.records().record_at(target);
+        let entry = self.records().record_at(target);
         self.check_liveness(slot, context, relocation, entry, functions, now)
     }
 
@@ -117,19 +116,19 @@ impl<F: Mergeable, R: Receipt> Partition<F, R> {
         requires session { slot < 16 }
         requires context { context < 8 }
         requires here { relocation_at self.old slot context ≡ Some relocation.now }
-        requires later { self.old.core.moment < now }
-        requires flushed { HasReceipt self.old.core.records.log.receipts
-            (page_at self.old.core.records.log.bits wanted) }
-        requires stands { StageStands R.keeps F.Key.cmp F.parts.joined F.code self.old.core relocation.now.target stage }
+        requires later { self.old.moment < now }
+        requires flushed { HasReceipt self.old.records.log.receipts
+            (page_at self.old.records.log.bits wanted) }
+        requires stands { StageStands R.keeps F.Key.cmp F.parts.joined F.code self.old relocation.now.target stage }
         ensures effect { Asks R.stands self.old self.new
             (with_relocation self.old slot context (Some (at_stage relocation.now stage)) now) wanted result }
         ensures event { IfOk result (λ _. IsRelocating R.keeps F.Key.cmp self.old self.new slot context now) }
         ensures uncleared { result ≡ Ok (Progress.Done Answer.Cleared now) → ⊥ }
         ensures unchanged { OnErr result (self.new ≡ self.old) }
-        ensures moment { self.new.core.moment ≤ now }
+        ensures moment { self.new.moment ≤ now }
     {
-        let page = self.core.records().page_of(wanted);
-        let receipt = match self.core.records().receipt(page) {
+        let page = self.records().page_of(wanted);
+        let receipt = match self.records().receipt(page) {
             Err(refused) => return Err(refused),
             Ok(receipt) => receipt,
         };
@@ -149,21 +148,20 @@ impl<F: Mergeable, R: Receipt> Partition<F, R> {
         kept: IndexEntry,
         now: u64,
     ) -> Result<ProgressOf<F, R>, Refused>
-        requires later { self.old.core.moment < now }
+        requires later { self.old.moment < now }
         requires session { slot < 16 }
         requires context { context < 8 }
         requires here { relocation_at self.old slot context ≡ Some relocation.now }
-        requires stands { StageStands R.keeps F.Key.cmp F.parts.joined F.code self.old.core relocation.now.target (Ready entry kept) }
+        requires stands { StageStands R.keeps F.Key.cmp F.parts.joined F.code self.old relocation.now.target (Ready entry kept) }
         ensures effect { Ends self.old self.new slot context relocation.now entry kept now result }
         ensures event { IfOk result (λ _. IsRelocating R.keeps F.Key.cmp self.old self.new slot context now) }
         ensures cleared { result ≡ Ok (Progress.Done Answer.Cleared now) → relocation.now.target < self.new.cleared }
         ensures unchanged { OnErr result (self.new ≡ self.old) }
-        ensures moment { self.new.core.moment ≤ now }
+        ensures moment { self.new.moment ≤ now }
     {
         cleared_stay::<F::Key, F::Value>();
-        events_preserve::<F::Key, F::Value, F::Input, F::Output, R>();
         self.known();
-        if !self.core.records().holds(&kept) {
+        if !self.records().holds(&kept) {
             self.set_stage(slot, context, relocation, Stage::Fresh, now);
             return Ok(Progress::Next);
         }
@@ -173,15 +171,15 @@ impl<F: Mergeable, R: Receipt> Partition<F, R> {
             payload: Payload::Whole(entry.value),
         };
         let cleared = self.past(relocation.target);
-        match self.core.append(slot, context, write, now) {
+        match self.append(slot, context, write, now) {
             Err(refused) => Err(refused),
             Ok(None) => {
                 self.set_stage(slot, context, relocation, Stage::Ready(entry, kept), now);
                 Ok(Progress::Waits(Wait::Full))
             }
             Ok(Some(_address)) => {
-                self.core.known();
-                self.cleared = cleared;
+                self.known();
+                self.clear_to(cleared);
                 Ok(Progress::Done(Answer::Cleared, now))
             }
         }

@@ -1,12 +1,12 @@
 //! Operations that are done in one call: updates of values where they stand, and reads of keys in memory. Most operations are such.
 ghost use Rattle.std.specs.Prelude.{◌≡◌, ◌<◌, ◌≤◌, None, IfSome};
-ghost use Rattle.fkv_partition.specs.CoreAtOnce.{AsksForPage};
-ghost use Rattle.fkv_partition.specs.CoreBeginning.{IsEntered};
-ghost use Rattle.fkv_partition.specs.CoreViews.{partition_of};
+ghost use Rattle.fkv_partition.specs.KeyAtOnce.{AsksForPage};
+ghost use Rattle.fkv_partition.specs.KeyBeginning.{IsEntered};
+ghost use Rattle.fkv_partition.specs.Views.{partition_of};
 ghost use Rattle.fkv_partition.specs.AtOnce.{IsAtHand, IsDoneAtOnce, IsReadAtOnce};
 
 use crate::partitions::Partition;
-use crate::preserving::{events_preserve, sessions_preserved};
+use crate::preserving::sessions_preserved;
 use fkv_device::Receipt;
 use fkv_functions::Mergeable;
 use fkv_operations::AnswerOf;
@@ -25,7 +25,7 @@ impl<F: Mergeable, R: Receipt> Partition<F, R> {
         issued: u64,
         now: u64,
     ) -> Option<F::Output>
-        requires later { self.old.core.moment < issued }
+        requires later { self.old.moment < issued }
         requires after { issued < now }
         ensures done { IfSome result (λ shown. IsDoneAtOnce R.stands F.Key.cmp F.parts.joined F.meaning F.code self.old self.new
             slot key.now input.now issued now shown) }
@@ -33,22 +33,17 @@ impl<F: Mergeable, R: Receipt> Partition<F, R> {
             → F.meaning.next key.now held input.now ≡ None }
         ensures none { result ≡ None → self.new ≡ self.old }
         ensures within { IfSome result (λ _. slot < 16) }
-        ensures moment { self.new.core.moment ≤ now }
+        ensures moment { self.new.moment ≤ now }
     {
-        events_preserve::<F::Key, F::Value, F::Input, F::Output, R>();
         sessions_preserved::<F::Key, F::Value, F::Input, F::Output, R>();
-        self.core.known();
-        if !self.core.is_session(slot) {
+        self.known();
+        if !self.is_session(slot) {
             return None;
         }
         let Some(context) = self.first_free(slot) else {
             return None;
         };
-        let shown = self
-            .core
-            .try_update_in_place(slot, context, key, input, functions, issued, now);
-        self.core.known();
-        shown
+        self.update_at_once(slot, context, key, input, functions, issued, now)
     }
 
     /// Reads a key in a session, where no page is to be read for that. It answers what a read that is issued by
@@ -63,14 +58,14 @@ impl<F: Mergeable, R: Receipt> Partition<F, R> {
         functions: &F,
     ) -> Option<AnswerOf<F>>
         ensures done { IfSome result (IsReadAtOnce F.Key.cmp F.parts.joined F.meaning F.code self.now slot key.now input.now) }
-        ensures left { result ≡ None → IsEntered self.now.core slot
-            → partition_of self.now.core.count (F.code key.now) ≡ self.now.core.number
-            → AsksForPage F.Key.cmp F.parts.joined F.meaning F.code self.now.core slot key.now input.now }
+        ensures left { result ≡ None → IsEntered self.now slot
+            → partition_of self.now.count (F.code key.now) ≡ self.now.number
+            → AsksForPage F.Key.cmp F.parts.joined F.meaning F.code self.now slot key.now input.now }
         ensures within { IfSome result (λ _. slot < 16) }
     {
-        if !self.core.is_session(slot) {
+        if !self.is_session(slot) {
             return None;
         }
-        self.core.try_read_in_memory(slot, key, input, functions)
+        self.read_at_once(slot, key, input, functions)
     }
 }

@@ -3,3 +3,4 @@ pub mod OptionLemmas
 pub mod RequestLemmas
 pub mod MemoryLemmas
 pub mod SourceLemmas
+pub mod SpillLemmas

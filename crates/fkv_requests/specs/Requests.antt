@@ -1,5 +1,5 @@
 -- What the words of a command line ask for. The first word is the program's name.
-use Rattle.std.specs.Prelude.{◌≡◌, ◌≢◌, ◌==◌, ◌⊎◌, ⊤, Bool, true, false, ◌&&◌, ◌||◌, ◌-◌, ◌^◌, ℕ, List, [], ◌∷◌, count_by, find, length, map, Option, Some, None, codes, nat_lt, option_and_then, option_map, string_bytes, if◌then◌else◌}
+use Rattle.std.specs.Prelude.{◌≡◌, ◌≢◌, ◌==◌, ◌⊎◌, ⊤, Bool, true, false, ◌&&◌, ◌||◌, ◌-◌, ◌^◌, ℕ, List, [], ◌∷◌, count_by, find, is_none, length, map, Option, Some, None, codes, nat_lt, option_and_then, option_map, string_bytes, if◌then◌else◌}
 use Rattle.std.specs.Str.{bytes_eq}
 use Rattle.std.specs.Option.{option_map_or}
 use Rattle.std.specs.Str.Parse.{digits_value, without_leading_plus}
@@ -50,9 +50,11 @@ abbrev pub placed_app : Text → App
 placed_app name =
     with_rule
     (with_rule
+    (with_rule
     (with_rule (with_rule (new_app name) memory_rule) dir_rule)
     (number_rule (codes "workers") 1 14 (codes "1")))
-    (flag_rule (codes "merge"))
+    (flag_rule (codes "merge")))
+    (flag_rule (codes "spill"))
 
 -- the same, with what it tells of its work, and what it compares
 abbrev pub told_app : App → App
@@ -194,6 +196,10 @@ config_of (Some memory) rows = sized_config memory (given_or (codes "partition-b
 abbrev pub folder_of : List Row → Option Text
 folder_of rows = first_of (codes "dir") rows
 
+-- whether its table stands in pages of the folder until it is written
+abbrev pub spill_of : List Row → Bool
+spill_of rows = is_set (first_of (codes "spill") rows)
+
 -- whether its histories are kept
 abbrev pub audit_of : List Row → Bool
 audit_of rows = is_set (first_of (codes "audit") rows)
@@ -227,6 +233,14 @@ inputs_in paths = count_by (λ path. bytes_eq path (codes "-")) paths
 abbrev pub has_bad_path : List Row → Bool
 has_bad_path rows = is_nameless (folder_of rows) || nat_lt 1 (inputs_in (paths_of rows))
 
+-- several workers make a table, or it keeps histories
+abbrev pub is_shared : List Row → Bool
+is_shared rows = nat_lt 1 (workers_of rows) || audit_of rows
+
+-- clap takes words that ask for a table to be spilled, and name no folder for its pages, or share its store
+abbrev pub has_bad_spill : List Row → Bool
+has_bad_spill rows = spill_of rows && (is_none (folder_of rows) || is_shared rows)
+
 -- the options of a table, within so much memory where a size is named
 abbrev pub IsTableBy : Option ℕ → List Row → TableRequest → Type 0
 IsTableBy memory rows table =
@@ -234,6 +248,7 @@ IsTableBy memory rows table =
     × (option_map string_bytes table.folder ≡ folder_of rows)
     × (table.workers ≡ workers_of rows)
     × (table.merge ≡ merge_of rows)
+    × (table.spill ≡ spill_of rows)
     × (table.audit ≡ audit_of rows)
     × (table.stats ≡ stats_of rows)
     × (table.progress ≡ progress_of rows)
@@ -246,14 +261,16 @@ IsTableIn None table = ⊥
 IsTableIn (Some p) table =
     (table_named p.0 ≡ Some table.shown)
     × (has_bad_path p.1 ≡ false)
+    × (has_bad_spill p.1 ≡ false)
     × (memory : Option ℕ)
     × (memory_of p.1 ≡ Some memory)
     × IsTableBy memory p.1 table
 
--- a table is asked for, and the size of its memory can't be read, or a path is bad
+-- a table is asked for, and the size of its memory can't be read, or a path is bad, or it can't be spilled as asked
 abbrev pub HasBadWords : Option (Text × List Row) → Type 0
 HasBadWords None = ⊥
-HasBadWords (Some p) = (table_named p.0 ≢ None) × ((memory_of p.1 ≡ None) ⊎ (has_bad_path p.1 ≡ true))
+HasBadWords (Some p) =
+    (table_named p.0 ≢ None) × ((memory_of p.1 ≡ None) ⊎ (has_bad_path p.1 ≡ true) ⊎ (has_bad_spill p.1 ≡ true))
 
 -- clap finds nothing in the words to refuse, and they name no table: they name the other subcommand or nothing
 unfoldable pub AsksReplay : List Text → Type 0
@@ -272,7 +289,7 @@ unfoldable pub MayAskVersion : List Text → Type 0
 MayAskVersion words = IsAmong DisplayVersion (fault_of program words)
 
 -- clap refuses the words, or may refuse them where they are `help` and more; or it takes them, and the size of the memory
--- can't be read, or a path is bad
+-- can't be read, or a path is bad, or the table can't be spilled as asked
 unfoldable pub MayBeMistaken : List Text → Type 0
 MayBeMistaken words =
     ((kind : ErrorKind)

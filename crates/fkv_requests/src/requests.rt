@@ -1,5 +1,5 @@
 //! What the words of a command line ask for.
-ghost use Rattle.std.specs.Prelude.{◌≡◌, false, IfOk, IfErr, codes, count_by, is_some, map, option_map, string_bytes, Some};
+ghost use Rattle.std.specs.Prelude.{◌≡◌, false, IfOk, IfErr, codes, count_by, is_none, is_some, map, option_map, string_bytes, Some};
 ghost use Rattle.std.specs.Str.{bytes_eq};
 ghost use Rattle.clap.specs.Words.{app_of, first_value, found_of, kind_of, new_app, rows_of, rule_of, subcommand_rows_of};
 ghost use Rattle.clap.specs.declared.builder.command.Command.TheViews.{out-Command};
@@ -27,14 +27,17 @@ ghost use Rattle.fkv_requests.specs.Requests.{
   partition_bits_of,
   folder_of,
   has_bad_path,
+  has_bad_spill,
   inputs_in,
   is_nameless,
   paths_of,
   flag_rule,
   is_given,
   is_set,
+  is_shared,
   sized_of,
   source_of,
+  spill_of,
 };
 
 use crate::memory::{
@@ -71,6 +74,12 @@ const NO_FOLDER: &str = "error: --dir takes the path of a folder\n";
 const TWO_INPUTS: &str =
     "error: standard input can be read once, so '-' may stand once among the feeds\n";
 
+/// What is told of a table that is to be spilled, and has no folder.
+const NO_SPILL_FOLDER: &str = "error: --spill needs a folder for its pages: --dir PATH\n";
+
+/// What is told of a table that is to be spilled, and that several workers are to make, or histories are to be kept of.
+const SHARED_SPILL: &str = "error: --spill takes one worker, without --audit\n";
+
 /// What a table shows of the amounts of each key.
 #[derive(Clone, Copy, PartialEq, Eq, Debug)]
 pub enum Shown {
@@ -96,6 +105,8 @@ pub struct TableRequest {
     pub workers: u64,
     /// Whether a row is made a merge where it would read a page.
     pub merge: bool,
+    /// Whether the table stands in pages of the folder until it is written out, which one worker does that keeps no history.
+    pub spill: bool,
     /// Whether the history of each partition is kept, and compared at the end with what the workers were answered.
     pub audit: bool,
     /// Whether what the run did is told at its end.
@@ -180,7 +191,10 @@ fn asked(alloc: Global, matches: &ArgMatches<'_>) -> Result<Request, Refused>
     let Some(memory) = memory_by(options) else {
         return mistake(alloc, bad_size(options));
     };
-    match bad_path(options) {
+    if let Some(text) = bad_path(options) {
+        return mistake(alloc, text);
+    }
+    match bad_spill(options) {
         None => table_by(alloc, options, shown, memory),
         Some(text) => mistake(alloc, text),
     }
@@ -222,6 +236,7 @@ fn table_by(
             folder,
             workers: number_by(options, "workers"),
             merge: flag_by(options, "merge"),
+            spill: flag_by(options, "spill"),
             audit: flag_by(options, "audit"),
             stats: flag_by(options, "stats"),
             progress: flag_by(options, "progress"),
@@ -256,6 +271,49 @@ fn bad_path(options: &ArgMatches<'_>) -> Option<&'static str>
         return Some(TWO_INPUTS);
     }
     None
+}
+
+/// What is told of a table that is to be spilled, and names no folder for its pages, or shares its store.
+fn bad_spill(options: &ArgMatches<'_>) -> Option<&'static str>
+    ensures { is_some result ≡ has_bad_spill (rows_of (found_of options.now)) }
+{
+    if !is_spilled(options) {
+        return None;
+    }
+    if lacks_folder(options) {
+        return Some(NO_SPILL_FOLDER);
+    }
+    if is_shared(options) {
+        return Some(SHARED_SPILL);
+    }
+    None
+}
+
+/// Whether a table is to be spilled.
+fn is_spilled(options: &ArgMatches<'_>) -> bool
+    ensures { result ≡ spill_of (rows_of (found_of options.now)) }
+{
+    flag_by(options, "spill")
+}
+
+/// Whether no folder is named.
+fn lacks_folder(options: &ArgMatches<'_>) -> bool
+    ensures { result ≡ is_none (folder_of (rows_of (found_of options.now))) }
+{
+    match options.get_str("dir") {
+        Some(_) => false,
+        None => true,
+    }
+}
+
+/// Whether several workers make a table, or it keeps histories.
+fn is_shared(options: &ArgMatches<'_>) -> bool
+    ensures { result ≡ is_shared (rows_of (found_of options.now)) }
+{
+    if number_by(options, "workers") > 1 {
+        return true;
+    }
+    flag_by(options, "audit")
 }
 
 /// Whether a folder is named by an empty path.
@@ -542,6 +600,12 @@ fn placed<'a>(
             alloc,
             "merge",
             "Make a row a merge where it would read a page",
+        ))?
+        .arg(flag(
+            alloc,
+            "spill",
+            "Keep the table in pages of --dir until it is written, for one larger than memory; it takes one worker, without \
+--audit. A page that can't be read may then end the run after a part of the table was written",
         ))
 }
 

@@ -1,2 +1,3 @@
+pub mod GroupedLemmas
 pub mod HeldLemmas
 pub mod SpillLemmas

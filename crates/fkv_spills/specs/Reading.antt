@@ -1,5 +1,5 @@
 -- What is left of pairs that are read page by page, and of several such at once.
-use Rattle.std.specs.Prelude.{◌≡◌, ◌<◌, ◌≤◌, ◌⊎◌, ⊤, ℕ, Bool, IsTrue, List, [], ◌∷◌, Option, Some, None, length, map, take, drop, slice_get}
+use Rattle.std.specs.Prelude.{◌≡◌, ◌<◌, ◌≤◌, ◌⊎◌, ◌++◌, ⊤, ℕ, Bool, IsTrue, List, [], ◌∷◌, Option, Some, None, length, map, take, drop, slice_get}
 use Rattle.fkv_functions.specs.Codecs.{Codec}
 use Rattle.fkv_functions.specs.Names.{name_cmp}
 use Rattle.fkv_functions.specs.declared.names.Name.{Name}
@@ -9,6 +9,8 @@ use Rattle.fkv_device.specs.Failing.{ReadFailsBy}
 use Rattle.fkv_device.specs.Standing.{Standing}
 use Rattle.fkv_runs.specs.Merging.{merged, first_from, first_key, first_pair}
 use Rattle.fkv_spills.specs.Spilling.{ArePairsIn, AreSpilled}
+use Rattle.fkv_spills.specs.declared.groups.ReadGroups.{ReadGroups}
+use Rattle.fkv_spills.specs.declared.merging.ReadMerge.{ReadMerge}
 use Rattle.fkv_spills.specs.declared.rests.SpilledRest.{SpilledRest}
 use Rattle.fkv_spills.specs.declared.unread.Unread.{Unread}
 
@@ -55,6 +57,21 @@ pub record IsMergeOf {A V : Type 0} (holds : A → List (Name × V) → Type 0) 
   pub held : AreHeld holds rests lists
   pub is_first : first ≡ first_from name_cmp 0 (map first_key lists)
   pub together : xs ≡ merged name_cmp lists
+
+-- what a merge has left
+abbrev pub HasMerged : {A V : Type 0} → (A → List (Name × V) → Type 0) → ReadMerge A → List (Name × V) → Type 0
+HasMerged holds merge xs = IsMergeOf holds merge.rests.items merge.first xs
+
+-- several that come in this order have these lists: groups of them are merged, and the last ones are not yet
+pub record IsGrouped {A V : Type 0} (holds : A → List (Name × V) → Type 0) (g : ReadGroups A) (lists : List (List (Name × V)))
+    : Type 0 where
+  pub before : List (List (Name × V))
+  pub last : List (List (Name × V))
+  pub all : lists ≡ before ++ last
+  pub merges : List (List (Name × V))
+  pub grouped : AreHeld (HasMerged holds) g.groups.items merges
+  pub together : merged name_cmp merges ≡ merged name_cmp before
+  pub held : AreHeld holds g.rests.items last
 
 -- one of them refused
 abbrev pub IsRefusedByOne : {A : Type 0} → (A → A → Refused → Type 0) → List A → List A → Refused → Type 0

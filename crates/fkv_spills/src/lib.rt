@@ -5,6 +5,7 @@
 #![tactic(auto)]
 
 pub mod gathering;
+pub mod groups;
 pub mod merging;
 pub mod pages;
 pub mod reads;
@@ -12,6 +13,7 @@ pub mod rests;
 pub mod spilled;
 pub mod unread;
 
+pub use groups::ReadGroups;
 pub use merging::ReadMerge;
 pub use pages::SpilledPage;
 pub use reads::ReadPairs;

@@ -3,7 +3,7 @@ ghost use Rattle.std.specs.Prelude.{◌≡◌, ℕ, List, map};
 ghost use Rattle.fkv_functions.specs.Names.{name_cmp};
 ghost use Rattle.fkv_functions.specs.declared.names.Name.{Name};
 ghost use Rattle.fkv_runs.specs.Merging.{chosen, merged, first_from, first_key};
-ghost use Rattle.fkv_spills.specs.Reading.{AreHeld, IsMergeOf, IsRefusedByOne};
+ghost use Rattle.fkv_spills.specs.Reading.{AreHeld, HasMerged, IsRefusedByOne};
 
 use crate::reads::ReadPairs;
 use fkv_functions::{Name, Refused};
@@ -52,7 +52,7 @@ impl<P: ReadPairs> ReadMerge<P> {
     /// All pairs of these.
     pub fn new(rests: Vec<P>) -> ReadMerge<P>
         ensures { (lists : List (List (Name × P.Value))) → AreHeld P.holds rests.items lists
-            → IsMergeOf P.holds result.rests.items result.first (merged name_cmp lists) }
+            → HasMerged P.holds result (merged name_cmp lists) }
     {
         let first = first_place(rests.as_slice());
         ReadMerge { rests, first }
@@ -62,7 +62,7 @@ impl<P: ReadPairs> ReadMerge<P> {
 impl<P: ReadPairs> ReadPairs for ReadMerge<P> {
     type Value = P::Value;
 
-    ghost holds = { λ m xs. IsMergeOf P.holds m.rests.items m.first xs };
+    ghost holds = { HasMerged P.holds };
 
     ghost refuses = { λ old new e. IsRefusedByOne P.refuses old.rests.items new.rests.items e };
 

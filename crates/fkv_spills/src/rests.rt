@@ -1,6 +1,7 @@
 //! What is left of a spilled run that is read.
-ghost use Rattle.std.specs.Prelude.{◌≡◌, List, drop, IsTrue, IfOk, IfErr};
+ghost use Rattle.std.specs.Prelude.{◌≡◌, ◌≢◌, List, drop, IsTrue, IfOk, IfErr};
 ghost use Rattle.fkv_functions.specs.declared.names.Name.{Name};
+ghost use Rattle.fkv_functions.specs.declared.refusals.Refused.TheVariants as refused;
 ghost use Rattle.fkv_spills.specs.Spilling.{AreSpilled};
 ghost use Rattle.fkv_spills.specs.Reading.{IsLeft, IsUnreadable};
 
@@ -33,6 +34,9 @@ impl<V: Fixed, P: PageReader> SpilledRest<V, P::Receipt, P> {
             → IfOk result (λ rest. IsLeft V.codec P.Receipt.keeps P.Receipt.stands rest xs) }
         ensures told { IfErr result (λ e. (after : P) × IsUnreadable (P.failures reader) (P.failures after)
             ((xs : List (Name × V)) × IsTrue P.Receipt.keeps × AreSpilled V.codec P.Receipt.stands run.pages.items xs) e) }
+        // on a device that keeps, a fault comes only where a read can fail
+        ensures caused { (xs : List (Name × V)) → IsTrue P.Receipt.keeps → AreSpilled V.codec P.Receipt.stands run.pages.items xs
+            → IfErr result (λ e. e ≢ refused.NoMemory → (r : P.Receipt) × P.can_fail r (P.Receipt.stands r).length) }
     {
         let Spilled { pages, .. } = run;
         let mut behind: Unread<V, P::Receipt, P> = Unread::new(pages, reader);

@@ -1,5 +1,5 @@
 //! Pages of pairs that are still to be read.
-ghost use Rattle.std.specs.Prelude.{◌≡◌, ℕ, List, drop, IsTrue, IsOk, IfOk, IfErr, OnOk, OnErr};
+ghost use Rattle.std.specs.Prelude.{◌≡◌, ◌≢◌, ℕ, List, drop, IsTrue, IsOk, IfOk, IfErr, OnOk, OnErr};
 ghost use Rattle.fkv_functions.specs.declared.names.Name.{Name};
 ghost use Rattle.fkv_functions.specs.declared.refusals.Refused.TheVariants as refused;
 ghost use Rattle.fkv_device.specs.Failing.{ReadFailsBy};
@@ -60,6 +60,7 @@ impl<V: Fixed, P: PageReader> Unread<V, P::Receipt, P> {
         ensures refused { IfErr result (λ e. (page : ℕ)
             × ReadFailsBy page (P.failures self.old.reader) (P.failures self.new.reader) e) }
         ensures steady { OnOk result (P.failures self.new.reader ≡ P.failures self.old.reader) }
+        ensures caused { IfErr result (λ e. e ≢ refused.NoMemory → (r : P.Receipt) × P.can_fail r (P.Receipt.stands r).length) }
     {
         self.page = None;
         let Some(next) = self.pages.front() else {
@@ -131,6 +132,9 @@ impl<V: Fixed, P: PageReader> Unread<V, P::Receipt, P> {
         ensures told { IfErr result (IsUnreadable (P.failures self.old.reader) (P.failures self.new.reader)
             ((xs : List (Name × V)) × IsTrue P.Receipt.keeps
             × IsUnread V.codec P.Receipt.stands self.old xs)) }
+        ensures caused { (xs : List (Name × V)) → IsTrue P.Receipt.keeps
+            → IsUnread V.codec P.Receipt.stands self.old xs
+            → IfErr result (λ e. e ≢ refused.NoMemory → (r : P.Receipt) × P.can_fail r (P.Receipt.stands r).length) }
     {
         if self.here == 0 {
             match self.fetch() {

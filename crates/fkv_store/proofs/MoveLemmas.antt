@@ -9,9 +9,9 @@ use Rattle.fkv_device.specs.Failing.{FailsOnlyBy}
 use Rattle.fkv_device.specs.Standing.{Standing}
 use Rattle.fkv_hybrid.specs.Flushes.{first_difference, difference, bytes_refusal, flush_refusal}
 use Rattle.fkv_hybrid.specs.Views.{LogView}
-use Rattle.fkv_partition.specs.CoreBeginning as beginning
-use Rattle.fkv_partition.specs.CoreFlushing as flushing
-use Rattle.fkv_partition.specs.CoreLooking as looking
+use Rattle.fkv_partition.specs.KeyBeginning as beginning
+use Rattle.fkv_partition.specs.Flushing as flushing
+use Rattle.fkv_partition.specs.Moves as looking
 use Rattle.fkv_partition.specs.Events.{Enters, Shifts, Evicts, Flushes}
 use Rattle.fkv_partition.specs.Truncating.{Truncates, told_of}
 use Rattle.fkv_partition.specs.Views.{PartitionView}
@@ -30,7 +30,7 @@ module _ {K V I : Type 0} (keeps : Bool) (old new : PartitionView K V I) (clock 
   shift_told page r (inl worn) = told-as IsUnshifted r Worn worn.1 tt
   shift_told page r (inr h) = by_rule h.does
     where
-      by_rule : looking.Shifts keeps old.core new.core page now r → IfErr r IsUnshifted
+      by_rule : looking.Shifts keeps old new page now r → IfErr r IsUnshifted
       by_rule (looking.Shifts.not_due undue is told) = told-as IsUnshifted r NotDue told tt
       by_rule (looking.Shifts.full due full is told) = told-as IsUnshifted r DrainFull told tt
       by_rule (looking.Shifts.shifts due room moves told) = told-none IsUnshifted r tt told
@@ -39,7 +39,7 @@ module _ {K V I : Type 0} (keeps : Bool) (old new : PartitionView K V I) (clock 
   evict_told page r (inl worn) = told-as IsUnshifted r Worn worn.1 tt
   evict_told page r (inr h) = by_rule h.does
     where
-      by_rule : looking.Evicts keeps old.core new.core page now r → IfErr r IsUnshifted
+      by_rule : looking.Evicts keeps old new page now r → IfErr r IsUnshifted
       by_rule (looking.Evicts.not_due undue is told) = told-as IsUnshifted r NotDue told tt
       by_rule (looking.Evicts.full due full is told) = told-as IsUnshifted r DrainFull told tt
       by_rule (looking.Evicts.evicts due room moves told) = told-none IsUnshifted r tt told
@@ -54,7 +54,7 @@ module _ {K V I : Type 0} (keeps : Bool) (old new : PartitionView K V I) (clock 
   enter_told r (inl worn) = told-as IsUnentered r Worn worn.1 tt
   enter_told r (inr h) = by_rule h.does
     where
-      by_rule : beginning.Enters old.core new.core now r → IfErr r IsUnentered
+      by_rule : beginning.Enters old new now r → IfErr r IsUnentered
       by_rule (beginning.Enters.full none is told) = told-as IsUnentered r NoSlot told tt
       by_rule (beginning.Enters.enters slot free is told) = told-none IsUnentered r slot told
 
@@ -111,8 +111,8 @@ pub flush_told : {K V I : Type 0} (old new : PartitionView K V I) (s : Standing)
 flush_told old new s bytes clock now r (inl worn) = told-as IsUnflushed r Worn worn.1 tt
 flush_told old new s bytes clock now r (inr h) = by_rule h.does
   where
-    by_rule : flushing.Flushes old.core new.core s bytes now r → IfErr r IsUnflushed
-    by_rule (flushing.Flushes.refused why refused is told) = told-as IsUnflushed r why told (page_told old.core.records.log s.page bytes why refused)
+    by_rule : flushing.Flushes old new s bytes now r → IfErr r IsUnflushed
+    by_rule (flushing.Flushes.refused why refused is told) = told-as IsUnflushed r why told (page_told old.records.log s.page bytes why refused)
     by_rule (flushing.Flushes.unkept fine is told) = told-as IsUnflushed r NoMemory told tt
     by_rule (flushing.Flushes.keeps fine is told) = told-none IsUnflushed r tt told
 

@@ -1,5 +1,5 @@
 -- Rows that a pass made: one more, and the one that was refused.
-use Rattle.std.proofs.Common.{◌≡◌, ◌∙◌, ◌+◌, ◌<◌, ◌⊎◌, inl, inr, ℕ, Bool, false, true, List, [], ◌∷◌, ◌++◌, length, take, drop, get_or, suc, refl, sym, ap, subst, slice_index}
+use Rattle.std.proofs.Common.{◌≡◌, ◌∙◌, ◌+◌, ◌<◌, ◌⊎◌, inl, inr, ℕ, Bool, false, true, List, [], ◌∷◌, ◌++◌, length, take, drop, get_or, suc, refl, sym, ap, subst, slice_index, arith}
 use Rattle.std.proofs.lemmas.List.{take_more}
 use Rattle.std.proofs.Math.Seq.{split_at}
 use Rattle.std.specs.declared.cmp.Ordering.{Ordering}
@@ -10,18 +10,22 @@ use Rattle.fkv_device.specs.Standing.{Standing}
 use Rattle.fkv_operations.specs.After.{is_merge}
 use Rattle.fkv_operations.specs.declared.operations.KeyedOp.{KeyedOp}
 use Rattle.fkv_operations.specs.declared.operations.KeyedOp.TheVariants.{Rmw}
+use Rattle.fkv_operations.specs.declared.operations.Answer.{Answer}
 use Rattle.fkv_operations.specs.declared.operations.Answer.TheVariants.{Value}
 use Rattle.fkv_histories.specs.declared.entries.Entry.{Entry}
 use Rattle.fkv_locked.specs.AtOnce.{entry_at_once}
 use Rattle.fkv_locked.specs.Locks.{LockedView}
 use Rattle.fkv_locked.specs.declared.open_operations.SessionId.{SessionId}
 use Rattle.fkv_partition.specs.AtOnce.{IsDoneAtOnce}
-use Rattle.fkv_partition.specs.CoreViews.{partition_of}
+use Rattle.fkv_partition.specs.Views.{partition_of}
 use Rattle.fkv_store.specs.declared.running.Loads.{Loads}
 use Rattle.fkv_store.specs.Stores.{StoreView, IsStopped, IsUnrun}
-use Rattle.fkv_store.specs.Passes.{PassView, IsPassOf, IsStrange}
+use Rattle.fkv_store.specs.AtOnce.{IsDone}
+use Rattle.fkv_store.specs.Passes.{PassView, IsPassOf, IsStrange, Runs}
 use Rattle.fkv_store.specs.Runs.{AreCounted}
 use Rattle.fkv_store.specs.Rows.{IsMade, AreMade, IsCutShort}
+use Rattle.fkv_store.proofs.CountLemmas.{none-steady}
+use Rattle.fkv_store.proofs.RunLemmas.{runs-itself}
 use Rattle.fkv_store.proofs.StrangeLemmas.{apart}
 
 -- an update of a pass of the store is not refused as another one's, nor as a merge
@@ -71,16 +75,26 @@ module _ {K V I O : Type 0} (keeps : Bool) (code : K → ℕ) (how : Loads) (s :
       counted = counted;
     }
 
+-- one that was done in one hold of its partition's lock
+module _ {K V I O : Type 0} (keeps : Bool) (code : K → ℕ) (how : Loads) (s : StoreView) (old new : PassView K V I O) where
+  pub done-made : (row : K × I) (place : ℕ) (answer : Answer O) → place ≡ partition_of s.count (code row.0)
+      → IsDone keeps old place (Rmw row.0 row.1) new answer
+      → IsMade keeps code how s old row new
+  done-made row place answer home done = record {
+    ran = Rmw row.0 row.1;
+    as_asked = runs-itself how (Rmw row.0 row.1) (Rmw row.0 row.1) refl;
+    answer = answer;
+    runs = subst (λ p. Runs keeps old new p (Rmw row.0 row.1) answer) home done.runs;
+    room = done.room;
+    within = omega (arith, done.turned);
+    steady = rw done.reads (none-steady (partition_of s.count (code row.0)) old.reads new.missed done.missed);
+  }
+
 -- an update that is done at once is of a key that belongs there
 module _ {K V I O R : Type 0} (stands : R → Standing) (cmp : K → K → Ordering) (join : V → V → V) (f : Meanings K V I O) (code : K → ℕ)
     (old new : LockedView K V I O) (session : SessionId) (key : K) (input : I) (e : Entry K V I O) where
-  pub done-here : (place count : ℕ)
-      → ((shown : O) × (e ≡ entry_at_once old session (Rmw key input) (Value shown))
+  pub done-here :
+      ((shown : O) × (e ≡ entry_at_once old session (Rmw key input) (Value shown))
       × IsDoneAtOnce stands cmp join f code old.partition new.partition session.slot key input (old.clock + 1) (old.clock + 2) shown)
-      → old.partition.core.number ≡ place
-      → old.partition.core.count ≡ count
-      → (e.op ≡ Rmw key input) × (place ≡ partition_of count (code key))
-  done-here place count done number size = (
-    ap (λ (x : Entry K V I O). x.op) done.1,
-    sym (ap (λ n. partition_of n (code key)) (sym size) ∙ (done.2.issue.own (Rmw key input) refl ∙ number)),
-  )
+      → (e.op ≡ Rmw key input) × (partition_of old.partition.count (code key) ≡ old.partition.number)
+  done-here done = (ap (λ (x : Entry K V I O). x.op) done.1, done.2.issue.own (Rmw key input) refl)

@@ -1,4 +1,5 @@
 pub mod Stores
+pub mod AtOnce
 pub mod Passes
 pub mod Runs
 pub mod Rows

@@ -5,7 +5,7 @@ use Rattle.fkv_functions.specs.declared.refusals.Refused.TheVariants.{Stalled}
 use Rattle.fkv_operations.specs.declared.operations.KeyedOp.{KeyedOp}
 use Rattle.fkv_operations.specs.declared.operations.KeyedOp.TheVariants.{Rmw}
 use Rattle.fkv_operations.specs.declared.operations.Answer.{Answer}
-use Rattle.fkv_partition.specs.CoreViews.{partition_of}
+use Rattle.fkv_partition.specs.Views.{partition_of}
 use Rattle.fkv_store.specs.declared.running.Loads.{Loads}
 use Rattle.fkv_store.specs.Stores.{StoreView, IsStopped}
 use Rattle.fkv_store.specs.Passes.{PassView, Runs}

@@ -1,6 +1,5 @@
-//! Holds of a partition's lock, each for one event, or for an operation that is issued and finished at once.
-ghost use Rattle.std.specs.Prelude.{◌≡◌, ◌≢◌, ◌<◌, ◌≤◌, ◌+◌, ◌-◌, ◌^◌, IfOk, IfErr, IfSome, OnOk, OnErr};
-ghost use Rattle.fkv_operations.specs.declared.operations.KeyedOp.TheVariants.{Read, Rmw};
+//! Holds of a partition's lock, each for one event.
+ghost use Rattle.std.specs.Prelude.{◌≡◌, ◌≢◌, ◌<◌, ◌≤◌, ◌+◌, ◌-◌, ◌^◌, IfOk, IfErr, OnOk, OnErr};
 ghost use Rattle.fkv_locked.specs.Turns.{IsOf, IsTurnOf};
 ghost use Rattle.fkv_store.specs.Stores.{IsUnentered, IsUndone, IsUnturned, IsUnrefreshed};
 ghost use Rattle.fkv_store.specs.Runs.{fault_in, faults_of, IsSaid};
@@ -160,58 +159,6 @@ pub(crate) fn issue<F: Mergeable, D: Disk, H: Recorder<F>, G: Gate>(
     gate.pass(at.worker, at.locked());
     match held.issue(session, op, known, &store.functions) {
         Ok(mine) => Ok(Issued { mine }),
-        Err(refused) => Err(told_of(refused, known)),
-    }
-}
-
-/// Makes an update of a caller in one call, where it is finished so. Refused as [`fkv_locked::Locked::try_update_in_place`] is.
-#[inline(always)]
-pub(crate) fn try_update_in_place<F: Mergeable, D: Disk, H: Recorder<F>, G: Gate>(
-    rt: &impl Wait,
-    store: &Store<F, D, H>,
-    at: At,
-    session: SessionId,
-    key: &F::Key,
-    input: &F::Input,
-    known: u64,
-    gate: &G,
-) -> Result<Option<FinishedOf<F>>, Refused>
-    requires { at.partition < store.now.count }
-    ensures op { IfOk result (λ done. IfSome done (λ e. e.op ≡ Rmw key.now input.now)) }
-    ensures fresh { IfOk result (λ done. IfSome done (λ e. known ≤ e.at)) }
-    ensures room { IfOk result (λ done. IfSome done (λ e. e.at < 2 ^ 64 - 1)) }
-    ensures only { IfErr result (IsUndone known) }
-{
-    let mut held = store.locks[at.partition].lock(rt);
-    gate.pass(at.worker, at.locked());
-    match held.try_update_in_place(session, key, input, known, &store.functions) {
-        Ok(entry) => Ok(entry),
-        Err(refused) => Err(told_of(refused, known)),
-    }
-}
-
-/// Makes a read of a caller in one call, where it is finished so. Refused as [`fkv_locked::Locked::try_read_in_memory`] is.
-#[inline(always)]
-pub(crate) fn try_read_in_memory<F: Mergeable, D: Disk, H: Recorder<F>, G: Gate>(
-    rt: &impl Wait,
-    store: &Store<F, D, H>,
-    at: At,
-    session: SessionId,
-    key: &F::Key,
-    input: &F::Input,
-    known: u64,
-    gate: &G,
-) -> Result<Option<FinishedOf<F>>, Refused>
-    requires { at.partition < store.now.count }
-    ensures op { IfOk result (λ done. IfSome done (λ e. e.op ≡ Read key.now input.now)) }
-    ensures fresh { IfOk result (λ done. IfSome done (λ e. known ≤ e.at)) }
-    ensures room { IfOk result (λ done. IfSome done (λ e. e.at < 2 ^ 64 - 1)) }
-    ensures only { IfErr result (IsUndone known) }
-{
-    let mut held = store.locks[at.partition].lock(rt);
-    gate.pass(at.worker, at.locked());
-    match held.try_read_in_memory(session, key, input, known, &store.functions) {
-        Ok(entry) => Ok(entry),
         Err(refused) => Err(told_of(refused, known)),
     }
 }

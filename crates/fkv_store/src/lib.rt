@@ -7,6 +7,7 @@
 //! answer comes from fewer.
 #![tactic(auto)]
 
+pub(crate) mod at_once;
 pub mod closing;
 pub mod compacting;
 pub mod gates;

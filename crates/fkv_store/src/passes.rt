@@ -1,6 +1,6 @@
 //! Passes: what a caller has of a store.
-ghost use Rattle.std.specs.Prelude.{◌≡◌, ◌≢◌, ◌+◌, ◌-◌, ◌^◌, ◌<◌, ◌≤◌, ◌⊎◌, ℕ, true, List, [], ◌∷◌, ◌++◌, length, slice_index, Err, Some, None, IfOk, IfErr, OnOk, OnErr};
-ghost use Rattle.fkv_partition.specs.CoreViews.{partition_of};
+ghost use Rattle.std.specs.Prelude.{◌≡◌, ◌≢◌, ◌+◌, ◌-◌, ◌^◌, ◌<◌, ◌≤◌, ◌⊎◌, ℕ, true, List, [], ◌∷◌, ◌++◌, length, slice_index, Err, Some, None, IsTrue, IfOk, IfErr, OnOk, OnErr};
+ghost use Rattle.fkv_partition.specs.Views.{partition_of};
 ghost use Rattle.fkv_operations.specs.After.{key_of, is_merge};
 ghost use Rattle.fkv_operations.specs.declared.operations.KeyedOp.{KeyedOp};
 ghost use Rattle.fkv_store.specs.Stores.{IsUnentered, IsUnrefreshed, IsStopped, IsUnrun};
@@ -9,7 +9,7 @@ ghost use Rattle.fkv_store.specs.Runs.{IsRunAs, AreCounted, AreSteady};
 
 use crate::gates::{Gate, Open, Place};
 use crate::holds::{At, Turned, enter, leave};
-use crate::running::{Loads, Run, refresh_all, refresh_moved, run_in};
+use crate::running::{Loads, Run, Seen, refresh_all, refresh_moved, run_by_turns};
 use crate::stores::Store;
 use fkv_device::Disk;
 use fkv_functions::{Mergeable, Refused, What};
@@ -34,8 +34,8 @@ pub struct Pass<F: Mergeable, D: Disk, H: Recorder<F>> {
     /// For each partition of how many updates it was told: by its answers, or by marks of other passes.
     pub(crate) told: Vec<u64>,
     pub(crate) sessions: Vec<Option<SessionId>>,
-    /// For each partition how often its pages had been moved when its session was refreshed.
-    pub(crate) seen: Vec<u64>,
+    /// How often pages had been moved when its sessions were refreshed.
+    pub(crate) seen: Seen,
     pub(crate) readers: Vec<D::Reader>,
     /// How many operations were answered since its sessions were refreshed.
     pub(crate) answered: u8,
@@ -63,7 +63,7 @@ impl<F: Mergeable, D: Disk, H: Recorder<F>> Model for Pass<F, D, H> {
     ghost invariant = { λ p. (length p.told.items ≡ length p.owns.lists)
         × (length p.owns.told ≡ length p.owns.lists)
         × (length p.sessions.items ≡ length p.owns.lists)
-        × (length p.seen.items ≡ length p.owns.lists)
+        × (length p.seen.each.items ≡ length p.owns.lists)
         × (length p.readers.items ≡ length p.owns.lists) };
 }
 
@@ -111,29 +111,59 @@ pub(crate) fn session_in<F: Mergeable, D: Disk, H: Recorder<F>, G: Gate>(
     }
 }
 
-/// Tells the gate that a worker is before the first hold of an operation, where it is: one that is not tried in one hold was tried so
-/// before.
-#[inline(always)]
-fn start<G: Gate>(gate: &G, at_once: bool, worker: u32) {
-    if at_once {
-        gate.pass(worker, Place::Start);
+/// Has a session of a pass in a partition, as [`session_in`] does. Answers whether it has one.
+#[cold]
+#[inline(never)]
+fn enter_in<F: Mergeable, D: Disk, H: Recorder<F>, G: Gate>(
+    rt: &impl Wait,
+    store: &Store<F, D, H>,
+    sessions: &mut Vec<Option<SessionId>>,
+    at: At,
+    gate: &G,
+) -> bool
+    requires within { at.partition < store.now.count }
+    requires sessions { length sessions.old.items ≡ store.now.count }
+    ensures sessions { length sessions.new.items ≡ length sessions.old.items }
+{
+    match session_in(rt, store, sessions, at, gate) {
+        Ok(_session) => true,
+        Err(_refused) => false,
     }
+}
+
+/// Whether a pass has a session in a partition: the one that it has there, or one that is entered now.
+#[inline(always)]
+pub(crate) fn has_session<F: Mergeable, D: Disk, H: Recorder<F>, G: Gate>(
+    rt: &impl Wait,
+    store: &Store<F, D, H>,
+    sessions: &mut Vec<Option<SessionId>>,
+    at: At,
+    gate: &G,
+) -> bool
+    requires within { at.partition < store.now.count }
+    requires sessions { length sessions.old.items ≡ store.now.count }
+    ensures sessions { length sessions.new.items ≡ length sessions.old.items }
+{
+    if sessions[at.partition].is_some() {
+        return true;
+    }
+    enter_in(rt, store, sessions, at, gate)
 }
 
 /// Refreshes the sessions of a pass where so many operations were answered since the last time: those in partitions whose
 /// pages were moved since they were refreshed. To the others a refresh would show nothing new.
-pub(crate) fn refresh_at_times<F: Mergeable, D: Disk, H: Recorder<F>, G: Gate>(
+fn refresh_at_times<F: Mergeable, D: Disk, H: Recorder<F>, G: Gate>(
     rt: &impl Wait,
     store: &Store<F, D, H>,
     sessions: &[Option<SessionId>],
-    seen: &mut Vec<u64>,
+    seen: &mut Seen,
     worker: u32,
     answered: &mut u8,
     gate: &G,
 ) -> Result<(), Refused>
     requires sessions { length sessions.now ≡ store.now.count }
-    requires seen { length seen.old.items ≡ store.now.count }
-    ensures seen { length seen.new.items ≡ length seen.old.items }
+    requires seen { length seen.old.each.items ≡ store.now.count }
+    ensures seen { length seen.new.each.items ≡ length seen.old.each.items }
     ensures few { OnOk result (answered.new < 64) }
     ensures only { IfErr result IsUnrefreshed }
 {
@@ -149,8 +179,54 @@ pub(crate) fn refresh_at_times<F: Mergeable, D: Disk, H: Recorder<F>, G: Gate>(
     }
 }
 
+/// Refreshes sessions as [`refresh_at_times`] does. Answers whether no session refused to.
+#[cold]
+#[inline(never)]
+fn refresh_again<F: Mergeable, D: Disk, H: Recorder<F>, G: Gate>(
+    rt: &impl Wait,
+    store: &Store<F, D, H>,
+    sessions: &[Option<SessionId>],
+    seen: &mut Seen,
+    worker: u32,
+    answered: &mut u8,
+    gate: &G,
+) -> bool
+    requires sessions { length sessions.now ≡ store.now.count }
+    requires seen { length seen.old.each.items ≡ store.now.count }
+    ensures seen { length seen.new.each.items ≡ length seen.old.each.items }
+    ensures few { IsTrue result → answered.new < 64 }
+{
+    match refresh_at_times(rt, store, sessions, seen, worker, answered, gate) {
+        Ok(()) => true,
+        Err(_refused) => false,
+    }
+}
+
+/// Whether few operations were answered since the sessions of a pass were refreshed: else they are refreshed, and none of them is to
+/// refuse.
+#[inline(always)]
+pub(crate) fn is_fresh<F: Mergeable, D: Disk, H: Recorder<F>, G: Gate>(
+    rt: &impl Wait,
+    store: &Store<F, D, H>,
+    sessions: &[Option<SessionId>],
+    seen: &mut Seen,
+    worker: u32,
+    answered: &mut u8,
+    gate: &G,
+) -> bool
+    requires sessions { length sessions.now ≡ store.now.count }
+    requires seen { length seen.old.each.items ≡ store.now.count }
+    ensures seen { length seen.new.each.items ≡ length seen.old.each.items }
+    ensures few { IsTrue result → answered.new < 64 }
+{
+    if *answered < ANSWERS {
+        return true;
+    }
+    refresh_again(rt, store, sessions, seen, worker, answered, gate)
+}
+
 impl<F: Mergeable, D: Disk, H: Recorder<F>> Pass<F, D, H> {
-    /// Whether it is a pass of this store.
+    /// That it is a pass of this store.
     pub(crate) fn known_to(&self, store: &Store<F, D, H>) -> Result<(), Refused>
         ensures ok { OnOk result (IsPassOf store.now self.now) }
         ensures refused { IfErr result (IsStrange store.now self.now) }
@@ -170,6 +246,14 @@ impl<F: Mergeable, D: Disk, H: Recorder<F>> Pass<F, D, H> {
             });
         }
         Ok(())
+    }
+
+    /// Whether it is a pass of this store.
+    #[inline(always)]
+    fn is_of(&self, store: &Store<F, D, H>) -> bool
+        ensures { IsTrue result → IsPassOf store.now self.now }
+    {
+        self.store == store.id && self.owns.partitions() == store.locks.len()
     }
 
     /// Runs an operation on a key. Where it answers, the pass took exactly one entry more, which an event of a partition
@@ -211,7 +295,7 @@ impl<F: Mergeable, D: Disk, H: Recorder<F>> Pass<F, D, H> {
         ensures counted { IfErr result (AreCounted D.Receipt.keeps (partition_of store.now.count (F.code (key_of op)))
             self.old.reads self.new.reads self.new.missed) }
     {
-        self.run_as(rt, alloc, store, op, Loads::Read, true, gate)
+        self.run_as(rt, alloc, store, op, Loads::Read, gate)
     }
 
     /// Updates a key by an input as [`Pass::run`] does, but where the functions merge it reads no page: a merge of the key by
@@ -248,23 +332,59 @@ impl<F: Mergeable, D: Disk, H: Recorder<F>> Pass<F, D, H> {
             self.old.reads self.new.reads self.new.missed) }
     {
         let op = KeyedOp::Rmw(key, input);
-        match self.run_as(rt, alloc, store, op, Loads::Merge, true, gate) {
+        match self.run_as(rt, alloc, store, op, Loads::Merge, gate) {
             Ok(_answer) => Ok(()),
             Err(refused) => Err(refused),
         }
     }
 
-    /// Runs an operation as [`Pass::run`] does, or where pages are not to be read an update as a merge. It is tried in one hold first,
-    /// where that is asked for.
+    /// Runs an operation as [`Pass::run`] does, or where pages are not to be read an update as a merge. It is tried in one hold first.
     #[inline(always)]
-    pub(crate) fn run_as<G: Gate>(
+    fn run_as<G: Gate>(
         &mut self,
         rt: &(impl Wait + Clock),
         alloc: Global,
         store: &Store<F, D, H>,
         op: KeyedOpOf<F>,
         loads: Loads,
-        at_once: bool,
+        gate: &G,
+    ) -> Result<AnswerOf<F>, Refused>
+        ensures ok { IfOk result (λ answer. (ran : KeyedOp F.Key F.Value F.Input) × IsRunAs loads op ran
+            × Runs H.keeps self.old self.new (partition_of store.now.count (F.code (key_of op))) ran answer) }
+        ensures merging { OnOk result (is_merge op ≡ true → F.MERGES ≡ true) }
+        ensures foreign { ¬ IsPassOf store.now self.old → IfErr result (IsStrange store.now self.old) }
+        ensures own { OnOk result (IsPassOf store.now self.old) }
+        ensures worn { OnOk result (self.old.share < 2 ^ 64 - 1) }
+        ensures only { IfErr result (λ why. IsStrange store.now self.old why
+            ⊎ IsUnrun F.MERGES op (slice_index self.old.told (partition_of store.now.count (F.code (key_of op)))) why) }
+        ensures stalled { IfErr result (λ why. why ≡ Refused.Stalled → self.new.turned ≡ store.now.turns) }
+        ensures within { OnOk result (self.new.turned ≤ store.now.turns) }
+        ensures unchanged { OnErr result
+            (self.new ≡ record self.old { turned = self.new.turned; missed = self.new.missed; reads = self.new.reads }) }
+        ensures steady { OnOk result (AreSteady (partition_of store.now.count (F.code (key_of op)))
+            self.old.reads self.new.reads self.new.missed) }
+        ensures counted { IfErr result (AreCounted D.Receipt.keeps (partition_of store.now.count (F.code (key_of op)))
+            self.old.reads self.new.reads self.new.missed) }
+    {
+        if !self.is_of(store) {
+            return self.run_by_events(rt, alloc, store, op, loads, gate);
+        }
+        gate.pass(self.worker, Place::Start);
+        match self.try_at_once(rt, store, &op, gate) {
+            Some(answer) => Ok(answer),
+            None => self.run_by_events(rt, alloc, store, op, loads, gate),
+        }
+    }
+
+    /// Runs an operation as [`Pass::run`] does, or where pages are not to be read an update as a merge, by its events.
+    #[inline(never)]
+    pub(crate) fn run_by_events<G: Gate>(
+        &mut self,
+        rt: &(impl Wait + Clock),
+        alloc: Global,
+        store: &Store<F, D, H>,
+        op: KeyedOpOf<F>,
+        loads: Loads,
         gate: &G,
     ) -> Result<AnswerOf<F>, Refused>
         ensures ok { IfOk result (λ answer. (ran : KeyedOp F.Key F.Value F.Input) × IsRunAs loads op ran
@@ -299,7 +419,6 @@ impl<F: Mergeable, D: Disk, H: Recorder<F>> Pass<F, D, H> {
             partition,
             worker: self.worker,
         };
-        start(gate, at_once, self.worker);
         match refresh_at_times(
             rt,
             store,
@@ -323,9 +442,8 @@ impl<F: Mergeable, D: Disk, H: Recorder<F>> Pass<F, D, H> {
             sessions: &self.sessions,
             session,
             known,
-            at_once,
         };
-        let finished = match run_in(
+        let finished = match run_by_turns(
             rt,
             store,
             &run,

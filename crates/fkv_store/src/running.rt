@@ -1,14 +1,13 @@
-//! How an operation of a pass runs, from its issue to its end: in one hold, or one event a hold, and what is done between holds.
+//! How an operation of a pass runs by its events, from its issue to its end, each in a hold; and what is done between holds.
 ghost use Rattle.std.specs.Prelude.{◌≡◌, ◌≢◌, ◌<◌, ◌≤◌, ◌+◌, ◌-◌, ◌^◌, ◌⊎◌, ℕ, true, false, None, length, map, IsTrue, IfOk, IfErr, IfSome, OnOk, IsSome};
 ghost use Rattle.fkv_operations.specs.After.{is_merge};
 ghost use Rattle.fkv_locked.specs.Turns.{IsOf, IsTurnOf};
-ghost use Rattle.fkv_store.specs.Stores.{IsUndone, IsUnturned, IsUnrefreshed, IsUntidy, IsStopped, IsUnrun};
+ghost use Rattle.fkv_store.specs.Stores.{IsUnturned, IsUnrefreshed, IsUntidy, IsStopped, IsUnrun};
 ghost use Rattle.fkv_store.specs.Runs.{IsRunAs, IsEntryOf, IsCounted, AreCounted, AreSteady};
 
 use crate::gates::{Gate, Place};
 use crate::holds::{
     At, IssuedOf, Turned, close, give_up, go, install, issue, load, may_need_page, refresh,
-    try_read_in_memory, try_update_in_place,
 };
 use crate::stores::Store;
 use crate::waiting::Patience;
@@ -31,8 +30,8 @@ pub enum Loads {
     Merge,
 }
 
-/// What a pass hands to the run of one operation: where it runs, and in which of its sessions; of how many updates of the
-/// partition it was told; and whether it is tried in one hold first.
+/// What a pass hands to the run of one operation: where it runs, and in which of its sessions; and of how many updates of the
+/// partition it was told.
 #[derive(Clone, Copy)]
 pub(crate) struct Run<'a> {
     pub alloc: Global,
@@ -40,7 +39,6 @@ pub(crate) struct Run<'a> {
     pub sessions: &'a [Option<SessionId>],
     pub session: SessionId,
     pub known: u64,
-    pub at_once: bool,
 }
 
 /// Refreshes each session of a pass.
@@ -66,33 +64,46 @@ pub(crate) fn refresh_all<F: Mergeable, D: Disk, H: Recorder<F>, G: Gate>(
     Ok(())
 }
 
-/// Refreshes the sessions of a pass in partitions whose pages were moved since they were refreshed.
+/// How often pages had been moved when the sessions of a pass were refreshed: those of any partition, and those of each.
+#[derive(Drop)]
+pub(crate) struct Seen {
+    pub any: u64,
+    pub each: Vec<u64>,
+}
+
+/// Refreshes the sessions of a pass in partitions whose pages were moved since they were refreshed. Where none were, no partition is
+/// looked at.
 pub(crate) fn refresh_moved<F: Mergeable, D: Disk, H: Recorder<F>, G: Gate>(
     rt: &impl Wait,
     store: &Store<F, D, H>,
     sessions: &[Option<SessionId>],
-    seen: &mut Vec<u64>,
+    seen: &mut Seen,
     worker: u32,
     gate: &G,
 ) -> Result<(), Refused>
     requires sessions { length sessions.now ≡ store.now.count }
-    requires seen { length seen.old.items ≡ store.now.count }
-    ensures seen { length seen.new.items ≡ length seen.old.items }
+    requires seen { length seen.old.each.items ≡ store.now.count }
+    ensures seen { length seen.new.each.items ≡ length seen.old.each.items }
     ensures only { IfErr result IsUnrefreshed }
 {
+    let any = store.moves_of_any();
+    if seen.any == any {
+        return Ok(());
+    }
     for (partition, session) in sessions.iter().enumerate() {
         let Some(session) = session else {
             continue;
         };
         let moves = store.moves_of(partition);
-        if seen[partition] == moves {
+        if seen.each[partition] == moves {
             continue;
         }
         match refresh(rt, store, At { partition, worker }, *session, gate) {
-            Ok(()) => seen[partition] = moves,
+            Ok(()) => seen.each[partition] = moves,
             Err(refused) => return Err(refused),
         }
     }
+    seen.any = any;
     Ok(())
 }
 
@@ -258,53 +269,6 @@ fn run_on<F: Mergeable, D: Disk, H: Recorder<F>, G: Gate>(
     Err(Refused::Stalled)
 }
 
-/// Makes an operation in one hold, where that is asked for and it is an update or a read that is finished so; where it is not,
-/// nothing has changed. Refused as [`try_update_in_place`] is.
-#[inline(always)]
-fn try_at_once<F: Mergeable, D: Disk, H: Recorder<F>, G: Gate>(
-    rt: &impl Wait,
-    store: &Store<F, D, H>,
-    run: &Run<'_>,
-    op: KeyedOpOf<F>,
-    gate: &G,
-) -> Result<Option<FinishedOf<F>>, Refused>
-    requires { run.now.at.partition < store.now.count }
-    ensures of { IfOk result (λ done. IfSome done (IsEntryOf op run.now.known)) }
-    ensures plain { IfOk result (λ done. IfSome done (λ _. is_merge op ≡ false)) }
-    ensures only { IfErr result (IsUndone run.now.known) }
-{
-    if !run.at_once {
-        return Ok(None);
-    }
-    match op {
-        KeyedOp::Rmw(key, input) => {
-            try_update_in_place(
-                rt,
-                store,
-                run.at,
-                run.session,
-                &key,
-                &input,
-                run.known,
-                gate,
-            )
-        }
-        KeyedOp::Read(key, input) => {
-            try_read_in_memory(
-                rt,
-                store,
-                run.at,
-                run.session,
-                &key,
-                &input,
-                run.known,
-                gate,
-            )
-        }
-        KeyedOp::Upsert(..) | KeyedOp::Delete(_) | KeyedOp::Merge(..) => Ok(None),
-    }
-}
-
 /// Issues an operation and runs it to its end. Answers its entry, or `None` where it needs a page that is not to be read. Where
 /// it is not finished it is given up, without effect.
 fn run_out<F: Mergeable, D: Disk, H: Recorder<F>, G: Gate>(
@@ -390,46 +354,10 @@ fn merge_for<F: Mergeable>(op: &KeyedOpOf<F>, loads: Loads) -> Option<KeyedOpOf<
     }
 }
 
-/// Runs an operation in a session of a pass. Where it is refused it is over, without effect.
-#[inline(always)]
-pub(crate) fn run_in<F: Mergeable, D: Disk, H: Recorder<F>, G: Gate>(
-    rt: &(impl Wait + Clock),
-    store: &Store<F, D, H>,
-    run: &Run<'_>,
-    readers: &mut Vec<D::Reader>,
-    op: KeyedOpOf<F>,
-    loads: Loads,
-    turned: &mut Turned,
-    gate: &G,
-) -> Result<FinishedOf<F>, Refused>
-    requires within { run.now.at.partition < store.now.count }
-    requires sessions { length run.now.sessions.now ≡ store.now.count }
-    requires readers { length readers.old.items ≡ store.now.count }
-    requires fresh { turned.old ≡ record { count = 0; missed = 0 } }
-    ensures readers { length readers.new.items ≡ length readers.old.items }
-    ensures op { IfOk result (λ e. IsRunAs loads op e.op) }
-    ensures fresh { IfOk result (λ e. run.now.known ≤ e.at) }
-    ensures room { IfOk result (λ e. e.at < 2 ^ 64 - 1) }
-    ensures merging { OnOk result (is_merge op ≡ true → F.MERGES ≡ true) }
-    ensures only { IfErr result (IsUnrun F.MERGES op run.now.known) }
-    ensures stalled { IfErr result (λ why. why ≡ Refused.Stalled → turned.new.count ≡ store.now.turns) }
-    ensures within { OnOk result (turned.new.count ≤ store.now.turns) }
-    ensures steady { OnOk result (AreSteady run.now.at.partition (map D.Reader.failures readers.old.items)
-        (map D.Reader.failures readers.new.items) turned.new.missed) }
-    ensures counted { IfErr result (AreCounted D.Receipt.keeps run.now.at.partition
-        (map D.Reader.failures readers.old.items) (map D.Reader.failures readers.new.items) turned.new.missed) }
-{
-    match try_at_once(rt, store, run, op, gate) {
-        Ok(Some(entry)) => Ok(entry),
-        Ok(None) => run_by_turns(rt, store, run, readers, op, loads, turned, gate),
-        Err(refused) => Err(refused),
-    }
-}
-
-/// Runs an operation as [`run_in`] does, but always by its events. An update that may need a page is made a merge at once, where that
-/// is asked for: where the last record of its key in memory, if any, has no value of it ([`may_need_page`]).
-#[inline(never)]
-fn run_by_turns<F: Mergeable, D: Disk, H: Recorder<F>, G: Gate>(
+/// Runs an operation in a session of a pass, by its events. Where it is refused it is over, without effect. An update that may need a
+/// page is made a merge at once, where that is asked for: where the last record of its key in memory, if any, has no value of it
+/// ([`may_need_page`]).
+pub(crate) fn run_by_turns<F: Mergeable, D: Disk, H: Recorder<F>, G: Gate>(
     rt: &(impl Wait + Clock),
     store: &Store<F, D, H>,
     run: &Run<'_>,

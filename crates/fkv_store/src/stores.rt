@@ -1,7 +1,7 @@
 //! A store, its beginning, and its passes.
 ghost use Rattle.std.specs.Prelude.{◌≡◌, ◌≢◌, ◌<◌, ◌*◌, ◌^◌, ◌⊎◌, ℕ, [], length, replicate, None, Err, IfOk, IfErr};
 ghost use Rattle.fkv_records.specs.Records.{size_of};
-ghost use Rattle.fkv_partition.specs.CoreViews.{partition_of};
+ghost use Rattle.fkv_partition.specs.Views.{partition_of};
 ghost use Rattle.fkv_partition.specs.Limits.{IsWithinLimits};
 ghost use Rattle.fkv_device.specs.Failing.{FailsOnlyBy};
 ghost use Rattle.fkv_store.specs.Stores.{AreReaders, IsUnopened};
@@ -9,6 +9,7 @@ ghost use Rattle.fkv_store.specs.Stores.{AreReaders, IsUnopened};
 use crate::holds::Turned;
 use crate::lists::{no_sessions, zeros};
 use crate::passes::Pass;
+use crate::running::Seen;
 use fkv_device::Disk;
 use fkv_functions::{Functions, Mergeable, Refused};
 use fkv_histories::Recorder;
@@ -33,6 +34,8 @@ pub struct Store<F: Mergeable, D: Disk, H: Recorder<F>> {
     pub(crate) locks: Vec<Mutex<Locked<F, D::Receipt, H>>>,
     /// For each partition how often its pages were moved: a session that was refreshed since the last time sees all that moved.
     pub(crate) moves: Vec<AtomicU64>,
+    /// How often pages of any partition were moved, so that who is to look whether some were reads one number.
+    pub(crate) moves_of_any: AtomicU64,
 }
 
 impl<F: Mergeable, D: Disk, H: Recorder<F>> Model for Store<F, D, H> {
@@ -167,6 +170,7 @@ impl<F: Mergeable, D: Disk, H: Recorder<F>> Store<F, D, H> {
             writers,
             locks,
             moves,
+            moves_of_any: AtomicU64::new(0),
         })
     }
 
@@ -184,11 +188,17 @@ impl<F: Mergeable, D: Disk, H: Recorder<F>> Store<F, D, H> {
         self.moves[partition].load(Ordering::SeqCst)
     }
 
+    /// How often the pages of any partition were moved.
+    pub(crate) fn moves_of_any(&self) -> u64 {
+        self.moves_of_any.load(Ordering::SeqCst)
+    }
+
     /// Tells sessions that pages of a partition were moved.
     pub(crate) fn tell_move(&self, partition: usize)
         requires { partition < self.now.count }
     {
         let _before = self.moves[partition].fetch_add(1, Ordering::SeqCst);
+        let _of_any = self.moves_of_any.fetch_add(1, Ordering::SeqCst);
     }
 
     /// The partition of a key.
@@ -237,8 +247,8 @@ impl<F: Mergeable, D: Disk, H: Recorder<F>> Store<F, D, H> {
             Ok(sessions) => sessions,
             Err(refused) => return Err(refused),
         };
-        let seen = match zeros(alloc, count) {
-            Ok(seen) => seen,
+        let each = match zeros(alloc, count) {
+            Ok(each) => each,
             Err(refused) => return Err(refused),
         };
         Ok(Pass {
@@ -247,7 +257,7 @@ impl<F: Mergeable, D: Disk, H: Recorder<F>> Store<F, D, H> {
             owns,
             told,
             sessions,
-            seen,
+            seen: Seen { any: 0, each },
             readers,
             answered: 0,
             turned: Turned::none(),

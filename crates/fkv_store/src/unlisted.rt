@@ -4,7 +4,7 @@ ghost use Rattle.std.specs.BTreeMap.{get};
 ghost use Rattle.fkv_functions.specs.Plain.{Same};
 ghost use Rattle.fkv_records.specs.Places.{page_at};
 ghost use Rattle.fkv_hybrid.specs.Scans.{IsScanRefusal, MayFail};
-ghost use Rattle.fkv_partition.specs.CoreViews.{live_of};
+ghost use Rattle.fkv_partition.specs.Views.{live_of};
 ghost use Rattle.fkv_store.specs.Stores.{IsUnlisted};
 
 use fkv_device::Disk;
@@ -44,13 +44,13 @@ impl<F: Mergeable, D: Disk> Unlisted<F, D> {
     /// record.
     pub fn list(self, alloc: Global, functions: &F) -> Result<BTreeMap<F::Key, F::Value>, Refused>
         ensures list { IsTrue D.Receipt.keeps → IfOk result (λ list.
-            Same (get F.Key.cmp list) (live_of F.Key.cmp self.partition.core)) }
+            Same (get F.Key.cmp list) (live_of F.Key.cmp self.partition)) }
         ensures refused { IfErr result (λ why. (failures : ℕ) × IsScanRefusal D.Receipt.keeps
-            (page_at self.partition.core.records.log.bits self.partition.core.records.log.begin)
-            (length self.partition.core.records.log.receipts) (D.Reader.failures self.reader) failures why) }
+            (page_at self.partition.records.log.bits self.partition.records.log.begin)
+            (length self.partition.records.log.receipts) (D.Reader.failures self.reader) failures why) }
         ensures caused { IsTrue D.Receipt.keeps → IfErr result (λ why. why ≢ Refused.NoMemory → (page : ℕ)
-            × MayFail D.Receipt.stands D.Reader.can_fail self.partition.core.records.log.receipts
-            self.partition.core.records.log.bits page) }
+            × MayFail D.Receipt.stands D.Reader.can_fail self.partition.records.log.receipts
+            self.partition.records.log.bits page) }
         ensures only { IfErr result IsUnlisted }
     {
         let Unlisted { partition, reader } = self;

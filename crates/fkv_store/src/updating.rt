@@ -2,14 +2,14 @@
 //!
 //! A hold ends where a row is not done at once, or is of another partition, and where the pass is to refresh its sessions. A row at
 //! which a hold makes nothing runs by its events.
-ghost use Rattle.std.specs.Prelude.{◌≡◌, ◌<◌, ◌≤◌, ◌⊎◌, true, false, length, take, IsTrue, IfOk, IfErr, OnOk};
+ghost use Rattle.std.specs.Prelude.{◌≡◌, ◌<◌, ◌≤◌, ◌⊎◌, length, take, IfOk, IfErr, OnOk};
 ghost use Rattle.fkv_store.specs.Passes.{PassView, IsPassOf, IsStrange};
-ghost use Rattle.fkv_store.specs.Rows.{IsMade, AreMade, IsCutShort};
+ghost use Rattle.fkv_store.specs.Rows.{AreMade, IsCutShort};
 ghost use Rattle.fkv_store.specs.declared.running.Loads.{Loads};
 
 use crate::gates::{Gate, Place};
-use crate::holds::{At, Turned};
-use crate::passes::{ANSWERS, Pass, refresh_at_times, session_in};
+use crate::holds::At;
+use crate::passes::{ANSWERS, Pass, is_fresh, session_in};
 use crate::running::Loads;
 use crate::stores::Store;
 use fkv_device::Disk;
@@ -88,7 +88,7 @@ impl<F: Mergeable, D: Disk, H: Recorder<F>> Pass<F, D, H> {
         }
         let row = rows[made];
         let op = KeyedOp::Rmw(row.0, row.1);
-        match self.run_as(rt, alloc, store, op, loads, false, gate) {
+        match self.run_by_events(rt, alloc, store, op, loads, gate) {
             Ok(_answer) => Ok(made + 1),
             Err(refused) => Err(refused),
         }
@@ -120,7 +120,7 @@ impl<F: Mergeable, D: Disk, H: Recorder<F>> Pass<F, D, H> {
             worker: self.worker,
         };
         gate.pass(at.worker, Place::Start);
-        match refresh_at_times(
+        if !is_fresh(
             rt,
             store,
             &self.sessions,
@@ -129,8 +129,7 @@ impl<F: Mergeable, D: Disk, H: Recorder<F>> Pass<F, D, H> {
             &mut self.answered,
             gate,
         ) {
-            Ok(()) => {}
-            Err(_refused) => return made,
+            return made;
         }
         let session = match session_in(rt, store, &mut self.sessions, at, gate) {
             Ok(session) => session,
@@ -189,7 +188,7 @@ impl<F: Mergeable, D: Disk, H: Recorder<F>> Pass<F, D, H> {
         made: usize,
         until: usize,
     ) -> usize
-        requires number { (held.old.partition.core.number ≡ partition) × (held.old.partition.core.count ≡ store.now.count) }
+        requires number { (held.old.partition.number ≡ partition) × (held.old.partition.count ≡ store.now.count) }
         requires here { partition < store.now.count }
         requires behind { (made ≤ until) × (until ≤ length rows.now) }
         requires own { IsPassOf store.now self.old }
@@ -200,46 +199,12 @@ impl<F: Mergeable, D: Disk, H: Recorder<F>> Pass<F, D, H> {
             → AreMade H.keeps F.code loads store.now first (take result rows.now) self.new }
     {
         for place in made..until {
-            if !self.update_one(store, held, partition, session, &rows[place]) {
-                return place;
+            let row = &rows[place];
+            match self.update_one(store, held, partition, session, &row.0, &row.1) {
+                Some(_answer) => {}
+                None => return place,
             }
         }
         until
-    }
-
-    /// Makes a row with the lock of its partition held, where it is done at once. Else nothing changes.
-    #[inline(always)]
-    fn update_one(
-        &mut self,
-        store: &Store<F, D, H>,
-        held: &mut Locked<F, D::Receipt, H>,
-        partition: usize,
-        session: SessionId,
-        row: &(F::Key, F::Input),
-    ) -> bool
-        requires number { (held.old.partition.core.number ≡ partition) × (held.old.partition.core.count ≡ store.now.count) }
-        requires here { partition < store.now.count }
-        requires own { IsPassOf store.now self.old }
-        ensures number { (held.new.partition.core.number ≡ partition) × (held.new.partition.core.count ≡ store.now.count) }
-        ensures own { IsPassOf store.now self.new }
-        ensures made { IsTrue result → (loads : Loads)
-            → IsMade H.keeps F.code loads store.now self.old row.now self.new }
-        ensures unmade { result ≡ false → self.new ≡ self.old }
-    {
-        match self.owns.make_room(partition) {
-            Ok(()) => {}
-            Err(_refused) => return false,
-        }
-        let known = self.told[partition];
-        match held.try_update_in_place(session, &row.0, &row.1, known, &store.functions) {
-            Ok(Some(finished)) => {
-                let _answer = self.owns.take(partition, finished);
-                self.told[partition] = self.owns.told_at(partition);
-                self.turned = Turned::none();
-                true
-            }
-            Ok(None) => false,
-            Err(_refused) => false,
-        }
     }
 }

@@ -12,6 +12,8 @@ mod random;
 #[cfg(test)]
 mod rising;
 #[cfg(test)]
+mod spills;
+#[cfg(test)]
 mod streams;
 #[cfg(test)]
 mod tables;

@@ -55,7 +55,7 @@ pub struct Filed {
     reader: FileReader<File>,
     writer: FileWriter<File>,
     now: u64,
-    ghost timely: { partition.core.moment ≤ now },
+    ghost timely: { partition.moment ≤ now },
 }
 
 fn done_told(done: Result<(), Refused>) -> Told {
@@ -83,7 +83,7 @@ impl Filed {
 
     /// Takes the lowest page, writes it, and hands it in.
     fn flushed(&mut self, alloc: Global, now: u64) -> Told
-        requires { self.old.partition.core.moment < now }
+        requires { self.old.partition.moment < now }
     {
         let Some(later) = now.checked_add(1) else {
             return Told::Refused(Refused::Worn);

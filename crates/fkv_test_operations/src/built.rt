@@ -47,7 +47,7 @@ type Row = (Call, Result<Told, Refused>);
 struct Driven {
     partition: Partition<SumFns, MemoryReceipt>,
     now: u64,
-    ghost timely: { partition.core.moment ≤ now },
+    ghost timely: { partition.moment ≤ now },
 }
 
 /// The question on a name.
@@ -101,8 +101,8 @@ fn told_at(
     call: Call,
     now: u64,
 ) -> Result<Told, Refused>
-    requires { partition.old.core.moment < now }
-    ensures { partition.new.core.moment ≤ now }
+    requires { partition.old.moment < now }
+    ensures { partition.new.moment ≤ now }
 {
     match call {
         Call::Enter => numbered(partition.enter(now)),

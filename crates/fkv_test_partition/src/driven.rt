@@ -37,7 +37,7 @@ pub struct Driven {
     pub now: u64,
     /// The moment of the effect of the operation that was done last.
     pub effect: u64,
-    ghost timely: { compacted.core.moment ≤ now },
+    ghost timely: { compacted.moment ≤ now },
 }
 
 /// The place of a context among those of all sessions.

@@ -50,7 +50,7 @@ struct Lone {
     writer: UnsureWriter,
     receipt: Option<UnsureReceipt>,
     now: u64,
-    ghost timely: { partition.core.moment ≤ now },
+    ghost timely: { partition.moment ≤ now },
 }
 
 impl Lone {

@@ -1,7 +1,8 @@
 //! Folders of pages: two partitions that leave memory, a page that another program changes, and a device that is full.
-use crate::commands::{ends, ends_by, start};
+use crate::commands::{ends, ends_by, split, start};
+use fkv_commands::{FeedFiles, run};
 use fkv_meters::Silent;
-use fkv_streams::CountedReader;
+use fkv_streams::{CountedReader, CountedWriter};
 use std::alloc::Global;
 use std::fs::{self, Files, OpenFile, OpenOptions};
 use std::io::{self, Read, Write};
@@ -24,11 +25,13 @@ fn forty(alloc: Global) -> io::Result<(String, String)> {
 }
 
 /// Options of runs whose partitions move pages to a folder.
-const MOVING: [&str; 6] = [
+const MOVING: [&str; 8] = [
     "sum --partition-bits 1 --page-bits 8 --frames 2 --dir folders/pages",
     "sum --partition-bits 1 --page-bits 8 --frames 2 --dir folders/pages --merge",
     "sum --partition-bits 2 --page-bits 8 --frames 2 --dir folders/pages",
     "sum --partition-bits 0 --page-bits 9 --frames 2 --dir folders/pages",
+    "sum --partition-bits 1 --page-bits 8 --frames 2 --dir folders/pages --spill",
+    "sum --partition-bits 2 --page-bits 8 --frames 2 --dir folders/pages --spill --merge folders/rows folders/none",
     "sum --partition-bits 1 --page-bits 8 --frames 2 --dir folders/pages --audit",
     "sum --partition-bits 1 --page-bits 8 --frames 2 --dir folders/pages --workers 2 folders/rows folders/none",
 ];
@@ -122,6 +125,73 @@ fn files_that_change(rt: HostRuntime) -> Result<(), Fail> {
         );
     }
     fs::remove_dir_all(&rt, "harmed")?;
+    Ok(())
+}
+
+/// Takes a text, and cuts a file to nothing before it takes the first of it.
+#[derive(Drop)]
+struct CuttingWriter<'a, H: Files> {
+    rt: &'a H,
+    path: &'a str,
+    text: Vec<u8>,
+}
+
+impl<H: Files> Write for CuttingWriter<'_, H> {
+    fn write(&mut self, buf: &[u8]) -> io::Result<usize> {
+        if self.text.is_empty() {
+            let mut how = OpenOptions::new();
+            how.write(true).open(self.rt, self.path)?.set_len(0)?;
+        }
+        self.text.write(buf)
+    }
+
+    fn flush(&mut self) -> io::Result<()> {
+        Ok(())
+    }
+}
+
+/// Ten thousand keys: the rows of their table, which are those of the feed too, are more than 64 KiB.
+fn ten_thousand(alloc: Global) -> io::Result<String> {
+    let mut rows = String::new(alloc);
+    for key in 10_000..20_000u64 {
+        write!(rows, "k{key},{key}\n")?;
+    }
+    Ok(rows)
+}
+
+/// The pages of a table that is spilled go once its first rows were written: the run ends with status 1, and these rows stand.
+#[test]
+fn a_table_that_is_cut(rt: HostRuntime) -> Result<(), Fail> {
+    let rows = ten_thousand(rt.alloc())?;
+    let line = "fkv_cli sum --spill --partition-bits 0 --page-bits 8 --frames 2 --dir cut";
+    let words = split(rt.alloc(), line)?;
+    let mut writer = CuttingWriter {
+        rt: &rt,
+        path: "cut/part-00.log",
+        text: Vec::new(rt.alloc()),
+    };
+    let mut faults = Vec::new(rt.alloc());
+    let ended = run(
+        &rt,
+        rt.alloc(),
+        words.as_slice(),
+        &mut CountedReader::new(rows.as_bytes()),
+        &mut CountedWriter::new(&mut writer),
+        &mut CountedWriter::new(&mut faults),
+        &Silent,
+        &FeedFiles::new(&rt, &Silent),
+    );
+    let part = writer.text.as_slice();
+    assert!(rt; ended.status == 1);
+    assert!(rt;
+        part.len() > 60_000 && part.len() < rows.len() && rows.as_bytes().starts_with(part)
+    );
+    assert!(rt;
+        faults
+            .as_slice()
+            .starts_with(b"fkv_cli: device fault 3 on page ")
+    );
+    fs::remove_dir_all(&rt, "cut")?;
     Ok(())
 }
 

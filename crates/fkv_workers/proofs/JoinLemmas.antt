@@ -17,7 +17,7 @@ use Rattle.fkv_operations.specs.declared.operations.KeyedOp.{KeyedOp}
 use Rattle.fkv_histories.specs.declared.entries.Entry.{Entry}
 use Rattle.fkv_histories.specs.Histories.{updates, is_update_entry, ops_of, map_of}
 use Rattle.fkv_histories.specs.Merges.{Told, told, IsShuffle}
-use Rattle.fkv_partition.specs.CoreViews.{partition_of}
+use Rattle.fkv_partition.specs.Views.{partition_of}
 use Rattle.fkv_store.specs.Passes.{IsUpdateBy}
 use Rattle.fkv_feeds.specs.Tables.{AreFeeds, amounts_of, folded}
 use Rattle.fkv_blocks.specs.Pieces.{AreFed}

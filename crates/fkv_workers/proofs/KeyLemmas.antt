@@ -9,7 +9,7 @@ use Rattle.fkv_functions.specs.Plain.{PlainMap, IsKeyOrder}
 use Rattle.fkv_operations.specs.After.{after, after_update, after_all}
 use Rattle.fkv_operations.specs.declared.operations.KeyedOp.{KeyedOp}
 use Rattle.fkv_operations.specs.declared.operations.KeyedOp.TheVariants.{Read, Upsert, Rmw, Delete, Merge}
-use Rattle.fkv_partition.specs.CoreViews.{partition_of}
+use Rattle.fkv_partition.specs.Views.{partition_of}
 use Rattle.fkv_feeds.specs.Tables.{amounts_of, folded_on}
 use Rattle.fkv_histories.specs.declared.entries.Entry.{Entry}
 use Rattle.fkv_histories.specs.Histories.{ops_of}

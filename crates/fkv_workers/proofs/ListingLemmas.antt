@@ -13,9 +13,8 @@ use Rattle.fkv_functions.specs.declared.names.Name.{Name}
 use Rattle.fkv_functions.specs.declared.refusals.Refused.{Refused}
 use Rattle.fkv_functions.specs.declared.refusals.Refused.TheVariants.{NoMemory}
 use Rattle.fkv_functions.proofs.KeyOrder.{key_order}
-use Rattle.fkv_partition.specs.CoreViews.{live_of, partition_of}
+use Rattle.fkv_partition.specs.Views.{live_of, partition_of, PartitionView}
 use Rattle.fkv_partition.specs.Unions.{live_at, union_of}
-use Rattle.fkv_partition.specs.Views.{PartitionView}
 use Rattle.fkv_closing.specs.Closing.{AreNumbered}
 use Rattle.fkv_runs.specs.Merging.{merged, AreHomed}
 use Rattle.fkv_runs.proofs.MadeLemmas.{nat_eq-refl, nat_eq-is, those-homed, those-rise, those-lookup, AreRuns, AreOf, runs-rise, of-all}
@@ -31,17 +30,17 @@ home code count k = partition_of count (code k)
 module _ {V I : Type 0} (keeps : Bool) (code : Name → ℕ) where
   -- of the pairs that a partition lists, those at home
   pub run_made : (view : PartitionView Name V I) (number count : ℕ) (pairs run : List (Name × V))
-      → number ≡ view.core.number → count ≡ view.core.count
+      → number ≡ view.number → count ≡ view.count
       → run ≡ filter (λ pair. nat_eq (code pair.0 % count) number) pairs
       → IsStrictlySortedBy name_cmp (keys_of pairs)
-      → (IsTrue keeps → (k : Name) → lookup (is_at (name_cmp k)) pairs ≡ live_of name_cmp view.core k)
+      → (IsTrue keeps → (k : Name) → lookup (is_at (name_cmp k)) pairs ≡ live_of name_cmp view k)
       → IsRunOf keeps code view run
   run_made view number count pairs run n c is rising listed =
       let test : Name → Bool = λ q. nat_eq (code q % count) number in
       subst (IsRunOf keeps code view) (sym is)
       (record {
         rising = those-rise name_cmp test pairs rising;
-        homed = those-homed test (λ q. partition_of view.core.count (code q)) view.core.number
+        homed = those-homed test (λ q. partition_of view.count (code q)) view.number
             (λ q t. ap (λ m. code q % m) (sym c) ∙ nat_eq-is (code q % count) number t ∙ n) pairs;
         has = λ kept k own.
             those-lookup name_cmp test order k pairs (nat_eq-refl (code k % count) number (ap (λ m. code k % m) c ∙ own ∙ sym n))
@@ -51,15 +50,15 @@ module _ {V I : Type 0} (keeps : Bool) (code : Name → ℕ) where
   -- ---- a run of each partition from a place on, in a store of so many
   module _ (count : ℕ) where
     runs_homed : (first : ℕ) (views : List (PartitionView Name V I)) (runs : List (List (Name × V)))
-        → ((p : ℕ) (v : PartitionView Name V I) → slice_get views p ≡ Some v → v.core.number ≡ first + p)
-        → ((p : ℕ) (v : PartitionView Name V I) → slice_get views p ≡ Some v → v.core.count ≡ count)
+        → ((p : ℕ) (v : PartitionView Name V I) → slice_get views p ≡ Some v → v.number ≡ first + p)
+        → ((p : ℕ) (v : PartitionView Name V I) → slice_get views p ≡ Some v → v.count ≡ count)
         → AllZip (IsRunOf keeps code) views runs → AreHomed (home code count) first runs
     runs_homed first [] [] numbered counted all = tt
     runs_homed first [] (r ∷ runs) numbered counted all = absurd all
     runs_homed first (v ∷ views) [] numbered counted all = absurd all
     runs_homed first (v ∷ views) (r ∷ runs) numbered counted all = (
       subst (λ n. AllByRecursion (λ q. home code count q ≡ n) (keys_of r)) (numbered 0 v refl ∙ (let z : first + 0 ≡ first = omega arith in z))
-          (subst (λ m. AllByRecursion (λ q. partition_of m (code q) ≡ v.core.number) (keys_of r)) (counted 0 v refl) all.0.homed),
+          (subst (λ m. AllByRecursion (λ q. partition_of m (code q) ≡ v.number) (keys_of r)) (counted 0 v refl) all.0.homed),
       runs_homed (suc first) views runs (λ p w at. numbered (suc p) w at ∙ (let z : first + suc p ≡ suc first + p = omega arith in z)) (λ p w at. counted (suc p) w at) all.1,
     )
 

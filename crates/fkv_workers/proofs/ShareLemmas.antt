@@ -8,7 +8,7 @@ use Rattle.std.proofs.lemmas.List.{append-nil, length-set, get_or-set_same, get_
 use Rattle.std.proofs.lemmas.List.Elements.{filter-append, All-push, All-set}
 use Rattle.std.proofs.Math.Nat.{mod-lt}
 use Rattle.fkv_functions.specs.declared.names.Name.{Name}
-use Rattle.fkv_partition.specs.CoreViews.{partition_of}
+use Rattle.fkv_partition.specs.Views.{partition_of}
 use Rattle.fkv_histories.specs.declared.entries.Entry.{Entry}
 use Rattle.fkv_store.specs.Passes.{IsUpdateBy}
 use Rattle.fkv_feeds.specs.declared.modes.RowMode.{RowMode}

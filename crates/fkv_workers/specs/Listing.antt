@@ -9,16 +9,15 @@ use Rattle.fkv_functions.specs.declared.names.Name.{Name}
 use Rattle.fkv_functions.specs.declared.refusals.Refused.{Refused}
 use Rattle.fkv_records.specs.Places.{page_at}
 use Rattle.fkv_hybrid.specs.Scans.{IsScanRefusal}
-use Rattle.fkv_partition.specs.CoreViews.{live_of, partition_of}
-use Rattle.fkv_partition.specs.Views.{PartitionView}
+use Rattle.fkv_partition.specs.Views.{live_of, partition_of, PartitionView}
 
 -- the run of a partition: its keys rise, and each is one of the partition's; on a device that keeps, each key of the partition has in
 -- it what it has there
 pub record IsRunOf {V I : Type 0} (keeps : Bool) (code : Name → ℕ) (view : PartitionView Name V I) (run : List (Name × V)) : Type 0 where
   pub rising : IsStrictlySortedBy name_cmp (keys_of run)
-  pub homed : AllByRecursion (λ k. partition_of view.core.count (code k) ≡ view.core.number) (keys_of run)
-  pub has : IsTrue keeps → (k : Name) → partition_of view.core.count (code k) ≡ view.core.number
-      → lookup (is_at (name_cmp k)) run ≡ live_of name_cmp view.core k
+  pub homed : AllByRecursion (λ k. partition_of view.count (code k) ≡ view.number) (keys_of run)
+  pub has : IsTrue keeps → (k : Name) → partition_of view.count (code k) ≡ view.number
+      → lookup (is_at (name_cmp k)) run ≡ live_of name_cmp view k
 
 -- why partitions have no run: a flushed page of one of them is not read, by the failures of its reader before and after
 pub record IsRunless {X V I : Type 0} (keeps : Bool) (view : X → PartitionView Name V I) (failures : X → ℕ) (parts : List X)
@@ -27,8 +26,8 @@ pub record IsRunless {X V I : Type 0} (keeps : Bool) (view : X → PartitionView
   pub part : X
   pub here : slice_get parts place ≡ Some part
   pub now : ℕ
-  pub scan : IsScanRefusal keeps (page_at (view part).core.records.log.bits (view part).core.records.log.begin)
-      (length (view part).core.records.log.receipts) (failures part) now why
+  pub scan : IsScanRefusal keeps (page_at (view part).records.log.bits (view part).records.log.begin)
+      (length (view part).records.log.receipts) (failures part) now why
 
 -- what was refused first: all results before it are there
 pub record IsFirstRefusal {A : Type 0} (results : List (Result A Refused)) (why : Refused) : Type 0 where

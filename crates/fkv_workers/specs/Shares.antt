@@ -9,7 +9,7 @@ use Rattle.fkv_functions.specs.declared.names.Name.{Name}
 use Rattle.fkv_histories.specs.declared.entries.Entry.{Entry}
 use Rattle.fkv_histories.specs.Histories.{updates, map_of}
 use Rattle.fkv_histories.specs.Merges.{IsShuffle}
-use Rattle.fkv_partition.specs.CoreViews.{partition_of}
+use Rattle.fkv_partition.specs.Views.{partition_of}
 use Rattle.fkv_store.specs.Passes.{IsUpdateBy}
 use Rattle.fkv_feeds.specs.Tables.{AreFeeds}
 

@@ -18,7 +18,7 @@ use Rattle.fkv_closing.specs.Closing.{IsClosed}
 use Rattle.fkv_histories.specs.declared.entries.Entry.{Entry}
 use Rattle.fkv_partition.specs.Limits.{IsWithinLimits}
 use Rattle.fkv_partition.specs.declared.limits.Config.{Config}
-use Rattle.fkv_partition.specs.CoreViews.{partition_of}
+use Rattle.fkv_partition.specs.Views.{partition_of}
 use Rattle.fkv_store.specs.declared.running.Loads.{Loads}
 use Rattle.fkv_store.specs.declared.running.Loads.TheVariants as loads
 use Rattle.fkv_store.specs.Stores.{IsTold, IsUnopened, IsClosing}

@@ -8,7 +8,7 @@ ghost use Rattle.std.specs.Map.{lookup, keys_of};
 ghost use Rattle.fkv_functions.specs.Names.{name_cmp};
 ghost use Rattle.fkv_functions.specs.declared.names.Name.{Name};
 ghost use Rattle.fkv_histories.specs.declared.entries.Entry.{Entry};
-ghost use Rattle.fkv_partition.specs.CoreViews.{partition_of};
+ghost use Rattle.fkv_partition.specs.Views.{partition_of};
 ghost use Rattle.fkv_store.specs.Passes.{IsUpdateBy};
 ghost use Rattle.fkv_feeds.specs.Tables.{AreFeeds, IsTableOf, amounts_of, folded, most_rows};
 ghost use Rattle.fkv_blocks.specs.Pieces.{AreFed};

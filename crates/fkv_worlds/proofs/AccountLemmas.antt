@@ -317,4 +317,4 @@ module _ {K V I O R : Type 0} (stands : R → Standing) (entry : ℕ → List �
   account-acts new step r (acts.loads w access v v' receipt came p a due has comes does ev to is) =
       let q = load-question cmp f v v' w.slot w.context (suc s.moment) p ev in
       rw (is, to, taken-took rs (Ok (told p)) refl) (account-progress step w v q.0 p (ap context_of a) (here-of w v step (Load w access) a refl due.here) q.1)
-  account-acts new step r (acts.truncates p v v' a due does ev to is) = silent new step r (outcome.Truncated v'.core.records.log.begin) refl refl (ap (λ (z : StateView K V I O R). z.lives) to) (ap (λ (z : StateView K V I O R). z.moment) to) is
+  account-acts new step r (acts.truncates p v v' a due does ev to is) = silent new step r (outcome.Truncated v'.records.log.begin) refl refl (ap (λ (z : StateView K V I O R). z.lives) to) (ap (λ (z : StateView K V I O R). z.moment) to) is

@@ -71,7 +71,7 @@ module _ {K V I O R : Type 0} (stands : R → Standing) (entry : ℕ → List �
     acts-evict page does ev =
         rw e (acts.evicts p page old new refl (due (Head p page) old here refl) (subst (λ m. Evicts true old new page m (Ok tt)) e does) (subst (λ m. IsQuiet true old new m) e ev) refl refl)
 
-    pub acts-take : (job : FlushJob) → job.page ≡ length old.core.records.log.receipts → slice_get old.core.records.log.waiting 0 ≡ Some job.bytes → new ≡ at_moment old next
+    pub acts-take : (job : FlushJob) → job.page ≡ length old.records.log.receipts → slice_get old.records.log.waiting 0 ≡ Some job.bytes → new ≡ at_moment old next
         → Acts stands entry cmp join f code s (record s { partitions = slice_set s.partitions p new; jobs = slice_set s.jobs p (Some job); moment = next }) (Take p) (Ok (outcome.Taken job.page))
     acts-take job page bytes is = rw (is, e) (acts.takes p old job refl (due (Take p) old here refl) page bytes refl refl)
 
@@ -86,11 +86,11 @@ module _ {K V I O R : Type 0} (stands : R → Standing) (entry : ℕ → List �
         rw (e, works) (acts.writes p old new job refl (due (Write p Works) old here (ap (λ a. is_unasked s (Write p a)) (sym works) ∙ asked)) has
         (subst (λ m. Flushes old new (receipt_of job) job.bytes m (Ok tt)) e does) (subst (λ m. IsQuiet true old new m) e ev) refl refl)
 
-    pub acts-truncate : Truncates true old new (page_at old.core.records.log.bits old.cleared) next (Ok tt) → IsTruncation true cmp old new (page_at old.core.records.log.bits old.cleared) next
-        → Acts stands entry cmp join f code s (record s { partitions = slice_set s.partitions p new; moment = next }) (Truncate p) (Ok (outcome.Truncated new.core.records.log.begin))
+    pub acts-truncate : Truncates true old new (page_at old.records.log.bits old.cleared) next (Ok tt) → IsTruncation true cmp old new (page_at old.records.log.bits old.cleared) next
+        → Acts stands entry cmp join f code s (record s { partitions = slice_set s.partitions p new; moment = next }) (Truncate p) (Ok (outcome.Truncated new.records.log.begin))
     acts-truncate does ev =
-        rw e (acts.truncates p old new refl (due (Truncate p) old here refl) (subst (λ m. Truncates true old new (page_at old.core.records.log.bits old.cleared) m (Ok tt)) e does)
-        (subst (λ m. IsTruncation true cmp old new (page_at old.core.records.log.bits old.cleared) m) e ev) refl refl)
+        rw e (acts.truncates p old new refl (due (Truncate p) old here refl) (subst (λ m. Truncates true old new (page_at old.records.log.bits old.cleared) m (Ok tt)) e does)
+        (subst (λ m. IsTruncation true cmp old new (page_at old.records.log.bits old.cleared) m) e ev) refl refl)
 
     pub acts-issue : (slot c : ℕ) (op : Op K V I) (seat : Seat) → Issues code old new slot op next (Ok c) → IsIssue code old new slot c op next → slot < 16 → slice_get s.seats (seat_row p slot) ≡ Some seat
         → Acts stands entry cmp join f code s (record s {

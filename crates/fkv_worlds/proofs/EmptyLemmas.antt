@@ -12,12 +12,11 @@ use Rattle.fkv_functions.specs.declared.asks.Ask.{Ask}
 use Rattle.fkv_device.specs.declared.messages.FlushJob.{FlushJob}
 use Rattle.fkv_partition.specs.declared.limits.Config.{Config}
 use Rattle.fkv_partition.specs.Limits.{IsWithinLimits}
-use Rattle.fkv_partition.specs.CoreViews.{partition_of}
-use Rattle.fkv_partition.specs.Views.{PartitionView, empty_partition}
+use Rattle.fkv_partition.specs.Views.{partition_of, PartitionView, empty_partition}
 use Rattle.fkv_partition.specs.Pending.{Pending}
 use Rattle.fkv_partition.specs.Effect.{Asked, asked}
 use Rattle.fkv_partition.specs.Unions.{live_at}
-use Rattle.fkv_partition.specs.CoreContexts.{is_session}
+use Rattle.fkv_partition.specs.Contexts.{is_session}
 use Rattle.fkv_worlds.specs.declared.tables.Seat.{Seat}
 use Rattle.fkv_worlds.specs.States.{StateView, state_of, IsBlank, empty_partitions, empty_state}
 use Rattle.fkv_lives.specs.declared.lives.Life.{Life}
@@ -126,9 +125,9 @@ module _ {K V I O : Type 0} (R : Type 0) (cmp : K → K → Ordering) (f : Meani
       };
       housed = record {
         some = rw sized b.0;
-        numbered = λ p v h. ap (λ (z : PartitionView K V I). z.core.number) (empty-at merges config size (2 ^ config.partition_bits) p v h);
-        counted = λ p v h. ap (λ (z : PartitionView K V I). z.core.count) (empty-at merges config size (2 ^ config.partition_bits) p v h) ∙ sym sized;
-        past = λ p v h. (let e = ap (λ (z : PartitionView K V I). z.core.moment) (empty-at merges config size (2 ^ config.partition_bits) p v h) in omega arith);
+        numbered = λ p v h. ap (λ (z : PartitionView K V I). z.number) (empty-at merges config size (2 ^ config.partition_bits) p v h);
+        counted = λ p v h. ap (λ (z : PartitionView K V I). z.count) (empty-at merges config size (2 ^ config.partition_bits) p v h) ∙ sym sized;
+        past = λ p v h. (let e = ap (λ (z : PartitionView K V I). z.moment) (empty-at merges config size (2 ^ config.partition_bits) p v h) in omega arith);
         routed = λ w x q h k. absurd (asked-empty merges config size (2 ^ config.partition_bits) w x h);
       };
       held = record {

@@ -105,7 +105,7 @@ module _ {K V I O R : Type 0} (cmp : K → K → Ordering) (f : Meanings K V I O
     pub here : slice_get s.partitions p ≡ Some old
     here = at-index s.partitions p old due.there is
 
-    pub event-later : old.core.moment < now
+    pub event-later : old.moment < now
     event-later = let m = state.world.housed.past p old here in let next = due.next in omega arith
 
     -- what is refused leaves the state
@@ -119,11 +119,11 @@ module _ {K V I O R : Type 0} (cmp : K → K → Ordering) (f : Meanings K V I O
     module _ (new : PartitionView K V I) (o : IsKeyOrder cmp) where
       pub entered-state : (slot : ℕ) → {enters : List ℕ} {seats : List Seat} → enters ≡ slice_set s.enters p (unwrap_or (slice_get s.enters p) 0 + 1)
           → seats ≡ slice_set s.seats (seat_row p slot) (record { session = unwrap_or (slice_get s.enters p) 0 + 1; issues = 0 })
-          → IsQuiet true old new now → AllPend cmp old.core new.core
+          → IsQuiet true old new now → AllPend cmp old new
           → IsState cmp f code (record s { partitions = slice_set s.partitions p new; enters = enters; seats = seats; moment = now })
       entered-state slot a b ev pends = let n = entered in rw (a, b, n.1) (state-enter cmp o f code s state now due.next p slot n.0 old new here ev pends n.1)
 
-      pub quiet-state : IsQuiet true old new now → AllPend cmp old.core new.core → IsState cmp f code (record s { partitions = slice_set s.partitions p new; moment = now })
+      pub quiet-state : IsQuiet true old new now → AllPend cmp old new → IsState cmp f code (record s { partitions = slice_set s.partitions p new; moment = now })
       quiet-state ev pends = state-quiet cmp o f code s state now due.next p old new here ev pends
 
       pub truncated-state : (page : ℕ) → IsTruncation true cmp old new page now → IsState cmp f code (record s { partitions = slice_set s.partitions p new; moment = now })
@@ -134,7 +134,7 @@ module _ {K V I O R : Type 0} (cmp : K → K → Ordering) (f : Meanings K V I O
           → kept ≡ s.lives → lives ≡ kept ++ begun_life p (seat_at s.seats p slot) op now ∷ [] → seats ≡ slice_set s.seats (seat_row p slot) (after_issue (seat_at s.seats p slot))
           → begun ≡ slice_set s.begun (context_row (record { partition = p; slot = slot; context = c })) (length kept) → questions ≡ slice_set s.questions (context_row (record { partition = p; slot = slot; context = c })) None
           → receipts ≡ slice_set s.receipts (context_row (record { partition = p; slot = slot; context = c })) None → enters ≡ s.enters
-          → IsIssue code old new slot c op now → AllPend cmp old.core new.core → slot < 16 → c < 8
+          → IsIssue code old new slot c op now → AllPend cmp old new → slot < 16 → c < 8
           → IsState cmp f code (state_of (slice_set s.partitions p new) begun questions receipts s.jobs seats enters lives now)
       issued-state slot c op k l e b q r n ev pends low within = rw (l, e, b, q, r, n, k) (state-issue cmp o f code s state now due.next p slot c op (seat_at s.seats p slot) old new here ev pends low within (seated slot low))
 
@@ -193,11 +193,11 @@ module _ {K V I O R : Type 0} {stands : R → Standing} {entry : ℕ → List �
     pub does-evict : (page : ℕ) → Evicts true old new page now (Ok tt) → IsQuiet true old new now → Acts stands entry cmp join f code s (record s { partitions = slice_set s.partitions p new; moment = now }) (Head p page) (Ok outcome.Shifted)
     does-evict page does ev = acts-evict stands entry cmp join f code s now due.next due.fits p old new (here cmp f code s state p now due old is) page does ev
 
-    pub refused-truncate : (r : Refused) → new ≡ old → Truncates true old new (page_at old.core.records.log.bits old.cleared) now (Err r) → Acts stands entry cmp join f code s (record s { partitions = slice_set s.partitions p new }) (Truncate p) (Err r)
-    refused-truncate r same does = refused-step (Truncate p) refl refl r same (refusing.truncate p (subst (λ (v : PartitionView K V I). Truncates true old v (page_at old.core.records.log.bits old.cleared) now (Err r)) same does))
+    pub refused-truncate : (r : Refused) → new ≡ old → Truncates true old new (page_at old.records.log.bits old.cleared) now (Err r) → Acts stands entry cmp join f code s (record s { partitions = slice_set s.partitions p new }) (Truncate p) (Err r)
+    refused-truncate r same does = refused-step (Truncate p) refl refl r same (refusing.truncate p (subst (λ (v : PartitionView K V I). Truncates true old v (page_at old.records.log.bits old.cleared) now (Err r)) same does))
 
-    pub does-truncate : (begin : ℕ) → begin ≡ new.core.records.log.begin → Truncates true old new (page_at old.core.records.log.bits old.cleared) now (Ok tt)
-        → IsTruncation true cmp old new (page_at old.core.records.log.bits old.cleared) now
+    pub does-truncate : (begin : ℕ) → begin ≡ new.records.log.begin → Truncates true old new (page_at old.records.log.bits old.cleared) now (Ok tt)
+        → IsTruncation true cmp old new (page_at old.records.log.bits old.cleared) now
         → Acts stands entry cmp join f code s (record s { partitions = slice_set s.partitions p new; moment = now }) (Truncate p) (Ok (outcome.Truncated begin))
     does-truncate begin at does ev = rw at (acts-truncate stands entry cmp join f code s now due.next due.fits p old new (here cmp f code s state p now due old is) does ev)
 
@@ -222,7 +222,7 @@ module _ {K V I O R : Type 0} (cmp : K → K → Ordering) (f : Meanings K V I O
   pub life-told : {begun : List ℕ} {place : ℕ} → place ≡ life_in begun w → begun ≡ s.begun → (x : Asked K V I) → asked old w.slot w.context ≡ Some x → place < length s.lives
   life-told at_is begun_is x h = rw (at_is, begun_is) (life-there x h)
 
-  module _ (new : PartitionView K V I) (o : IsKeyOrder cmp) (others : OthersPend cmp old.core new.core w.slot w.context) where
+  module _ (new : PartitionView K V I) (o : IsKeyOrder cmp) (others : OthersPend cmp old new w.slot w.context) where
     -- the life at a place that the tables tell is ended
     pub ended-state : (end : End O) → finish_in end ≡ None → {begun : List ℕ} {place : ℕ} {lives : List (Life K V I O)} → place ≡ life_in begun w → begun ≡ s.begun → lives ≡ ended_at s.lives place end
         → IsGiveUp old new w.slot w.context now → IsState cmp f code (record s { partitions = slice_set s.partitions w.partition new; lives = lives; moment = now })

@@ -31,10 +31,10 @@ same_where w u = elim (cases_eq w.partition u.partition) [
 -- ---- a partition's contexts
 -- what asks nothing waits for nothing, and what waits asks
 module _ {K V I : Type 0} (cmp : K → K → Ordering) (v : PartitionView K V I) (slot c : ℕ) where
-  pub closed-none : asked v slot c ≡ None → pending cmp v.core slot c ≡ None
+  pub closed-none : asked v slot c ≡ None → pending cmp v slot c ≡ None
   closed-none h = closed-pending v slot c cmp h
 
-  pub waiting-asks : (p : Pending V) → pending cmp v.core slot c ≡ Some p → (x : Asked K V I) × (asked v slot c ≡ Some x)
+  pub waiting-asks : (p : Pending V) → pending cmp v slot c ≡ Some p → (x : Asked K V I) × (asked v slot c ≡ Some x)
   waiting-asks p h = by_question (asked v slot c) refl
     where
       by_question : (o : Option (Asked K V I)) → asked v slot c ≡ o → (x : Asked K V I) × (asked v slot c ≡ Some x)
@@ -51,22 +51,22 @@ waiting-at {K} {V} {I} cmp views w q h = at (slice_get views w.partition) h
 
 -- ---- one partition changes
 module _ {K V I : Type 0} (cmp : K → K → Ordering) (views : List (PartitionView K V I)) (p : ℕ) (old new : PartitionView K V I) (here : slice_get views p ≡ Some old) where
-  pub pend-here : (slot c : ℕ) → pending_in cmp (slice_set views p new) (record { partition = p; slot = slot; context = c }) ≡ pending cmp new.core slot c
+  pub pend-here : (slot c : ℕ) → pending_in cmp (slice_set views p new) (record { partition = p; slot = slot; context = c }) ≡ pending cmp new slot c
   pend-here slot c = ap (λ t. pending_at cmp t slot c) (get-set_same views p old new here)
 
-  pub pend-was : (slot c : ℕ) → pending_in cmp views (record { partition = p; slot = slot; context = c }) ≡ pending cmp old.core slot c
+  pub pend-was : (slot c : ℕ) → pending_in cmp views (record { partition = p; slot = slot; context = c }) ≡ pending cmp old slot c
   pend-was slot c = ap (λ t. pending_at cmp t slot c) here
 
   pend-elsewhere : (w : ContextId) → w.partition ≢ p → pending_in cmp (slice_set views p new) w ≡ pending_in cmp views w
   pend-elsewhere w n = ap (λ t. pending_at cmp t w.slot w.context) (get-set_other views p w.partition new n)
 
-  in_place : (w : ContextId) → w.partition ≡ p → pending cmp new.core w.slot w.context ≡ pending cmp old.core w.slot w.context → pending_in cmp (slice_set views p new) w ≡ pending_in cmp views w
+  in_place : (w : ContextId) → w.partition ≡ p → pending cmp new w.slot w.context ≡ pending cmp old w.slot w.context → pending_in cmp (slice_set views p new) w ≡ pending_in cmp views w
   in_place w r same =
       ap (λ q. pending_at cmp (slice_get (slice_set views p new) q) w.slot w.context) r
       ∙ pend-here w.slot w.context ∙ same ∙ sym (pend-was w.slot w.context)
       ∙ ap (λ q. pending_at cmp (slice_get views q) w.slot w.context) (sym r)
 
-  pub pend-others : (slot c : ℕ) → OthersPend cmp old.core new.core slot c → (w : ContextId) → w ≢ record { partition = p; slot = slot; context = c } → pending_in cmp (slice_set views p new) w ≡ pending_in cmp views w
+  pub pend-others : (slot c : ℕ) → OthersPend cmp old new slot c → (w : ContextId) → w ≢ record { partition = p; slot = slot; context = c } → pending_in cmp (slice_set views p new) w ≡ pending_in cmp views w
   pend-others slot c same w n = elim (cases_eq w.partition p) [
     | inr r ↦ pend-elsewhere w r
     | inl r ↦ elim (cases_eq w.slot slot) [
@@ -78,14 +78,14 @@ module _ {K V I : Type 0} (cmp : K → K → Ordering) (views : List (PartitionV
     ]
   ]
 
-  pub pend-all : AllPend cmp old.core new.core → (w : ContextId) → pending_in cmp (slice_set views p new) w ≡ pending_in cmp views w
+  pub pend-all : AllPend cmp old new → (w : ContextId) → pending_in cmp (slice_set views p new) w ≡ pending_in cmp views w
   pend-all same w = elim (cases_eq w.partition p) [
     | inr r ↦ pend-elsewhere w r
     | inl r ↦ in_place w r (same w.slot w.context)
   ]
 
   -- what still waits waited before
-  pub pend-sub : ((s d : ℕ) (q : Pending V) → pending cmp new.core s d ≡ Some q → pending cmp old.core s d ≡ Some q) → (w : ContextId) (q : Pending V) → pending_in cmp (slice_set views p new) w ≡ Some q → pending_in cmp views w ≡ Some q
+  pub pend-sub : ((s d : ℕ) (q : Pending V) → pending cmp new s d ≡ Some q → pending cmp old s d ≡ Some q) → (w : ContextId) (q : Pending V) → pending_in cmp (slice_set views p new) w ≡ Some q → pending_in cmp views w ≡ Some q
   pend-sub sub w q h = elim (cases_eq w.partition p) [
     | inr r ↦ sym (pend-elsewhere w r) ∙ h
     | inl r ↦ ap (λ x. pending_at cmp (slice_get views x) w.slot w.context) r ∙ pend-was w.slot w.context
@@ -93,14 +93,14 @@ module _ {K V I : Type 0} (cmp : K → K → Ordering) (views : List (PartitionV
   ]
 
   -- all stay, where that of this context does too
-  pub pend-same : (slot c : ℕ) → OthersPend cmp old.core new.core slot c → pending cmp new.core slot c ≡ pending cmp old.core slot c → (w : ContextId) → pending_in cmp (slice_set views p new) w ≡ pending_in cmp views w
+  pub pend-same : (slot c : ℕ) → OthersPend cmp old new slot c → pending cmp new slot c ≡ pending cmp old slot c → (w : ContextId) → pending_in cmp (slice_set views p new) w ≡ pending_in cmp views w
   pend-same slot c others same w = elim (same_where w (record { partition = p; slot = slot; context = c })) [
     | inl s ↦ ap (pending_in cmp (slice_set views p new)) s ∙ pend-here slot c ∙ same ∙ sym (pend-was slot c) ∙ ap (pending_in cmp views) (sym s)
     | inr n ↦ pend-others slot c others w n
   ]
 
   -- what waits is another context and waited before, where this one waits for nothing
-  pub pend-rest : (slot c : ℕ) → OthersPend cmp old.core new.core slot c → pending cmp new.core slot c ≡ None → (w : ContextId) (q : Pending V) → pending_in cmp (slice_set views p new) w ≡ Some q
+  pub pend-rest : (slot c : ℕ) → OthersPend cmp old new slot c → pending cmp new slot c ≡ None → (w : ContextId) (q : Pending V) → pending_in cmp (slice_set views p new) w ≡ Some q
       → (w ≢ record { partition = p; slot = slot; context = c }) × (pending_in cmp views w ≡ Some q)
   pend-rest slot c others none w q h = elim (same_where w (record { partition = p; slot = slot; context = c })) [
     | inl s ↦ (let n : None ≡ Some q = sym (pend-here slot c ∙ none) ∙ ap (pending_in cmp (slice_set views p new)) (sym s) ∙ h in absurd (cc))

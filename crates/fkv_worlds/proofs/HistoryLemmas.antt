@@ -358,7 +358,7 @@ module _ {K V I O R : Type 0} (stands : R → Standing) (entry : ℕ → List �
       rw a (progressing new (step.Load w access) r _ p (nobody_loads p w access) refl (none_given p (step.Load w access)) (ap (λ (z : StateView K V I O R). z.moment) to) (ap (λ (z : StateView K V I O R). z.enters) to) (ap (λ (z : StateView K V I O R). z.seats) to) (ap (λ (z : StateView K V I O R). z.lives) to)
       (asks-less s.partitions new.partitions w.partition v v' (here-at w.partition v t (step.Load w access) a refl due.here) (ap (λ (z : StateView K V I O R). z.partitions) to) w.slot w.context (load-others cmp f v v' w.slot w.context (suc s.moment) p ev) (load-asks cmp f v v' w.slot w.context (suc s.moment) p ev)) is)
   history-acts new t r (acts.truncates p v v' a due does ev to is) =
-      rw (a, is) (calm new p v v' (step.Truncate p) (outcome.Truncated v'.core.records.log.begin) (here-at p v t (step.Truncate p) a refl due.here) ev.same refl refl refl (ap (λ (z : StateView K V I O R). z.partitions) to) (ap (λ (z : StateView K V I O R). z.moment) to) (ap (λ (z : StateView K V I O R). z.enters) to) (ap (λ (z : StateView K V I O R). z.seats) to) (ap (λ (z : StateView K V I O R). z.lives) to))
+      rw (a, is) (calm new p v v' (step.Truncate p) (outcome.Truncated v'.records.log.begin) (here-at p v t (step.Truncate p) a refl due.here) ev.same refl refl refl (ap (λ (z : StateView K V I O R). z.partitions) to) (ap (λ (z : StateView K V I O R). z.moment) to) (ap (λ (z : StateView K V I O R). z.enters) to) (ap (λ (z : StateView K V I O R). z.seats) to) (ap (λ (z : StateView K V I O R). z.lives) to))
 
 -- ---- steps in turn
 -- the steps and outcomes with one more

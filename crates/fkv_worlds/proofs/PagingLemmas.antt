@@ -68,11 +68,11 @@ flush_slot-set flush_slots p d job h = map-set (λ (e : FlushSlot). e.job) flush
 
 -- ---- the rules
 module _ {K V I O R : Type 0} {stands : R → Standing} {entry : ℕ → List ℕ → ℕ → Entry K V → Type 0} (cmp : K → K → Ordering) (join : V → V → V) (f : Meanings K V I O) (code : K → ℕ) (s : StateView K V I O R) (state : IsState cmp f code s) (p now : ℕ) (due : IsMomentIn s p now) (old : PartitionView K V I) (is : old ≡ slice_index_or s.partitions p old) where
-  pub does-take : {t : StateView K V I O R} → s ≡ t → {jobs : List (Option FlushJob)} (new : PartitionView K V I) (job : FlushJob) → jobs ≡ slice_set s.jobs p (Some job) → job.page ≡ length old.core.records.log.receipts → slice_get old.core.records.log.waiting 0 ≡ Some job.bytes → new ≡ at_moment old now
+  pub does-take : {t : StateView K V I O R} → s ≡ t → {jobs : List (Option FlushJob)} (new : PartitionView K V I) (job : FlushJob) → jobs ≡ slice_set s.jobs p (Some job) → job.page ≡ length old.records.log.receipts → slice_get old.records.log.waiting 0 ≡ Some job.bytes → new ≡ at_moment old now
       → Acts stands entry cmp join f code t (record s { partitions = slice_set s.partitions p new; jobs = jobs; moment = now }) (Take p) (Ok (outcome.Taken job.page))
   does-take view new job taken page bytes at = rw (← view, taken) (acts-take stands entry cmp join f code s now due.next due.fits p old new (here cmp f code s state p now due old is) job page bytes at)
 
-  pub refused-take : (new : PartitionView K V I) (r : Refused) → new ≡ old → (r ≡ NotDue) ⊎ (r ≡ NoMemory) → (r ≡ NotDue → old.core.records.log.waiting ≡ []) → (old.core.records.log.waiting ≡ [] → r ≡ NotDue) → Acts stands entry cmp join f code s (record s { partitions = slice_set s.partitions p new }) (Take p) (Err r)
+  pub refused-take : (new : PartitionView K V I) (r : Refused) → new ≡ old → (r ≡ NotDue) ⊎ (r ≡ NoMemory) → (r ≡ NotDue → old.records.log.waiting ≡ []) → (old.records.log.waiting ≡ [] → r ≡ NotDue) → Acts stands entry cmp join f code s (record s { partitions = slice_set s.partitions p new }) (Take p) (Err r)
   refused-take new r same only idle due_not = rw (set-unchanged s.partitions p old new (here cmp f code s state p now due old is) same) (acts-refused stands entry cmp join f code s now due.next due.fits (Take p) old r (here cmp f code s state p now due old is) refl (elim only [
     | inl e ↦ refusing.idle p (idle e) e
     | inr e ↦ refusing.untaken p (λ w. (let k = due_not w in absurd (cc))) e

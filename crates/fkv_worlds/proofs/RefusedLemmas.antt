@@ -16,16 +16,15 @@ use Rattle.fkv_hybrid.specs.Flushes.{difference, bytes_refusal}
 use Rattle.fkv_hybrid.specs.Views.{LogView}
 use Rattle.fkv_hybrid.specs.Flushes.{flush_refusal}
 use Rattle.fkv_records.specs.Places.{page_at}
-use Rattle.fkv_partition.specs.CoreViews.{CoreView}
-use Rattle.fkv_partition.specs.CoreBeginning as core_beginning
-use Rattle.fkv_partition.specs.CoreEnding as core_ending
-use Rattle.fkv_partition.specs.CoreFlushing as core_flushing
-use Rattle.fkv_partition.specs.CoreGoing as core_going
-use Rattle.fkv_partition.specs.CoreInstalling as core_installing
-use Rattle.fkv_partition.specs.CoreLoading as core_loading
-use Rattle.fkv_partition.specs.CoreLooking as core_looking
+use Rattle.fkv_partition.specs.Views.{PartitionView}
+use Rattle.fkv_partition.specs.KeyBeginning as core_beginning
+use Rattle.fkv_partition.specs.KeyEnding as core_ending
+use Rattle.fkv_partition.specs.Flushing as core_flushing
+use Rattle.fkv_partition.specs.KeyGoing as core_going
+use Rattle.fkv_partition.specs.KeyInstalling as core_installing
+use Rattle.fkv_partition.specs.KeyLoading as core_loading
+use Rattle.fkv_partition.specs.Moves as core_looking
 use Rattle.fkv_partition.specs.declared.relocations.Relocation.{Relocation}
-use Rattle.fkv_partition.specs.Views.{PartitionView, with_core}
 use Rattle.fkv_partition.specs.Effect.{IsGiveUp}
 use Rattle.fkv_partition.specs.Events.{GivesUp, Goes, Installs, Loads, Issues}
 use Rattle.fkv_partition.specs.Beginning.{IssuesOnKey, Relocates, LeavesAll, Drops}
@@ -48,7 +47,7 @@ is e r h n = ap ends_operation h ∙ n
 ok-err : {A : Type 0} (e r : Refused) → ◌≡◌ {A = Result A Refused} (Err e) (Err r) → e ≡ r
 ok-err e r h = cc
 
-module _ {K V I : Type 0} (old new : CoreView K V I) (now : ℕ) (e : Refused) where
+module _ {K V I : Type 0} (old new : PartitionView K V I) (now : ℕ) (e : Refused) where
   enters-no : core_beginning.Enters old new now (Err e) → ends_operation e ≡ false
   enters-no (core_beginning.Enters.full a b h) = is e NoSlot (ok-err e _ h) refl
   enters-no (core_beginning.Enters.enters slot a b h) = absurd (cc)
@@ -116,7 +115,7 @@ module _ {K V I : Type 0} (old new : PartitionView K V I) (now : ℕ) (e : Refus
 
   leaves_all-no : (keeps : Bool) (slot : ℕ) → LeavesAll keeps old new slot now (Err e) → ends_operation e ≡ false
   leaves_all-no keeps slot (LeavesAll.busy c x a b h) = is e Busy (ok-err e _ h) refl
-  leaves_all-no keeps slot (LeavesAll.leaves a h b) = leaves-no old.core new.core now e keeps slot h
+  leaves_all-no keeps slot (LeavesAll.leaves a h) = leaves-no old new now e keeps slot h
 
   relocates-no : (slot : ℕ) → Relocates old new slot now (Err e) → ends_operation e ≡ false
   relocates-no slot (Relocates.unknown a b h) = is e Unknown (ok-err e _ h) refl
@@ -133,7 +132,7 @@ module _ {K V I : Type 0} (old new : PartitionView K V I) (now : ℕ) (e : Refus
   drops-no slot c (Drops.drops x a b h) = absurd (cc)
 
   gives_up_all-no : (slot c : ℕ) → GivesUp old new slot c now (Err e) → ends_operation e ≡ false
-  gives_up_all-no slot c (GivesUp.on_key n h r) = gives_up-no old.core new.core now e slot c h
+  gives_up_all-no slot c (GivesUp.on_key n h r) = gives_up-no old new now e slot c h
   gives_up_all-no slot c (GivesUp.relocation x k h) = drops-no slot c h
 
   truncates-no : (keeps : Bool) (page : ℕ) → Truncates keeps old new page now (Err e) → ends_operation e ≡ false
@@ -141,7 +140,7 @@ module _ {K V I : Type 0} (old new : PartitionView K V I) (now : ℕ) (e : Refus
   truncates-no keeps page (Truncates.truncates a b h) = absurd (cc)
 
   installs_all-no : {O R : Type 0} (cmp : K → K → Ordering) (f : Meanings K V I O) (code : K → ℕ) (slot c : ℕ) (ask : Ask K V I) → Installs {R = R} cmp f code old new slot c ask now (Err e) → ends_operation e ≡ false
-  installs_all-no {O} {R} cmp f code slot c ask (Installs.on_key n h r) = installs-no old.core new.core now e {R = R} cmp f code slot c ask h
+  installs_all-no {O} {R} cmp f code slot c ask (Installs.on_key n h r) = installs-no old new now e {R = R} cmp f code slot c ask h
   installs_all-no cmp f code slot c ask (Installs.relocation x k b h) = is e NotReady (ok-err e _ h) refl
 
 -- the refusals of a relocation leave everything
@@ -170,7 +169,7 @@ module _ {K V I O R : Type 0} (old new : PartitionView K V I) (slot c now : ℕ)
   goes_on-no stands cmp join code (GoesOn.reads x a b d lo h) = (asks-no stands _ x.target h).1
 
   goes_all-no : (stands : R → Standing) (cmp : K → K → Ordering) (join : V → V → V) (f : Meanings K V I O) (code : K → ℕ) → Goes stands cmp join f code old new slot c now (Err e) → ends_operation e ≡ false
-  goes_all-no stands cmp join f code (Goes.on_key n h r) = goes-no old.core new.core now e stands cmp join f code slot c h
+  goes_all-no stands cmp join f code (Goes.on_key n h r) = goes-no old new now e stands cmp join f code slot c h
   goes_all-no stands cmp join f code (Goes.relocation x k h) = goes_on-no stands cmp join code h
 
 -- why a page is not taken in
@@ -197,18 +196,18 @@ pub spoils-no : {K V I : Type 0} (v : PartitionView K V I) (now : ℕ) (job : Fl
 spoils-no v now job access e (Spoils.unwritten h) = unwritten-no job access e h
 spoils-no {K} {V} {I} v now job access e (Spoils.strange a h) = by_rule h.does
   where
-    by_rule : core_flushing.Flushes v.core v.core (receipt_of job) job.bytes now (Err e) → ends_operation e ≡ false
-    by_rule (core_flushing.Flushes.refused why r b h) = let k : e ≡ why = cc in is e why k (flush-no v.core.records.log job.page job.bytes why r)
+    by_rule : core_flushing.Flushes v v (receipt_of job) job.bytes now (Err e) → ends_operation e ≡ false
+    by_rule (core_flushing.Flushes.refused why r b h) = let k : e ≡ why = cc in is e why k (flush-no v.records.log job.page job.bytes why r)
     by_rule (core_flushing.Flushes.unkept r b h) = is e NoMemory (ok-err e _ h) refl
     by_rule (core_flushing.Flushes.keeps r b h) = absurd (cc)
 
 pub refuses-no : {K V I O R : Type 0} (stands : R → Standing) (entry : ℕ → List ℕ → ℕ → Entry K V → Type 0) (cmp : K → K → Ordering) (join : V → V → V) (f : Meanings K V I O) (code : K → ℕ) (s : StateView K V I O R) (v : PartitionView K V I) (now : ℕ) (e : Refused) (t : Step K V I)
     → Refuses stands entry cmp join f code s v now e t → ends_operation e ≡ false
-refuses-no stands entry cmp join f code s v now e t (refusing.enter p h) = enters-no v.core v.core now e h.does
+refuses-no stands entry cmp join f code s v now e t (refusing.enter p h) = enters-no v v now e h.does
 refuses-no stands entry cmp join f code s v now e t (refusing.leave p slot h) = leaves_all-no v v now e true slot h
-refuses-no stands entry cmp join f code s v now e t (refusing.refresh p slot h) = refreshes-no v.core v.core now e true slot h.does
-refuses-no stands entry cmp join f code s v now e t (refusing.shift p page h) = shifts-no v.core v.core now e true page h.does
-refuses-no stands entry cmp join f code s v now e t (refusing.evict p page h) = evicts-no v.core v.core now e true page h.does
+refuses-no stands entry cmp join f code s v now e t (refusing.refresh p slot h) = refreshes-no v v now e true slot h.does
+refuses-no stands entry cmp join f code s v now e t (refusing.shift p page h) = shifts-no v v now e true page h.does
+refuses-no stands entry cmp join f code s v now e t (refusing.evict p page h) = evicts-no v v now e true page h.does
 refuses-no stands entry cmp join f code s v now e t (refusing.idle p w h) = is e NotDue h refl
 refuses-no stands entry cmp join f code s v now e t (refusing.untaken p w h) = is e NoMemory h refl
 refuses-no stands entry cmp join f code s v now e t (refusing.issue p slot op h) = issues-no v v now e code slot op h
@@ -216,7 +215,7 @@ refuses-no stands entry cmp join f code s v now e t (refusing.go w h) = goes_all
 refuses-no {K} {V} {I} {O} {R} stands entry cmp join f code s v now e t (refusing.install w ask q h) = installs_all-no v v now e {R = R} cmp f code w.slot w.context ask h
 refuses-no stands entry cmp join f code s v now e t (refusing.load w access r came a c h n) = n
 refuses-no stands entry cmp join f code s v now e t (refusing.give_up w h) = gives_up_all-no v v now e w.slot w.context h
-refuses-no stands entry cmp join f code s v now e t (refusing.truncate p h) = truncates-no v v now e true (page_at v.core.records.log.bits v.cleared) h
+refuses-no stands entry cmp join f code s v now e t (refusing.truncate p h) = truncates-no v v now e true (page_at v.records.log.bits v.cleared) h
 
 -- what comes in place of a page ends the operation, but for want of memory
 comes-cases : {R : Type 0} (stands : R → Standing) (r : R) (access : Access) (came : Result (Joined R) Refused) (e : Refused) → Comes stands r access came → came ≡ Err e → (e ≡ NoMemory) ⊎ (ends_operation e ≡ true)
@@ -225,17 +224,17 @@ comes-cases stands r access came e (Comes.wants a h) is_err = let m : e ≡ NoMe
 comes-cases stands r access came e (Comes.gives p a b c h) is_err = absurd (cc)
 
 -- the moment of a partition that is this one
-moment-of : {K V I : Type 0} (v w : PartitionView K V I) (now : ℕ) → v ≡ w → w.core.moment ≡ now → v.core.moment ≡ now
-moment-of v w now same m = ap (λ (x : PartitionView _ _ _). x.core.moment) same ∙ m
+moment-of : {K V I : Type 0} (v w : PartitionView K V I) (now : ℕ) → v ≡ w → w.moment ≡ now → v.moment ≡ now
+moment-of v w now same m = ap (λ (x : PartitionView _ _ _). x.moment) same ∙ m
 
 -- a refused load of an operation on a key
-loads_on_key-cases : {K V I O R : Type 0} (stands : R → Standing) (entry : ℕ → List ℕ → ℕ → Entry K V → Type 0) (cmp : K → K → Ordering) (join : V → V → V) (f : Meanings K V I O) (old new : CoreView K V I) (slot c now : ℕ) (r : R) (access : Access) (came : Result (Joined R) Refused) (e : Refused)
+loads_on_key-cases : {K V I O R : Type 0} (stands : R → Standing) (entry : ℕ → List ℕ → ℕ → Entry K V → Type 0) (cmp : K → K → Ordering) (join : V → V → V) (f : Meanings K V I O) (old new : PartitionView K V I) (slot c now : ℕ) (r : R) (access : Access) (came : Result (Joined R) Refused) (e : Refused)
     → Comes stands r access came → core_loading.Loads stands entry cmp join f old new slot c came now (Err e)
     → ((new ≡ old) × (ends_operation e ≡ false)) ⊎ ((new.moment ≡ now) × (ends_operation e ≡ true))
 loads_on_key-cases {K} {V} {I} {O} {R} stands entry cmp join f old new slot c now r access came e comes does = by_rule does
   where
-    then : (w : CoreView K V I) → new ≡ w → w.moment ≡ now → new.moment ≡ now
-    then w same m = ap (λ (x : CoreView K V I). x.moment) same ∙ m
+    then : (w : PartitionView K V I) → new ≡ w → w.moment ≡ now → new.moment ≡ now
+    then w same m = ap (λ (x : PartitionView K V I). x.moment) same ∙ m
 
     by_rule : core_loading.Loads stands entry cmp join f old new slot c came now (Err e) → ((new ≡ old) × (ends_operation e ≡ false)) ⊎ ((new.moment ≡ now) × (ends_operation e ≡ true))
     by_rule (core_loading.Loads.unknown a b h) = inl (b, is e Unknown (ok-err e _ h) refl)
@@ -255,10 +254,10 @@ loads_on_key-cases {K} {V} {I} {O} {R} stands entry cmp join f old new slot c no
 
 -- and of a relocation
 loads_on-cases : {K V I O R : Type 0} (stands : R → Standing) (entry : ℕ → List ℕ → ℕ → Entry K V → Type 0) (cmp : K → K → Ordering) (join : V → V → V) (code : K → ℕ) (old new : PartitionView K V I) (slot c now : ℕ) (r : R) (access : Access) (came : Result (Joined R) Refused) (e : Refused)
-    → Comes stands r access came → LoadsOn {O = O} stands entry cmp join code old new slot c came now (Err e) → ((new ≡ old) × (ends_operation e ≡ false)) ⊎ ((new.core.moment ≡ now) × (ends_operation e ≡ true))
+    → Comes stands r access came → LoadsOn {O = O} stands entry cmp join code old new slot c came now (Err e) → ((new ≡ old) × (ends_operation e ≡ false)) ⊎ ((new.moment ≡ now) × (ends_operation e ≡ true))
 loads_on-cases {K} {V} {I} {O} {R} stands entry cmp join code old new slot c now r access came e comes does = by_rule does
   where
-    by_rule : LoadsOn {O = O} stands entry cmp join code old new slot c came now (Err e) → ((new ≡ old) × (ends_operation e ≡ false)) ⊎ ((new.core.moment ≡ now) × (ends_operation e ≡ true))
+    by_rule : LoadsOn {O = O} stands entry cmp join code old new slot c came now (Err e) → ((new ≡ old) × (ends_operation e ≡ false)) ⊎ ((new.moment ≡ now) × (ends_operation e ≡ true))
     by_rule (LoadsOn.unknown a b h) = inl (b, is e Unknown (ok-err e _ h) refl)
     by_rule (LoadsOn.not_ready x a w b h) = inl (b, is e NotReady (ok-err e _ h) refl)
     by_rule (LoadsOn.moved x a p q n b h) = absurd (cc)
@@ -277,19 +276,19 @@ loads_on-cases {K} {V} {I} {O} {R} stands entry cmp join code old new slot c now
 
 -- so a refused load leaves the partition, or ends the operation
 pub loads-cases : {K V I O R : Type 0} (stands : R → Standing) (entry : ℕ → List ℕ → ℕ → Entry K V → Type 0) (cmp : K → K → Ordering) (join : V → V → V) (f : Meanings K V I O) (code : K → ℕ) (old new : PartitionView K V I) (slot c now : ℕ) (r : R) (access : Access) (came : Result (Joined R) Refused) (e : Refused)
-    → old.core.moment < now → Comes stands r access came → Loads stands entry cmp join f code old new slot c came now (Err e) → (new ≡ old) ⊎ IsGiveUp old new slot c now
+    → old.moment < now → Comes stands r access came → Loads stands entry cmp join f code old new slot c came now (Err e) → (new ≡ old) ⊎ IsGiveUp old new slot c now
     → ((new ≡ old) × (ends_operation e ≡ false)) ⊎ (IsGiveUp old new slot c now × (ends_operation e ≡ true))
 loads-cases {K} {V} {I} {O} {R} stands entry cmp join f code old new slot c now r access came e later comes does or = elim (by_rule does) [
   | inl same ↦ inl same
   | inr passed ↦ (let m = passed.0 in elim or [
-    | inl same ↦ (let was : new.core.moment ≡ old.core.moment = ap (λ (v : PartitionView K V I). v.core.moment) same in absurd (omega arith))
+    | inl same ↦ (let was : new.moment ≡ old.moment = ap (λ (v : PartitionView K V I). v.moment) same in absurd (omega arith))
     | inr g ↦ inr (g, passed.1)
   ])
 ]
   where
-    by_rule : Loads stands entry cmp join f code old new slot c came now (Err e) → ((new ≡ old) × (ends_operation e ≡ false)) ⊎ ((new.core.moment ≡ now) × (ends_operation e ≡ true))
-    by_rule (Loads.on_key none h rest) = elim (loads_on_key-cases stands entry cmp join f old.core new.core slot c now r access came e comes h) [
-      | inl same ↦ inl (rest.is ∙ ap (with_core old) same.0, same.1)
+    by_rule : Loads stands entry cmp join f code old new slot c came now (Err e) → ((new ≡ old) × (ends_operation e ≡ false)) ⊎ ((new.moment ≡ now) × (ends_operation e ≡ true))
+    by_rule (Loads.on_key none h rest) = elim (loads_on_key-cases stands entry cmp join f old new slot c now r access came e comes h) [
+      | inl same ↦ inl same
       | inr passed ↦ inr passed
     ]
     by_rule (Loads.relocation x k h) = loads_on-cases stands entry cmp join code old new slot c now r access came e comes h

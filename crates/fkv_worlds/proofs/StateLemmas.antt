@@ -154,14 +154,14 @@ module _ {K V I O R : Type 0} (cmp : K → K → Ordering) (o : IsKeyOrder cmp) 
   e = omega arith
 
   -- a page is taken
-  pub state-take : {jobs : List (Option FlushJob)} (p : ℕ) (job : Option FlushJob) → jobs ≡ slice_set s.jobs p job → (old new : PartitionView K V I) → slice_get s.partitions p ≡ Some old → IsQuiet true old new next → AllPend cmp old.core new.core
+  pub state-take : {jobs : List (Option FlushJob)} (p : ℕ) (job : Option FlushJob) → jobs ≡ slice_set s.jobs p job → (old new : PartitionView K V I) → slice_get s.partitions p ≡ Some old → IsQuiet true old new next → AllPend cmp old new
       → IsState cmp f code (record s { partitions = slice_set s.partitions p new; jobs = jobs; moment = next })
   state-take p job used old new here ev pends = rw used (record {
     world = world-silent cmp o f code s.partitions (life_in s.begun) s.lives s.moment next e state.world p old new here ev pends;
     tables = tables-kept s (record s { partitions = slice_set s.partitions p new; jobs = slice_set s.jobs p job; moment = next }) state.tables (length-set s.partitions p new) refl refl refl (length-set s.jobs p job) refl refl (omega arith);
   })
 
-  pub state-enter : (p slot n : ℕ) (old new : PartitionView K V I) → slice_get s.partitions p ≡ Some old → IsQuiet true old new next → AllPend cmp old.core new.core → slice_get s.enters p ≡ Some n
+  pub state-enter : (p slot n : ℕ) (old new : PartitionView K V I) → slice_get s.partitions p ≡ Some old → IsQuiet true old new next → AllPend cmp old new → slice_get s.enters p ≡ Some n
       → IsState cmp f code (record s { partitions = slice_set s.partitions p new; enters = slice_set s.enters p (n + 1); seats = slice_set s.seats (seat_row p slot) (record { session = n + 1; issues = 0 }); moment = next })
   state-enter p slot n old new here ev pends at = record {
     world = (world-silent cmp o f code s.partitions (life_in s.begun) s.lives s.moment next e state.world p old new here ev pends);
@@ -184,7 +184,7 @@ module _ {K V I O R : Type 0} (cmp : K → K → Ordering) (o : IsKeyOrder cmp) 
     };
   }
 
-  pub state-quiet : (p : ℕ) (old new : PartitionView K V I) → slice_get s.partitions p ≡ Some old → IsQuiet true old new next → AllPend cmp old.core new.core → IsState cmp f code (record s { partitions = slice_set s.partitions p new; moment = next })
+  pub state-quiet : (p : ℕ) (old new : PartitionView K V I) → slice_get s.partitions p ≡ Some old → IsQuiet true old new next → AllPend cmp old new → IsState cmp f code (record s { partitions = slice_set s.partitions p new; moment = next })
   state-quiet p old new here ev pends = record {
     world = (world-silent cmp o f code s.partitions (life_in s.begun) s.lives s.moment next e state.world p old new here ev pends);
     tables = tables-kept s (record s { partitions = slice_set s.partitions p new; moment = next }) state.tables (length-set s.partitions p new) refl refl refl refl refl refl (omega arith);
@@ -203,14 +203,14 @@ module _ {K V I O R : Type 0} (cmp : K → K → Ordering) (o : IsKeyOrder cmp) 
         ev.number ev.count ev.moment ev.same (ev.live refl) (λ a d q h. (let n : None ≡ Some q = sym (ev.pend a d) ∙ h in absurd (cc))))
 
   -- an operation ends without effect
-  pub state-ended : (w : ContextId) (old new : PartitionView K V I) (end : End O) → finish_in end ≡ None → slice_get s.partitions w.partition ≡ Some old → IsGiveUp old new w.slot w.context next → OthersPend cmp old.core new.core w.slot w.context
+  pub state-ended : (w : ContextId) (old new : PartitionView K V I) (end : End O) → finish_in end ≡ None → slice_get s.partitions w.partition ≡ Some old → IsGiveUp old new w.slot w.context next → OthersPend cmp old new w.slot w.context
       → IsState cmp f code (record s { partitions = slice_set s.partitions w.partition new; lives = ended_at s.lives (life_in s.begun w) end; moment = next })
   state-ended w old new end untold here ev others = record {
     world = (world-ended cmp o f code s.partitions (life_in s.begun) s.lives s.moment next e state.world w.partition old new w.slot w.context ev.question here ev.was ev.closed ev.frame others end untold (λ q. ap (λ t. live cmp t q) ev.text));
     tables = tables-kept s (record s { partitions = slice_set s.partitions w.partition new; lives = ended_at s.lives (life_in s.begun w) end; moment = next }) state.tables (length-set s.partitions w.partition new) refl refl refl refl refl refl (omega arith);
   }
 
-  pub state-issue : (p slot c : ℕ) (op : Op K V I) (seat : Seat) (old new : PartitionView K V I) → slice_get s.partitions p ≡ Some old → IsIssue code old new slot c op next → AllPend cmp old.core new.core
+  pub state-issue : (p slot c : ℕ) (op : Op K V I) (seat : Seat) (old new : PartitionView K V I) → slice_get s.partitions p ≡ Some old → IsIssue code old new slot c op next → AllPend cmp old new
       → slot < 16 → c < 8 → slice_get s.seats (seat_row p slot) ≡ Some seat
       → IsState cmp f code (record s {
         partitions = slice_set s.partitions p new;
@@ -260,7 +260,7 @@ module _ {K V I O R : Type 0} (cmp : K → K → Ordering) (o : IsKeyOrder cmp) 
   receipt-rows row (NeedsBuild ask) = refl
   receipt-rows row (NeedsLoad receipt address) = length-set s.receipts row (Some receipt)
 
-  module _ (w : ContextId) (old new : PartitionView K V I) (here : slice_get s.partitions w.partition ≡ Some old) (others : OthersPend cmp old.core new.core w.slot w.context) where
+  module _ (w : ContextId) (old new : PartitionView K V I) (here : slice_get s.partitions w.partition ≡ Some old) (others : OthersPend cmp old new w.slot w.context) where
     state-by : (progress : Progress K V I O R) → IsWorld cmp f code (slice_set s.partitions w.partition new) (life_in s.begun) (lives_by s.lives (life_in s.begun w) next progress) next
         → IsState cmp f code (record s { partitions = slice_set s.partitions w.partition new; questions = questions_by s.questions (context_row w) progress; receipts = receipts_by s.receipts (context_row w) progress; lives = lives_by s.lives (life_in s.begun w) next progress; moment = next })
     state-by progress world = record {

@@ -12,8 +12,7 @@ use Rattle.fkv_operations.specs.declared.operations.KeyedOp.TheVariants as on_ke
 use Rattle.fkv_operations.specs.AfterLaws.{same_map}
 use Rattle.fkv_operations.specs.declared.operations.Op.{Op}
 use Rattle.fkv_operations.specs.declared.operations.Answer.{Answer}
-use Rattle.fkv_partition.specs.CoreViews.{live_of, partition_of}
-use Rattle.fkv_partition.specs.Views.{PartitionView}
+use Rattle.fkv_partition.specs.Views.{live_of, partition_of, PartitionView}
 use Rattle.fkv_partition.specs.Pending.{Pending, pending, OthersPend, AllPend}
 use Rattle.fkv_partition.specs.Effect.{Asked, asked, LeavesOthers, IsQuiet, IsIssue, IsAsking, to_find}
 use Rattle.fkv_partition.specs.Unions.{union_of}
@@ -43,28 +42,28 @@ module _ {K V I O : Type 0} (cmp : K → K → Ordering) (o : IsKeyOrder cmp) (f
   live-then : union_of cmp code views ≡ map_before cmp f lives (suc now)
   live-then = same_map (union_of cmp code views) (map_before cmp f lives (suc now)) world.denotes
 
-  module _ (p : ℕ) (old new : PartitionView K V I) (here : slice_get views p ≡ Some old) (number : new.core.number ≡ old.core.number) (count : new.core.count ≡ old.core.count) (moment : new.core.moment ≡ next) where
+  module _ (p : ℕ) (old new : PartitionView K V I) (here : slice_get views p ≡ Some old) (number : new.number ≡ old.number) (count : new.count ≡ old.count) (moment : new.moment ≡ next) where
     -- the partitions stay where they are
     housed-set : ((w : ContextId) (x : Asked K V I) (q : KeyedOp K V I) → asked_in (slice_set views p new) w ≡ Some x → keyed x.op ≡ Some q → partition_of (length views) (code (key_of q)) ≡ w.partition) → IsHoused code (slice_set views p new) next
     housed-set routed = record {
       some = rw (length-set views p new) world.housed.some;
       numbered = λ q v h. elim (get-set_cases views p q new v h) [
-        | inl c ↦ ap (λ (u : PartitionView K V I). u.core.number) (sym c.1) ∙ number ∙ world.housed.numbered p old here ∙ sym c.0
+        | inl c ↦ ap (λ (u : PartitionView K V I). u.number) (sym c.1) ∙ number ∙ world.housed.numbered p old here ∙ sym c.0
         | inr c ↦ world.housed.numbered q v c
       ];
       counted = λ q v h. elim (get-set_cases views p q new v h) [
-        | inl c ↦ ap (λ (u : PartitionView K V I). u.core.count) (sym c.1) ∙ count ∙ world.housed.counted p old here ∙ sym (length-set views p new)
+        | inl c ↦ ap (λ (u : PartitionView K V I). u.count) (sym c.1) ∙ count ∙ world.housed.counted p old here ∙ sym (length-set views p new)
         | inr c ↦ world.housed.counted q v c ∙ sym (length-set views p new)
       ];
       past = λ q v h. elim (get-set_cases views p q new v h) [
-        | inl c ↦ (let m : v.core.moment ≡ next = ap (λ (u : PartitionView K V I). u.core.moment) (sym c.1) ∙ moment in omega arith)
-        | inr c ↦ (let m : v.core.moment ≤ now = world.housed.past q v c in omega arith)
+        | inl c ↦ (let m : v.moment ≡ next = ap (λ (u : PartitionView K V I). u.moment) (sym c.1) ∙ moment in omega arith)
+        | inr c ↦ (let m : v.moment ≤ now = world.housed.past q v c in omega arith)
       ];
       routed = λ w x q h k. ap (λ n. partition_of n (code (key_of q))) (length-set views p new) ∙ routed w x q h k;
     }
 
     -- a step that changes no live value, no question and no life
-    world-quiet : Same (live_of cmp new.core) (live_of cmp old.core) → ((w : ContextId) → asked_in (slice_set views p new) w ≡ asked_in views w) → IsHeld cmp f (slice_set views p new) life_at lives next → IsWorld cmp f code (slice_set views p new) life_at lives next
+    world-quiet : Same (live_of cmp new) (live_of cmp old) → ((w : ContextId) → asked_in (slice_set views p new) w ≡ asked_in views w) → IsHeld cmp f (slice_set views p new) life_at lives next → IsWorld cmp f code (slice_set views p new) life_at lives next
     world-quiet same questions held = record {
       placed = placed-quiet cmp f lives now next e world.placed;
       denotes = λ k. live-quiet cmp o f code views p old new here same k ∙ world.denotes k ∙ ap (λ (m : PlainMap K V). m k) (sym (map-quiet cmp f lives now next e world.placed));
@@ -77,20 +76,20 @@ module _ {K V I O : Type 0} (cmp : K → K → Ordering) (o : IsKeyOrder cmp) (f
     }
 
   -- a session comes, goes or looks, an offset moves, or a page is flushed
-  pub world-silent : (p : ℕ) (old new : PartitionView K V I) → slice_get views p ≡ Some old → IsQuiet true old new next → AllPend cmp old.core new.core → IsWorld cmp f code (slice_set views p new) life_at lives next
+  pub world-silent : (p : ℕ) (old new : PartitionView K V I) → slice_get views p ≡ Some old → IsQuiet true old new next → AllPend cmp old new → IsWorld cmp f code (slice_set views p new) life_at lives next
   world-silent p old new here ev pends =
       world-quiet p old new here ev.number ev.count ev.moment (λ k. ap (λ t. live cmp t k) (ev.text refl)) (asked-all views p old new here ev.same)
       (held-same cmp f views life_at lives now world.held (slice_set views p new) next (omega arith) (pend-all cmp views p old new here pends))
 
   -- a relocation goes on, or the log's start is cut: each look-up that still waits waited before
-  pub world-kept : (p : ℕ) (old new : PartitionView K V I) → slice_get views p ≡ Some old → new.core.number ≡ old.core.number → new.core.count ≡ old.core.count → new.core.moment ≡ next → ((s d : ℕ) → asked new s d ≡ asked old s d) → Same (live_of cmp new.core) (live_of cmp old.core)
-      → ((s d : ℕ) (q : Pending V) → pending cmp new.core s d ≡ Some q → pending cmp old.core s d ≡ Some q) → IsWorld cmp f code (slice_set views p new) life_at lives next
+  pub world-kept : (p : ℕ) (old new : PartitionView K V I) → slice_get views p ≡ Some old → new.number ≡ old.number → new.count ≡ old.count → new.moment ≡ next → ((s d : ℕ) → asked new s d ≡ asked old s d) → Same (live_of cmp new) (live_of cmp old)
+      → ((s d : ℕ) (q : Pending V) → pending cmp new s d ≡ Some q → pending cmp old s d ≡ Some q) → IsWorld cmp f code (slice_set views p new) life_at lives next
   world-kept p old new here number count moment same map sub =
       world-quiet p old new here number count moment map (asked-all views p old new here same)
       (held-sub cmp f views life_at lives now world.held (slice_set views p new) next (omega arith) (pend-sub cmp views p old new here sub))
 
   -- an operation is issued: one more life, at the end
-  module _ (p : ℕ) (old new : PartitionView K V I) (slot c : ℕ) (op : Op K V I) (here : slice_get views p ≡ Some old) (ev : IsIssue code old new slot c op next) (pends : AllPend cmp old.core new.core) (begun : Life K V I O) (is : begun.op ≡ op) (at : begun.issue ≡ next) (unended : begun.end ≡ Open)
+  module _ (p : ℕ) (old new : PartitionView K V I) (slot c : ℕ) (op : Op K V I) (here : slice_get views p ≡ Some old) (ev : IsIssue code old new slot c op next) (pends : AllPend cmp old new) (begun : Life K V I O) (is : begun.op ≡ op) (at : begun.issue ≡ next) (unended : begun.end ≡ Open)
       (life_at' : ContextId → ℕ) (place : life_at' (record { partition = p; slot = slot; context = c }) ≡ length lives) (places : (u : ContextId) → u ≢ record { partition = p; slot = slot; context = c } → life_at' u ≡ life_at u) where
     there : ContextId
     there = record { partition = p; slot = slot; context = c }
@@ -165,7 +164,7 @@ module _ {K V I O : Type 0} (cmp : K → K → Ordering) (o : IsKeyOrder cmp) (f
     }
 
   -- an operation ends: its context asks nothing any more, and the other contexts and look-ups stay
-  module _ (p : ℕ) (old new : PartitionView K V I) (slot c : ℕ) (x : Asked K V I) (here : slice_get views p ≡ Some old) (was : asked old slot c ≡ Some x) (closed : asked new slot c ≡ None) (frame : LeavesOthers old new slot c next) (others : OthersPend cmp old.core new.core slot c) where
+  module _ (p : ℕ) (old new : PartitionView K V I) (slot c : ℕ) (x : Asked K V I) (here : slice_get views p ≡ Some old) (was : asked old slot c ≡ Some x) (closed : asked new slot c ≡ None) (frame : LeavesOthers old new slot c next) (others : OthersPend cmp old new slot c) where
     asks : asked_in views (record { partition = p; slot = slot; context = c }) ≡ Some x
     asks = asked-was views p old new here slot c ∙ was
 
@@ -215,7 +214,7 @@ module _ {K V I O : Type 0} (cmp : K → K → Ordering) (o : IsKeyOrder cmp) (f
         ]))
 
     -- it is finished: its life ends with the answer, and its effect is now
-    pub world-done : (a : Answer O) → Same (live_of cmp new.core) (map_after cmp f (live_of cmp old.core) x.op) → a ≡ answer_to f (live_of cmp old.core) x.op
+    pub world-done : (a : Answer O) → Same (live_of cmp new) (map_after cmp f (live_of cmp old) x.op) → a ≡ answer_to f (live_of cmp old) x.op
         → IsWorld cmp f code (slice_set views p new) life_at (ended_at lives (life_at (record { partition = p; slot = slot; context = c })) (Finished (record { effect = next; done = next; answer = a }))) next
     world-done a map told =
         let l = open_life in
@@ -237,7 +236,7 @@ module _ {K V I O : Type 0} (cmp : K → K → Ordering) (o : IsKeyOrder cmp) (f
         }
 
     -- a read is finished by the page that it waited for: its effect is at its look-up
-    pub world-loaded : (q : Pending V) → pending cmp old.core slot c ≡ Some q → (a : Answer O) (k : K) (i : I) → x.op ≡ Read k i → a ≡ shown_of f k i q.value → Same (live_of cmp new.core) (live_of cmp old.core)
+    pub world-loaded : (q : Pending V) → pending cmp old slot c ≡ Some q → (a : Answer O) (k : K) (i : I) → x.op ≡ Read k i → a ≡ shown_of f k i q.value → Same (live_of cmp new) (live_of cmp old)
         → IsWorld cmp f code (slice_set views p new) life_at (ended_at lives (life_at (record { partition = p; slot = slot; context = c })) (Finished (record { effect = q.moment; done = next; answer = a }))) next
     world-loaded q waits a k i reads told same =
         let l = open_life in
@@ -265,7 +264,7 @@ module _ {K V I O : Type 0} (cmp : K → K → Ordering) (o : IsKeyOrder cmp) (f
         }
 
     -- it is given up, or a fault ends it: its life ends without effect
-    pub world-ended : (end : End O) → finish_in end ≡ None → Same (live_of cmp new.core) (live_of cmp old.core)
+    pub world-ended : (end : End O) → finish_in end ≡ None → Same (live_of cmp new) (live_of cmp old)
         → IsWorld cmp f code (slice_set views p new) life_at (ended_at lives (life_at (record { partition = p; slot = slot; context = c })) end) next
     world-ended end untold same =
         let l = open_life in
@@ -282,7 +281,7 @@ module _ {K V I O : Type 0} (cmp : K → K → Ordering) (o : IsKeyOrder cmp) (f
         }
 
   -- an event that finishes nothing
-  module _ (p : ℕ) (old new : PartitionView K V I) (slot c : ℕ) (x : Asked K V I) (here : slice_get views p ≡ Some old) (was : asked old slot c ≡ Some x) (is : asked new slot c ≡ Some x) (frame : LeavesOthers old new slot c next) (same : Same (live_of cmp new.core) (live_of cmp old.core)) (others : OthersPend cmp old.core new.core slot c) where
+  module _ (p : ℕ) (old new : PartitionView K V I) (slot c : ℕ) (x : Asked K V I) (here : slice_get views p ≡ Some old) (was : asked old slot c ≡ Some x) (is : asked new slot c ≡ Some x) (frame : LeavesOthers old new slot c next) (same : Same (live_of cmp new) (live_of cmp old)) (others : OthersPend cmp old new slot c) where
     goes-on : IsHeld cmp f (slice_set views p new) life_at lives next → IsWorld cmp f code (slice_set views p new) life_at lives next
     goes-on held = world-quiet p old new here frame.number frame.count frame.moment same (λ w. elim (same_where w (record { partition = p; slot = slot; context = c })) [
       | inl s ↦ ap (asked_in (slice_set views p new)) s ∙ asked-here views p old new here slot c ∙ is ∙ sym was ∙ sym (asked-was views p old new here slot c) ∙ ap (asked_in views) (sym s)
@@ -290,12 +289,12 @@ module _ {K V I O : Type 0} (cmp : K → K → Ordering) (o : IsKeyOrder cmp) (f
     ]) held
 
     -- after which it waits for no page
-    pub world-next : pending cmp new.core slot c ≡ None → IsWorld cmp f code (slice_set views p new) life_at lives next
+    pub world-next : pending cmp new slot c ≡ None → IsWorld cmp f code (slice_set views p new) life_at lives next
     world-next none = goes-on (held-sub cmp f views life_at lives now world.held (slice_set views p new) next (omega arith)
         (λ w q h. (pend-rest cmp views p old new here slot c others none w q h).1))
 
     -- after which it waits for another page, to find the same
-    pub world-further : pending cmp new.core slot c ≡ pending cmp old.core slot c → IsWorld cmp f code (slice_set views p new) life_at lives next
+    pub world-further : pending cmp new slot c ≡ pending cmp old slot c → IsWorld cmp f code (slice_set views p new) life_at lives next
     world-further still = goes-on (held-same cmp f views life_at lives now world.held (slice_set views p new) next (omega arith) (pend-same cmp views p old new here slot c others still))
 
     -- by which a page is asked for: this step is held for its look-up
@@ -311,7 +310,7 @@ module _ {K V I O : Type 0} (cmp : K → K → Ordering) (o : IsKeyOrder cmp) (f
         asks : asked_in views (record { partition = p; slot = slot; context = c }) ≡ Some x
         asks = asked-was views p old new here slot c ∙ was
 
-        finds : (q : Option (KeyedOp K V I)) → keyed x.op ≡ q → pending cmp new.core slot c ≡ to_find cmp old next q
+        finds : (q : Option (KeyedOp K V I)) → keyed x.op ≡ q → pending cmp new slot c ≡ to_find cmp old next q
         finds q k = ask.asks ∙ ap (λ (z : Asked K V I). to_find cmp old next (keyed z.op)) mine ∙ ap (to_find cmp old next) k
 
         by_key : (q : Option (KeyedOp K V I)) → keyed x.op ≡ q → IsWorld cmp f code (slice_set views p new) life_at lives next
@@ -320,7 +319,7 @@ module _ {K V I O : Type 0} (cmp : K → K → Ordering) (o : IsKeyOrder cmp) (f
             let l = world.linked.linked (record { partition = p; slot = slot; context = c }) x asks in
             let own : partition_of (length views) (code (key_of q)) ≡ p = world.housed.routed (record { partition = p; slot = slot; context = c }) x q asks k in
             let issued : l.life.issue ≤ now = world.placed.issued (life_at (record { partition = p; slot = slot; context = c })) l.life l.here in
-            goes-on (held-more cmp f views life_at lives now world.held (slice_set views p new) next (omega arith) (record { partition = p; slot = slot; context = c }) (record { moment = next; value = live_of cmp old.core (key_of q) })
+            goes-on (held-more cmp f views life_at lives now world.held (slice_set views p new) next (omega arith) (record { partition = p; slot = slot; context = c }) (record { moment = next; value = live_of cmp old (key_of q) })
             (pend-here cmp views p old new here slot c ∙ finds (Some q) k)
             (record {
               life = l.life;

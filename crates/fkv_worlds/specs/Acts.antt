@@ -271,8 +271,8 @@ pub data Acts {K V I O R : Type 0} (stands : R → Standing) (entry : ℕ → Li
   takes : (p : ℕ) (v : PartitionView K V I) (job : FlushJob)
       → step ≡ Take p
       → IsDue old step v
-      → job.page ≡ length v.core.records.log.receipts
-      → slice_get v.core.records.log.waiting 0 ≡ Some job.bytes
+      → job.page ≡ length v.records.log.receipts
+      → slice_get v.records.log.waiting 0 ≡ Some job.bytes
       → new ≡ with_job (with_partition old p (at_moment v (suc old.moment))) p (Some job)
       → result ≡ Ok (outcome.Taken job.page)
       → Acts stands entry cmp join f code old new step result
@@ -358,10 +358,10 @@ pub data Acts {K V I O R : Type 0} (stands : R → Standing) (entry : ℕ → Li
   truncates : (p : ℕ) (v v' : PartitionView K V I)
       → step ≡ Truncate p
       → IsDue old step v
-      → Truncates true v v' (page_at v.core.records.log.bits v.cleared) (suc old.moment) (Ok tt)
-      → IsTruncation true cmp v v' (page_at v.core.records.log.bits v.cleared) (suc old.moment)
+      → Truncates true v v' (page_at v.records.log.bits v.cleared) (suc old.moment) (Ok tt)
+      → IsTruncation true cmp v v' (page_at v.records.log.bits v.cleared) (suc old.moment)
       → new ≡ with_partition old p v'
-      → result ≡ Ok (outcome.Truncated v'.core.records.log.begin)
+      → result ≡ Ok (outcome.Truncated v'.records.log.begin)
       → Acts stands entry cmp join f code old new step result
 
 -- a step of a world: it is kept with its outcome, after those before it; where there is no memory to keep them, nothing is

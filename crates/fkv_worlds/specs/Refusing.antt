@@ -39,11 +39,11 @@ pub data Refuses {K V I O R : Type 0} (stands : R → Standing) (entry : ℕ →
       → Refuses stands entry cmp join f code s v now e (step.Head p page)
   -- no page waits to be written, or there is no memory for its copy
   idle : (p : ℕ)
-      → v.core.records.log.waiting ≡ []
+      → v.records.log.waiting ≡ []
       → e ≡ NotDue
       → Refuses stands entry cmp join f code s v now e (step.Take p)
   untaken : (p : ℕ)
-      → v.core.records.log.waiting ≢ []
+      → v.records.log.waiting ≢ []
       → e ≡ NoMemory
       → Refuses stands entry cmp join f code s v now e (step.Take p)
   issue : (p slot : ℕ) (op : Op K V I)
@@ -67,5 +67,5 @@ pub data Refuses {K V I O R : Type 0} (stands : R → Standing) (entry : ℕ →
       → GivesUp v v w.slot w.context now (Err e)
       → Refuses stands entry cmp join f code s v now e (step.GiveUp w)
   truncate : (p : ℕ)
-      → Truncates true v v (page_at v.core.records.log.bits v.cleared) now (Err e)
+      → Truncates true v v (page_at v.records.log.bits v.cleared) now (Err e)
       → Refuses stands entry cmp join f code s v now e (step.Truncate p)

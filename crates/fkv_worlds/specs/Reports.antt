@@ -10,8 +10,7 @@ use Rattle.fkv_functions.specs.declared.refusals.Refused.TheVariants.{Stalled, N
 use Rattle.fkv_texts.specs.declared.entries.Entry.{Entry}
 use Rattle.fkv_device.specs.Standing.{Standing}
 use Rattle.fkv_partition.specs.declared.limits.Config.{Config}
-use Rattle.fkv_partition.specs.CoreViews.{loading_at}
-use Rattle.fkv_partition.specs.Views.{PartitionView, relocation_at}
+use Rattle.fkv_partition.specs.Views.{loading_at, PartitionView, relocation_at}
 use Rattle.fkv_partition.specs.Going.{is_awaiting}
 use Rattle.fkv_partition.specs.Unions.{union_of}
 use Rattle.fkv_lives.specs.declared.lives.Life.{Life}
@@ -95,7 +94,7 @@ follows until place (Err e) = None
 -- the step that a run begins with: `finish` begins with the load, where the operation waits for a page
 abbrev pub awaits_at : {K V I : Type 0} → Option (PartitionView K V I) → ℕ → ℕ → Bool
 awaits_at None slot c = false
-awaits_at (Some v) slot c = is_some (loading_at v.core slot c) || is_awaiting (relocation_at v slot c)
+awaits_at (Some v) slot c = is_some (loading_at v slot c) || is_awaiting (relocation_at v slot c)
 
 abbrev pub first_step : {K V I : Type 0} → List (PartitionView K V I) → Until → ContextId → Step K V I
 first_step views Ready place = step.Go place

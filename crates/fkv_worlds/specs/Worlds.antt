@@ -6,8 +6,7 @@ use Rattle.fkv_functions.specs.Plain.{Same}
 use Rattle.fkv_operations.specs.After.{key_of}
 use Rattle.fkv_operations.specs.Operations.{keyed}
 use Rattle.fkv_operations.specs.declared.operations.KeyedOp.{KeyedOp}
-use Rattle.fkv_partition.specs.CoreViews.{partition_of}
-use Rattle.fkv_partition.specs.Views.{PartitionView}
+use Rattle.fkv_partition.specs.Views.{partition_of, PartitionView}
 use Rattle.fkv_partition.specs.Pending.{Pending, pending}
 use Rattle.fkv_partition.specs.Effect.{Asked, asked}
 use Rattle.fkv_partition.specs.Unions.{union_of}
@@ -48,9 +47,9 @@ pub record IsLinked {K V I O : Type 0} (question : ContextId → Option (Asked K
 -- its partition's
 pub record IsHoused {K V I : Type 0} (code : K → ℕ) (views : List (PartitionView K V I)) (now : ℕ) : Type 0 where
   pub some : 0 < length views
-  pub numbered : (p : ℕ) (v : PartitionView K V I) → slice_get views p ≡ Some v → v.core.number ≡ p
-  pub counted : (p : ℕ) (v : PartitionView K V I) → slice_get views p ≡ Some v → v.core.count ≡ length views
-  pub past : (p : ℕ) (v : PartitionView K V I) → slice_get views p ≡ Some v → v.core.moment ≤ now
+  pub numbered : (p : ℕ) (v : PartitionView K V I) → slice_get views p ≡ Some v → v.number ≡ p
+  pub counted : (p : ℕ) (v : PartitionView K V I) → slice_get views p ≡ Some v → v.count ≡ length views
+  pub past : (p : ℕ) (v : PartitionView K V I) → slice_get views p ≡ Some v → v.moment ≤ now
   pub routed : (w : ContextId) (x : Asked K V I) (o : KeyedOp K V I)
       → asked_in views w ≡ Some x
       → keyed x.op ≡ Some o
@@ -59,7 +58,7 @@ pub record IsHoused {K V I : Type 0} (code : K → ℕ) (views : List (Partition
 -- the look-up of the context at a place of a world, which waits for a page: its moment, and the value that it is to find
 abbrev pub pending_at : {K V I : Type 0} → (K → K → Ordering) → Option (PartitionView K V I) → ℕ → ℕ → Option (Pending V)
 pending_at cmp None slot c = None
-pending_at cmp (Some v) slot c = pending cmp v.core slot c
+pending_at cmp (Some v) slot c = pending cmp v slot c
 
 abbrev pub pending_in : {K V I : Type 0} → (K → K → Ordering) → List (PartitionView K V I) → ContextId → Option (Pending V)
 pending_in cmp views w = pending_at cmp (slice_get views w.partition) w.slot w.context

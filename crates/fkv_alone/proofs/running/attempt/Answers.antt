@@ -37,8 +37,8 @@ returns-in-Ok-drive-clause-ends g c =
     let w = c.issue.new.self in
     let k = c.in-Ok-issue.context in
     let issued = issue-told g.F.Functions.code v w c.args.slot k c.in-Ok.now c.args.op (issued-on-key g.F.Functions.code v w c.args.slot c.in-Ok.now c.args.op c.op.result (Ok k) c.op.ensures c.in-Ok-issue.ensures.effect) in
-    let begun = issue-begun g.F.Functions.code v w c.args.slot k c.in-Ok.now c.args.op issued c.known.ensures.core.places c.in-Ok-issue.ensures.within.0 in
-    let drives = c.in-Ok-drive.ensures.drives c.args.op v.core c.in-Ok.now begun.ready in
+    let begun = issue-begun g.F.Functions.code v w c.args.slot k c.in-Ok.now c.args.op issued c.known.ensures.sound.places c.in-Ok-issue.ensures.within.0 in
+    let drives = c.in-Ok-drive.ensures.drives c.args.op v c.in-Ok.now begun.ready in
     driven-ends g.R.Receipt.keeps g.R.Receipt.stands g.F.Key.Ord.cmp g.F.Mergeable.parts.joined g.F.Functions.meaning g.F.Functions.code c.args.op v c.drive.new.partition c.args.slot k c.args.limit c.args.clock.now c.in-Ok.now c.drive.new.clock (g.P.PageReader.failures c.args.reader.now) (g.P.PageReader.failures c.drive.new.reader) issued.opens first.0 first.2 c.in-Ok-drive.progress (rw first.1 at drives)
 
 pub returns-in-Err-drive-clause-ends : goal.returns-in-Err-drive-clause-ends
@@ -48,11 +48,11 @@ returns-in-Err-drive-clause-ends g c =
     let w = c.issue.new.self in
     let k = c.in-Ok-issue.context in
     let issued = issue-told g.F.Functions.code v w c.args.slot k c.in-Ok.now c.args.op (issued-on-key g.F.Functions.code v w c.args.slot c.in-Ok.now c.args.op c.op.result (Ok k) c.op.ensures c.in-Ok-issue.ensures.effect) in
-    let begun = issue-begun g.F.Functions.code v w c.args.slot k c.in-Ok.now c.args.op issued c.known.ensures.core.places c.in-Ok-issue.ensures.within.0 in
-    let drives = c.in-Err-drive.ensures.drives c.args.op v.core c.in-Ok.now begun.ready in
+    let begun = issue-begun g.F.Functions.code v w c.args.slot k c.in-Ok.now c.args.op issued c.known.ensures.sound.places c.in-Ok-issue.ensures.within.0 in
+    let drives = c.in-Err-drive.ensures.drives c.args.op v c.in-Ok.now begun.ready in
     let given = c.give_up_untimed-given_up.new.self in
     driven-over g.R.Receipt.keeps g.R.Receipt.stands g.F.Key.Ord.cmp g.F.Mergeable.parts.joined g.F.Functions.meaning g.F.Functions.code c.args.op v c.drive.new.partition c.args.slot k c.args.limit c.args.clock.now c.in-Ok.now c.drive.new.clock (g.P.PageReader.failures c.args.reader.now) (g.P.PageReader.failures c.drive.new.reader) issued.opens first.0 first.2 given c.in-Err-drive.refused (rw first.1 at drives)
-    (given-over c.drive.new.partition.core given.core c.args.slot k c.drive.new.partition.core.moment c.give_up_untimed-given_up.result c.give_up_untimed-given_up.ensures.effect)
+    (given-over c.drive.new.partition given c.args.slot k c.drive.new.partition.moment c.give_up_untimed-given_up.result c.give_up_untimed-given_up.ensures.effect)
 
 pub returns-in-Ok-drive-clause-bound : goal.returns-in-Ok-drive-clause-bound
 returns-in-Ok-drive-clause-bound g c = λ kept clear.
@@ -61,12 +61,12 @@ returns-in-Ok-drive-clause-bound g c = λ kept clear.
     let w = c.issue.new.self in
     let k = c.in-Ok-issue.context in
     let issued = issue-told g.F.Functions.code v w c.args.slot k c.in-Ok.now c.args.op (issued-on-key g.F.Functions.code v w c.args.slot c.in-Ok.now c.args.op c.op.result (Ok k) c.op.ensures c.in-Ok-issue.ensures.effect) in
-    let begun = issue-begun g.F.Functions.code v w c.args.slot k c.in-Ok.now c.args.op issued c.known.ensures.core.places c.in-Ok-issue.ensures.within.0 in
+    let begun = issue-begun g.F.Functions.code v w c.args.slot k c.in-Ok.now c.args.op issued c.known.ensures.sound.places c.in-Ok-issue.ensures.within.0 in
     let hashed : c.hash-hash.result ≡ g.F.Functions.code (key_of c.args.op) = c.hash-hash.ensures ∙ ap g.F.Functions.code c.key.ensures in
     let fits = c.hash-hash.type_inv in
     let range : g.F.Functions.code (key_of c.args.op) < 2 ^ 64 = subst (λ h. h < 2 ^ 64) hashed fits in
-    let near = issue-near g.F.Functions.code v.core w.core c.args.slot k c.in-Ok.now c.args.op (ap (λ (u : PartitionView _ _ _). u.core) issued.is) begun.ready begun.fresh clear range in
-    let bound = c.in-Ok-drive.ensures.bound (3 + rest_of g.F.Functions.code v.core.records c.args.op) kept near in
+    let near = issue-near g.F.Functions.code v w c.args.slot k c.in-Ok.now c.args.op (ap (λ (u : PartitionView _ _ _). u) issued.is) begun.ready begun.fresh clear range in
+    let bound = c.in-Ok-drive.ensures.bound (3 + rest_of g.F.Functions.code v.records c.args.op) kept near in
     let start = first.1 in
     let now = first.0 in
     omega arith
@@ -78,12 +78,12 @@ returns-in-Err-drive-clause-bound g c = λ kept clear.
     let w = c.issue.new.self in
     let k = c.in-Ok-issue.context in
     let issued = issue-told g.F.Functions.code v w c.args.slot k c.in-Ok.now c.args.op (issued-on-key g.F.Functions.code v w c.args.slot c.in-Ok.now c.args.op c.op.result (Ok k) c.op.ensures c.in-Ok-issue.ensures.effect) in
-    let begun = issue-begun g.F.Functions.code v w c.args.slot k c.in-Ok.now c.args.op issued c.known.ensures.core.places c.in-Ok-issue.ensures.within.0 in
+    let begun = issue-begun g.F.Functions.code v w c.args.slot k c.in-Ok.now c.args.op issued c.known.ensures.sound.places c.in-Ok-issue.ensures.within.0 in
     let hashed : c.hash-hash.result ≡ g.F.Functions.code (key_of c.args.op) = c.hash-hash.ensures ∙ ap g.F.Functions.code c.key.ensures in
     let fits = c.hash-hash.type_inv in
     let range : g.F.Functions.code (key_of c.args.op) < 2 ^ 64 = subst (λ h. h < 2 ^ 64) hashed fits in
-    let near = issue-near g.F.Functions.code v.core w.core c.args.slot k c.in-Ok.now c.args.op (ap (λ (u : PartitionView _ _ _). u.core) issued.is) begun.ready begun.fresh clear range in
-    let bound = c.in-Err-drive.ensures.bound (3 + rest_of g.F.Functions.code v.core.records c.args.op) kept near in
+    let near = issue-near g.F.Functions.code v w c.args.slot k c.in-Ok.now c.args.op (ap (λ (u : PartitionView _ _ _). u) issued.is) begun.ready begun.fresh clear range in
+    let bound = c.in-Err-drive.ensures.bound (3 + rest_of g.F.Functions.code v.records c.args.op) kept near in
     let start = first.1 in
     let now = first.0 in
     omega arith
@@ -110,12 +110,12 @@ returns-in-Err-drive-clause-enough g c = λ kept clear low e.
     let w = c.issue.new.self in
     let k = c.in-Ok-issue.context in
     let issued = issue-told g.F.Functions.code v w c.args.slot k c.in-Ok.now c.args.op (issued-on-key g.F.Functions.code v w c.args.slot c.in-Ok.now c.args.op c.op.result (Ok k) c.op.ensures c.in-Ok-issue.ensures.effect) in
-    let begun = issue-begun g.F.Functions.code v w c.args.slot k c.in-Ok.now c.args.op issued c.known.ensures.core.places c.in-Ok-issue.ensures.within.0 in
+    let begun = issue-begun g.F.Functions.code v w c.args.slot k c.in-Ok.now c.args.op issued c.known.ensures.sound.places c.in-Ok-issue.ensures.within.0 in
     let hashed : c.hash-hash.result ≡ g.F.Functions.code (key_of c.args.op) = c.hash-hash.ensures ∙ ap g.F.Functions.code c.key.ensures in
     let fits = c.hash-hash.type_inv in
     let range : g.F.Functions.code (key_of c.args.op) < 2 ^ 64 = subst (λ h. h < 2 ^ 64) hashed fits in
-    let near = issue-near g.F.Functions.code v.core w.core c.args.slot k c.in-Ok.now c.args.op (ap (λ (u : PartitionView _ _ _). u.core) issued.is) begun.ready begun.fresh clear range in
-    c.in-Err-drive.ensures.enough c.args.op v.core c.in-Ok.now (3 + rest_of g.F.Functions.code v.core.records c.args.op) begun.ready kept near (omega arith) e)
+    let near = issue-near g.F.Functions.code v w c.args.slot k c.in-Ok.now c.args.op (ap (λ (u : PartitionView _ _ _). u) issued.is) begun.ready begun.fresh clear range in
+    c.in-Err-drive.ensures.enough c.args.op v c.in-Ok.now (3 + rest_of g.F.Functions.code v.records c.args.op) begun.ready kept near (omega arith) e)
 
 pub returns-in-Ok-drive-clause-others : goal.returns-in-Ok-drive-clause-others
 returns-in-Ok-drive-clause-others g c = λ kept s e other.
@@ -124,7 +124,7 @@ returns-in-Ok-drive-clause-others g c = λ kept s e other.
     let w = c.issue.new.self in
     let k = c.in-Ok-issue.context in
     let issued = issue-told g.F.Functions.code v w c.args.slot k c.in-Ok.now c.args.op (issued-on-key g.F.Functions.code v w c.args.slot c.in-Ok.now c.args.op c.op.result (Ok k) c.op.ensures c.in-Ok-issue.ensures.effect) in
-    pend-free g.F.Key.Ord.cmp v w.core c.drive.new.partition.core c.args.slot k s e (c.in-Ok-issue.ensures.pends kept) (c.in-Ok-drive.ensures.others kept) issued.opens.free other
+    pend-free g.F.Key.Ord.cmp v w c.drive.new.partition c.args.slot k s e (c.in-Ok-issue.ensures.pends kept) (c.in-Ok-drive.ensures.others kept) issued.opens.free other
 
 pub returns-in-Err-drive-clause-others : goal.returns-in-Err-drive-clause-others
 returns-in-Err-drive-clause-others g c = λ kept s e other.
@@ -134,9 +134,9 @@ returns-in-Err-drive-clause-others g c = λ kept s e other.
     let k = c.in-Ok-issue.context in
     let issued = issue-told g.F.Functions.code v w c.args.slot k c.in-Ok.now c.args.op (issued-on-key g.F.Functions.code v w c.args.slot c.in-Ok.now c.args.op c.op.result (Ok k) c.op.ensures c.in-Ok-issue.ensures.effect) in
     let given = c.give_up_untimed-given_up.new.self in
-    pend-free g.F.Key.Ord.cmp v w.core given.core c.args.slot k s e (c.in-Ok-issue.ensures.pends kept)
-    (pend-then g.F.Key.Ord.cmp w.core c.drive.new.partition.core given.core c.args.slot k (c.in-Err-drive.ensures.others kept)
-    (given-others g.F.Key.Ord.cmp c.drive.new.partition.core given.core c.args.slot k c.drive.new.partition.core.moment c.give_up_untimed-given_up.result c.give_up_untimed-given_up.ensures.effect))
+    pend-free g.F.Key.Ord.cmp v w given c.args.slot k s e (c.in-Ok-issue.ensures.pends kept)
+    (pend-then g.F.Key.Ord.cmp w c.drive.new.partition given c.args.slot k (c.in-Err-drive.ensures.others kept)
+    (given-others g.F.Key.Ord.cmp c.drive.new.partition given c.args.slot k c.drive.new.partition.moment c.give_up_untimed-given_up.result c.give_up_untimed-given_up.ensures.effect))
     issued.opens.free other
 
 pub returns-in-Err-issue-clause-rest : goal.returns-in-Err-issue-clause-rest
@@ -194,8 +194,8 @@ returns-in-Ok-drive-clause-unread g c = λ merge.
     let w = c.issue.new.self in
     let k = c.in-Ok-issue.context in
     let issued = issue-told g.F.Functions.code v w c.args.slot k c.in-Ok.now c.args.op (issued-on-key g.F.Functions.code v w c.args.slot c.in-Ok.now c.args.op c.op.result (Ok k) c.op.ensures c.in-Ok-issue.ensures.effect) in
-    let begun = issue-begun g.F.Functions.code v w c.args.slot k c.in-Ok.now c.args.op issued c.known.ensures.core.places c.in-Ok-issue.ensures.within.0 in
-    c.in-Ok-drive.ensures.unread c.args.op v.core c.in-Ok.now begun.ready merge
+    let begun = issue-begun g.F.Functions.code v w c.args.slot k c.in-Ok.now c.args.op issued c.known.ensures.sound.places c.in-Ok-issue.ensures.within.0 in
+    c.in-Ok-drive.ensures.unread c.args.op v c.in-Ok.now begun.ready merge
 
 pub returns-in-Err-drive-clause-unread : goal.returns-in-Err-drive-clause-unread
 returns-in-Err-drive-clause-unread g c = λ merge.
@@ -204,8 +204,8 @@ returns-in-Err-drive-clause-unread g c = λ merge.
     let w = c.issue.new.self in
     let k = c.in-Ok-issue.context in
     let issued = issue-told g.F.Functions.code v w c.args.slot k c.in-Ok.now c.args.op (issued-on-key g.F.Functions.code v w c.args.slot c.in-Ok.now c.args.op c.op.result (Ok k) c.op.ensures c.in-Ok-issue.ensures.effect) in
-    let begun = issue-begun g.F.Functions.code v w c.args.slot k c.in-Ok.now c.args.op issued c.known.ensures.core.places c.in-Ok-issue.ensures.within.0 in
-    c.in-Err-drive.ensures.unread c.args.op v.core c.in-Ok.now begun.ready merge
+    let begun = issue-begun g.F.Functions.code v w c.args.slot k c.in-Ok.now c.args.op issued c.known.ensures.sound.places c.in-Ok-issue.ensures.within.0 in
+    c.in-Err-drive.ensures.unread c.args.op v c.in-Ok.now begun.ready merge
 
 pub returns-in-Ok-drive-clause-loads : goal.returns-in-Ok-drive-clause-loads
 returns-in-Ok-drive-clause-loads g c = λ kept clear.
@@ -214,12 +214,12 @@ returns-in-Ok-drive-clause-loads g c = λ kept clear.
     let w = c.issue.new.self in
     let k = c.in-Ok-issue.context in
     let issued = issue-told g.F.Functions.code v w c.args.slot k c.in-Ok.now c.args.op (issued-on-key g.F.Functions.code v w c.args.slot c.in-Ok.now c.args.op c.op.result (Ok k) c.op.ensures c.in-Ok-issue.ensures.effect) in
-    let begun = issue-begun g.F.Functions.code v w c.args.slot k c.in-Ok.now c.args.op issued c.known.ensures.core.places c.in-Ok-issue.ensures.within.0 in
+    let begun = issue-begun g.F.Functions.code v w c.args.slot k c.in-Ok.now c.args.op issued c.known.ensures.sound.places c.in-Ok-issue.ensures.within.0 in
     let hashed : c.hash-hash.result ≡ g.F.Functions.code (key_of c.args.op) = c.hash-hash.ensures ∙ ap g.F.Functions.code c.key.ensures in
     let fits = c.hash-hash.type_inv in
     let range : g.F.Functions.code (key_of c.args.op) < 2 ^ 64 = subst (λ h. h < 2 ^ 64) hashed fits in
-    let near = issue-near g.F.Functions.code v.core w.core c.args.slot k c.in-Ok.now c.args.op (ap (λ (u : PartitionView _ _ _). u.core) issued.is) begun.ready begun.fresh clear range in
-    c.in-Ok-drive.ensures.loads kept c.args.op v.core c.in-Ok.now (3 + rest_of g.F.Functions.code v.core.records c.args.op) begun.ready near
+    let near = issue-near g.F.Functions.code v w c.args.slot k c.in-Ok.now c.args.op (ap (λ (u : PartitionView _ _ _). u) issued.is) begun.ready begun.fresh clear range in
+    c.in-Ok-drive.ensures.loads kept c.args.op v c.in-Ok.now (3 + rest_of g.F.Functions.code v.records c.args.op) begun.ready near
 
 pub returns-in-Err-drive-clause-loads : goal.returns-in-Err-drive-clause-loads
 returns-in-Err-drive-clause-loads g c = λ kept clear.
@@ -228,9 +228,9 @@ returns-in-Err-drive-clause-loads g c = λ kept clear.
     let w = c.issue.new.self in
     let k = c.in-Ok-issue.context in
     let issued = issue-told g.F.Functions.code v w c.args.slot k c.in-Ok.now c.args.op (issued-on-key g.F.Functions.code v w c.args.slot c.in-Ok.now c.args.op c.op.result (Ok k) c.op.ensures c.in-Ok-issue.ensures.effect) in
-    let begun = issue-begun g.F.Functions.code v w c.args.slot k c.in-Ok.now c.args.op issued c.known.ensures.core.places c.in-Ok-issue.ensures.within.0 in
+    let begun = issue-begun g.F.Functions.code v w c.args.slot k c.in-Ok.now c.args.op issued c.known.ensures.sound.places c.in-Ok-issue.ensures.within.0 in
     let hashed : c.hash-hash.result ≡ g.F.Functions.code (key_of c.args.op) = c.hash-hash.ensures ∙ ap g.F.Functions.code c.key.ensures in
     let fits = c.hash-hash.type_inv in
     let range : g.F.Functions.code (key_of c.args.op) < 2 ^ 64 = subst (λ h. h < 2 ^ 64) hashed fits in
-    let near = issue-near g.F.Functions.code v.core w.core c.args.slot k c.in-Ok.now c.args.op (ap (λ (u : PartitionView _ _ _). u.core) issued.is) begun.ready begun.fresh clear range in
-    c.in-Err-drive.ensures.loads kept c.args.op v.core c.in-Ok.now (3 + rest_of g.F.Functions.code v.core.records c.args.op) begun.ready near
+    let near = issue-near g.F.Functions.code v w c.args.slot k c.in-Ok.now c.args.op (ap (λ (u : PartitionView _ _ _). u) issued.is) begun.ready begun.fresh clear range in
+    c.in-Err-drive.ensures.loads kept c.args.op v c.in-Ok.now (3 + rest_of g.F.Functions.code v.records c.args.op) begun.ready near

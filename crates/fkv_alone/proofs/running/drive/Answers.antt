@@ -17,7 +17,7 @@ returns-in-Err-clause-drives g c = λ op old started h.
     let last = c.tick.ensures.worn.0 (c.in-Err.is ∙ ap Err c.in-Err.ensures.only) in
     let below = c.loop-turn-test.true in
     Drives.exhausted
-    (come-halted g.R.Receipt.keeps g.R.Receipt.stands g.F.Key.Ord.cmp g.F.Mergeable.parts.joined g.F.Functions.meaning g.F.Functions.code op old c.args.slot c.args.context started c.loop-turn.partition.core c.loop-turn.told (i.comes op old started h).0 i.on)
+    (come-halted g.R.Receipt.keeps g.R.Receipt.stands g.F.Key.Ord.cmp g.F.Mergeable.parts.joined g.F.Functions.meaning g.F.Functions.code op old c.args.slot c.args.context started c.loop-turn.partition c.loop-turn.told (i.comes op old started h).0 i.on)
     (same ∙ last) (let k = i.taken in omega arith) (i.comes op old started h).1 (ap Err c.in-Err.ensures.only)
 
 pub returns-in-Err-step-clause-drives : goal.returns-in-Err-step-clause-drives
@@ -29,7 +29,7 @@ returns-in-Err-step-clause-drives g c = λ op old started h.
     let come = (i.comes op old started h).0 in
     let e = c.in-Err-step.ensures.advances op old started come in
     Drives.refused c.in-Err-step.refused
-    (stop-halted g.R.Receipt.keeps g.R.Receipt.stands g.F.Key.Ord.cmp g.F.Mergeable.parts.joined g.F.Functions.meaning g.F.Functions.code op old c.args.slot c.args.context started c.loop-turn.partition.core c.step.new.partition.core c.loop-turn.told come i.on e.1)
+    (stop-halted g.R.Receipt.keeps g.R.Receipt.stands g.F.Key.Ord.cmp g.F.Mergeable.parts.joined g.F.Functions.meaning g.F.Functions.code op old c.args.slot c.args.context started c.loop-turn.partition c.step.new.partition c.loop-turn.told come i.on e.1)
     (let k = i.taken in omega arith)
     (subst (λ n. IsStop g.R.Receipt.keeps old.records.log.tail n (g.P.PageReader.failures c.step.new.reader) c.in-Err-step.refused) (i.comes op old started h).1 e.0)
     refl
@@ -65,7 +65,7 @@ loop-turn-preserved g c =
           let once = c.in-Ok-step.ensures.once in
           let some = c.in-Ok-step.ensures.wanted kept op old started come in
           let go = c.is_on.ensures.0 c.if-not-is_on.false in
-          let falls = left-falls g.R.Receipt.keeps g.R.Receipt.stands g.F.Key.Ord.cmp g.F.Mergeable.parts.joined g.F.Functions.meaning g.F.Functions.code op old c.args.slot c.args.context started c.loop-turn.partition.core c.step.new.partition.core c.loop-turn.told c.in-Ok-step.progress more.0 come e.0 i.on go more.2 (λ m near. c.in-Ok-step.ensures.nearer m kept near go) some in
+          let falls = left-falls g.R.Receipt.keeps g.R.Receipt.stands g.F.Key.Ord.cmp g.F.Mergeable.parts.joined g.F.Functions.meaning g.F.Functions.code op old c.args.slot c.args.context started c.loop-turn.partition c.step.new.partition c.loop-turn.told c.in-Ok-step.progress more.0 come e.0 i.on go more.2 (λ m near. c.in-Ok-step.ensures.nearer m kept near go) some in
           omega arith;
       caused = caused-then _ _ _ i.caused c.in-Ok-step.ensures.caused;
       near = λ n kept near.
@@ -74,7 +74,7 @@ loop-turn-preserved g c =
           let total = more.1 in
           let less = next.fewer in
           (next.left, omega arith, next.near);
-      others = λ kept. pend-then g.F.Key.Ord.cmp c.args.partition.now.core c.loop-turn.partition.core c.step.new.partition.core c.args.slot c.args.context (i.others kept) (c.in-Ok-step.ensures.others kept);
+      others = λ kept. pend-then g.F.Key.Ord.cmp c.args.partition.now c.loop-turn.partition c.step.new.partition c.args.slot c.args.context (i.others kept) (c.in-Ok-step.ensures.others kept);
       on = c.is_on.ensures.0 c.if-not-is_on.false;
       taken = (let k = i.taken in omega arith);
       rest = rest-then c.args.partition.now c.loop-turn.partition c.step.new.partition i.rest c.in-Ok-step.ensures.rest;
@@ -85,7 +85,7 @@ pub returns-clause-drives : goal.returns-clause-drives
 returns-clause-drives g c = λ op old started h.
     let i = c.loop-turn.invariant in
     Drives.stalled
-    (come-halted g.R.Receipt.keeps g.R.Receipt.stands g.F.Key.Ord.cmp g.F.Mergeable.parts.joined g.F.Functions.meaning g.F.Functions.code op old c.args.slot c.args.context started c.loop-turn.partition.core c.loop-turn.told (i.comes op old started h).0 i.on)
+    (come-halted g.R.Receipt.keeps g.R.Receipt.stands g.F.Key.Ord.cmp g.F.Mergeable.parts.joined g.F.Functions.meaning g.F.Functions.code op old c.args.slot c.args.context started c.loop-turn.partition c.loop-turn.told (i.comes op old started h).0 i.on)
     (let k = i.taken in let d = c.loop-turn-test.false in let u = c.loop-turn.auto in omega arith) (i.comes op old started h).1 refl
 
 pub returns-in-Err-clause-bound : goal.returns-in-Err-clause-bound
@@ -101,7 +101,7 @@ pub returns-in-Err-step-clause-bound : goal.returns-in-Err-step-clause-bound
 returns-in-Err-step-clause-bound g c = λ n kept near.
     let i = c.loop-turn.invariant in
     let more = i.near n kept near in
-    let some = near-some g.F.Functions.code c.loop-turn.partition.core c.args.slot c.args.context c.loop-turn.told more.0 more.2 in
+    let some = near-some g.F.Functions.code c.loop-turn.partition c.args.slot c.args.context c.loop-turn.told more.0 more.2 in
     let total = more.1 in
     let k = i.taken in
     let t = c.in-Ok.ensures.ok in
@@ -112,7 +112,7 @@ pub returns-then-not-is_on-clause-bound : goal.returns-then-not-is_on-clause-bou
 returns-then-not-is_on-clause-bound g c = λ n kept near.
     let i = c.loop-turn.invariant in
     let more = i.near n kept near in
-    let some = near-some g.F.Functions.code c.loop-turn.partition.core c.args.slot c.args.context c.loop-turn.told more.0 more.2 in
+    let some = near-some g.F.Functions.code c.loop-turn.partition c.args.slot c.args.context c.loop-turn.told more.0 more.2 in
     let total = more.1 in
     let k = i.taken in
     let t = c.in-Ok.ensures.ok in
@@ -142,16 +142,16 @@ pub returns-clause-enough : goal.returns-clause-enough
 returns-clause-enough g c = λ op old started n h kept near low e.
     (let i = c.loop-turn.invariant in
     let more = i.near n kept near in
-    let some = near-some g.F.Functions.code c.loop-turn.partition.core c.args.slot c.args.context c.loop-turn.told more.0 more.2 in
+    let some = near-some g.F.Functions.code c.loop-turn.partition c.args.slot c.args.context c.loop-turn.told more.0 more.2 in
     let total = more.1 in
     let d = c.loop-turn-test.false in
     absurd (omega arith))
 
 pub returns-in-Err-step-clause-others : goal.returns-in-Err-step-clause-others
-returns-in-Err-step-clause-others g c = λ kept. pend-then g.F.Key.Ord.cmp c.args.partition.now.core c.loop-turn.partition.core c.step.new.partition.core c.args.slot c.args.context (c.loop-turn.invariant.others kept) (c.in-Err-step.ensures.others kept)
+returns-in-Err-step-clause-others g c = λ kept. pend-then g.F.Key.Ord.cmp c.args.partition.now c.loop-turn.partition c.step.new.partition c.args.slot c.args.context (c.loop-turn.invariant.others kept) (c.in-Err-step.ensures.others kept)
 
 pub returns-then-not-is_on-clause-others : goal.returns-then-not-is_on-clause-others
-returns-then-not-is_on-clause-others g c = λ kept. pend-then g.F.Key.Ord.cmp c.args.partition.now.core c.loop-turn.partition.core c.step.new.partition.core c.args.slot c.args.context (c.loop-turn.invariant.others kept) (c.in-Ok-step.ensures.others kept)
+returns-then-not-is_on-clause-others g c = λ kept. pend-then g.F.Key.Ord.cmp c.args.partition.now c.loop-turn.partition c.step.new.partition c.args.slot c.args.context (c.loop-turn.invariant.others kept) (c.in-Ok-step.ensures.others kept)
 
 pub returns-in-Err-step-clause-rest : goal.returns-in-Err-step-clause-rest
 returns-in-Err-step-clause-rest g c = rest-then c.args.partition.now c.loop-turn.partition c.step.new.partition c.loop-turn.invariant.rest c.in-Err-step.ensures.rest
@@ -166,10 +166,10 @@ loop-turn-init g c = record {
   loads = λ kept op old started n h near. omega arith;
   caused = λ other. absurd (other refl);
   near = λ n kept near. (n, omega arith, near);
-  others = λ kept. pend-self g.F.Key.Ord.cmp c.args.partition.now.core c.args.slot c.args.context;
+  others = λ kept. pend-self g.F.Key.Ord.cmp c.args.partition.now c.args.slot c.args.context;
   on = tt;
   taken = omega arith;
-  rest = record { is = refl; relocations = λ p. refl };
+  rest = record { cleared = refl; relocations = λ p. refl };
   past = c.requires.past;
 }
 

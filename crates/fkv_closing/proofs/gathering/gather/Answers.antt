@@ -2,7 +2,7 @@ use Rattle.std.proofs.Common.{◌≡◌, ◌≢◌, ◌<◌, ◌∙◌, length, 
 use Rattle.std.proofs.lemmas.List.{length-set, length-map, map-set}
 use Rattle.std.specs.BTreeMap.{get, is_at}
 use Rattle.std.specs.Map.{lookup}
-use Rattle.fkv_partition.specs.CoreViews.{partition_of}
+use Rattle.fkv_partition.specs.Views.{partition_of}
 use Rattle.fkv_partition.proofs.UnionLemmas.{live-more, bare_before}
 use Rattle.fkv_closing.proofs.PlaceLemmas.{here, at_place, written_same}
 use Rattle.fkv_closing.proofs.UnionLemmas.{union_none, union_all}
@@ -31,7 +31,7 @@ loop-place-preserved g c =
           live-more g.F.Key.Ord.cmp g.F.Functions.code views i v (get g.F.Key.Ord.cmp c.loop-place.tree) (get g.F.Key.Ord.cmp c.put_live.new.map) there
           (c.in-Ok.ensures.live keeps bare)
           (subst (λ n. (q : g.row.F-Key.Denot) → partition_of n (g.F.Functions.code q) ≢ i → get g.F.Key.Ord.cmp c.put_live.new.map q ≡ get g.F.Key.Ord.cmp c.loop-place.tree q) (c.requires.numbered.counted i v there)
-          (subst (λ p. (q : g.row.F-Key.Denot) → partition_of v.core.count (g.F.Functions.code q) ≢ p → get g.F.Key.Ord.cmp c.put_live.new.map q ≡ get g.F.Key.Ord.cmp c.loop-place.tree q) (c.requires.numbered.numbered i v there)
+          (subst (λ p. (q : g.row.F-Key.Denot) → partition_of v.count (g.F.Functions.code q) ≢ p → get g.F.Key.Ord.cmp c.put_live.new.map q ≡ get g.F.Key.Ord.cmp c.loop-place.tree q) (c.requires.numbered.numbered i v there)
           (c.in-Ok.ensures.others keeps bare)))
           (old.so_far keeps) q);
     }

@@ -22,14 +22,14 @@ returns-then-count-parts g c = (
 pub loop-place-preserved : goal.loop-place-preserved
 loop-place-preserved g c =
     each_more (λ part. part.partition) c.args.parts.now c.loop-place.place c.index-parts-place.result c.loop-place-test.true c.index-parts-place.is
-    (λ p v. (v.core.number ≡ p) × (v.core.count ≡ length (map (λ part. part.partition) c.args.parts.now)))
+    (λ p v. (v.number ≡ p) × (v.count ≡ length (map (λ part. part.partition) c.args.parts.now)))
     c.loop-place.invariant
     (sym c.number.ensures ∙ c.if-number-place.false, sym c.count.ensures ∙ (c.if-count-parts.false ∙ sym (length-map c.args.parts.now (λ part. part.partition))))
 
 pub returns : goal.returns
 returns g c =
     let all = each_all (λ part. part.partition) c.args.parts.now c.loop-place.place
-    (λ p v. (v.core.number ≡ p) × (v.core.count ≡ length (map (λ part. part.partition) c.args.parts.now)))
+    (λ p v. (v.number ≡ p) × (v.count ≡ length (map (λ part. part.partition) c.args.parts.now)))
     c.loop-place-test.false c.loop-place.invariant in (
       λ t. record { numbered = λ p v at. (all p v at).0; counted = λ p v at. (all p v at).1 },
       λ n. refl,

@@ -5,4 +5,4 @@ use Rattle.fkv_closing.proofs.merges.are_numbered.Given as goal
 abbrev pub invariant-loop-place : goal.invariant-loop-place
 invariant-loop-place g l =
     (p : ℕ) (v : _) → p < l.place → slice_get (map (λ part. part.partition) l.parts) p ≡ Some v
-    → (v.core.number ≡ p) × (v.core.count ≡ length (map (λ part. part.partition) l.parts))
+    → (v.number ≡ p) × (v.count ≡ length (map (λ part. part.partition) l.parts))

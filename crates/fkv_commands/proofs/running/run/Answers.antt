@@ -1,8 +1,15 @@
 use Rattle.std.proofs.Common.{⊎_elim, Err, refl, ap, map, string_bytes, inl, inr, ◌≡◌, ◌∙◌}
 use Rattle.fkv_requests.specs.Requests.{AsksReplay, AsksTable, MayAskHelp, MayAskVersion, MayBeMistaken}
+use Rattle.fkv_requests.proofs.SpillLemmas.{asked-alone}
 use Rattle.fkv_commands.proofs.TellingLemmas.{unwritable_or}
 use Rattle.fkv_commands.proofs.StatusLemmas.{done_is_no_fault, done_is_no_mistake, fault_is_no_mistake, uncounted}
 use Rattle.fkv_commands.proofs.running.run.Goals as goal
+
+-- ---- a table that is spilled has one worker
+pub tabulate-requires-clause-alone : goal.tabulate-requires-clause-alone
+tabulate-requires-clause-alone g c κs within =
+    let asks : AsksTable (map string_bytes c.args.words.now) c.in-Ok-Table.table = rw c.in-Ok-Table.field-0-is at c.in-Ok-Table.ensures.ok in
+    asked-alone _ _ asks
 
 -- ---- what was asked for was done
 pub returns-in-Ok : goal.returns-in-Ok
@@ -87,9 +94,13 @@ returns-in-Ok-Table g c =
       quiet = λ e. absurd (done_is_no_fault _ e told);
       out = λ e. absurd (done_is_no_fault _ e told);
       steady = λ e. absurd (done_is_no_fault _ e told);
-      fault = λ _. elim (unwritable_or c.in-Err-tabulate.refused) [
-        | inl u ↦ inr (inr (inl (c.in-Ok-Table.table, asks, c.in-Err-tabulate.ensures.unwritable (ap Err u))))
-        | inr n ↦ inl (c.in-Err-tabulate.ensures.nothing n)
+      fault = λ _. elim c.in-Err-tabulate.ensures.nothing [
+        | inl (inl u) ↦ inr (inr (inl (c.in-Ok-Table.table, asks, c.in-Err-tabulate.ensures.unwritable (ap Err u))))
+        | inl (inr late) ↦ elim (c.in-Err-tabulate.ensures.spilled late.0) [
+          | inl same ↦ inl same
+          | inr part ↦ inr (inr (inl (c.in-Ok-Table.table, asks, part)))
+        ]
+        | inr same ↦ inl same
       ];
       mistake = λ e. absurd (fault_is_no_mistake _ told e);
       only = inr (inl told);

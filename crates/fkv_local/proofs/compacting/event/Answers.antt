@@ -36,7 +36,7 @@ pub returns-in-Ok-fetch-clause-kept : goal.returns-in-Ok-fetch-clause-kept
 returns-in-Ok-fetch-clause-kept g c =
     let wanted = rw c.in-Some.is at c.requires.wanted in
     let same = c.in-Ok-fetch.ensures.same _ c.requires.kept (wanted-held c.pages_known.ensures.receipts wanted) in
-    kept-then g.D.Receipt.Receipt.stands c.args.shard.now.part.partition.core.records.log.receipts c.load_own.new.self.core.records.log.receipts c.fetch.new.self.is_sure c.fetch.new.self.page c.load_own.result (load-receipts c.load_own.result same.0 wanted c.load_own.ensures.effect) same.1
+    kept-then g.D.Receipt.Receipt.stands c.args.shard.now.part.partition.records.log.receipts c.load_own.new.self.records.log.receipts c.fetch.new.self.is_sure c.fetch.new.self.page c.load_own.result (load-receipts c.load_own.result same.0 wanted c.load_own.ensures.effect) same.1
 
 pub returns-in-Ok-fetch-clause-told : goal.returns-in-Ok-fetch-clause-told
 returns-in-Ok-fetch-clause-told g c =
@@ -78,7 +78,7 @@ pub returns-in-Err-clause-caused : goal.returns-in-Err-clause-caused
 returns-in-Err-clause-caused g c = λ kept. worn-caused _ _ c.in-Err.ensures.refused.0
 
 pub returns-in-None-clause-kept : goal.returns-in-None-clause-kept
-returns-in-None-clause-kept g c = kept-then g.D.Receipt.Receipt.stands c.args.shard.now.part.partition.core.records.log.receipts c.go.new.self.core.records.log.receipts c.args.kept.now.is_sure c.args.kept.now.page c.go.result (go-receipts c.go.result (rw c.in-None.is at c.requires.wanted) c.go.ensures.effect) c.requires.kept
+returns-in-None-clause-kept g c = kept-then g.D.Receipt.Receipt.stands c.args.shard.now.part.partition.records.log.receipts c.go.new.self.records.log.receipts c.args.kept.now.is_sure c.args.kept.now.page c.go.result (go-receipts c.go.result (rw c.in-None.is at c.requires.wanted) c.go.ensures.effect) c.requires.kept
 
 pub returns-in-None-clause-told : goal.returns-in-None-clause-told
 returns-in-None-clause-told g c = go-told c.go.result (rw c.in-None.is at c.requires.wanted) c.go.ensures.effect _ _ _

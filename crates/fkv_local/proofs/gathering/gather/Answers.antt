@@ -2,7 +2,7 @@ use Rattle.std.proofs.Common.{◌≡◌, ◌≢◌, ◌<◌, length, map, slice_
 use Rattle.std.proofs.lemmas.List.{length-set}
 use Rattle.std.proofs.lemmas.Option.{slice_get-get_or}
 use Rattle.std.specs.BTreeMap.{get}
-use Rattle.fkv_partition.specs.CoreViews.{partition_of}
+use Rattle.fkv_partition.specs.Views.{partition_of}
 use Rattle.fkv_local.proofs.CauseLemmas.{listed-caused}
 use Rattle.fkv_local.proofs.PartLemmas.{view-get, view-set, view-same}
 use Rattle.fkv_local.proofs.ListingLemmas.{readers-behind, readers-counted, unlisted-here}
@@ -35,7 +35,7 @@ loop-index-preserved g c =
           live-more g.F.Key.Ord.cmp g.F.Functions.code views i x.part.partition (get g.F.Key.Ord.cmp c.loop-index.tree) _ there
           (c.in-Ok.ensures.live keeps bare)
           (subst (λ n. (q : g.row.F-Key.Denot) → partition_of n (g.F.Functions.code q) ≢ i → get g.F.Key.Ord.cmp c.put_live.new.map q ≡ get g.F.Key.Ord.cmp c.loop-index.tree q) (idle.counted i x.part.partition there)
-          (subst (λ p. (q : g.row.F-Key.Denot) → partition_of x.part.partition.core.count (g.F.Functions.code q) ≢ p → get g.F.Key.Ord.cmp c.put_live.new.map q ≡ get g.F.Key.Ord.cmp c.loop-index.tree q) (idle.numbered i x.part.partition there)
+          (subst (λ p. (q : g.row.F-Key.Denot) → partition_of x.part.partition.count (g.F.Functions.code q) ≢ p → get g.F.Key.Ord.cmp c.put_live.new.map q ≡ get g.F.Key.Ord.cmp c.loop-index.tree q) (idle.numbered i x.part.partition there)
           (c.in-Ok.ensures.others keeps bare)))
           (old.so_far keeps) q);
     }

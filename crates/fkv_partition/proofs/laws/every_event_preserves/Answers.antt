@@ -13,8 +13,8 @@ returns g c = λ old new was is event.
     let stands = g.R.Receipt.stands in
     let order = key_order g.F.Key.PartialEq.eq cmp ord.matches_eq g.met.F.Key.FixedKey.exact ord.total in
     event-bears cmp join code old was new
-    (λ e key payload has limit low cleared. c.cleared_stay.ensures.appended cmp old.core.records e key payload has limit low cleared)
+    (λ e key payload has limit low cleared. c.cleared_stay.ensures.appended cmp old.records e key payload has limit low cleared)
     stands (IsEntryIn g.F.Key.Fixed.codec g.F.Value.Fixed.codec) g.F.Functions.meaning order is
-    (λ slot at now result goes. c.events_preserve.ensures.goes keeps stands cmp join g.F.Functions.meaning code old.core new.core slot at now result order was.core goes)
-    (λ page now result clear truncates. c.events_preserve.ensures.truncates keeps cmp join code old.core new.core page now result order was.core clear truncates is.core)
+    (λ slot at now result goes. c.events_preserve.ensures.goes keeps stands cmp join g.F.Functions.meaning code old new slot at now result order was.sound goes)
+    (λ page now result clear truncates. c.events_preserve.ensures.truncates keeps cmp join code old new page now result order was.sound clear truncates is.sound)
     event

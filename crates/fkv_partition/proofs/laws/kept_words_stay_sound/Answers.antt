@@ -13,11 +13,11 @@ returns g c = λ v vs k e yes_keeps s events found still again.
     let cmp = g.F.Key.Ord.cmp in
     let code = g.F.Functions.code in
     let order = key_order g.F.Key.PartialEq.eq cmp ord.matches_eq g.met.F.Key.FixedKey.exact ord.total in
-    let r = v.core.records in
+    let r = v.records in
     let last = indexed-last v vs in
     ap (λ (u : IndexedText _ _). live cmp u.text k) (sym last)
     ∙ c.kept_words_are_sound.ensures.kept cmp (class_in code r) (indexed r) (indexed_all vs) k e
-    (led-at cmp g.F.Mergeable.parts.joined code order yes_keeps r.partition_bits r.bucket_bits v.core s.core refl refl)
+    (led-at cmp g.F.Mergeable.parts.joined code order yes_keeps r.partition_bits r.bucket_bits v s.sound refl refl)
     (are-next cmp g.F.Mergeable.parts.joined code order yes_keeps r.partition_bits r.bucket_bits g.R.Receipt.stands
     (IsEntryIn g.F.Key.Fixed.codec g.F.Value.Fixed.codec) g.F.Functions.meaning
     (λ old new was is event. c.every_event_preserves.ensures old new was is event)

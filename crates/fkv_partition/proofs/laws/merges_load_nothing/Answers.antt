@@ -7,5 +7,5 @@ returns g c = λ keeps join code old new slot at came now x k i result sound com
     merge-loads g.F.Key.Ord.cmp join code old slot at compacting x k i here is g.F.Functions.meaning g.R.Receipt.stands
     (IsEntryIn g.F.Key.Fixed.codec g.F.Value.Fixed.codec)
     new came now result
-    (λ y h m. c.merges_take_no_page.ensures keeps join code old.core new.core slot at came now y result sound h m)
+    (λ y h m. c.merges_take_no_page.ensures keeps join code old new slot at came now y result sound h m)
     loads

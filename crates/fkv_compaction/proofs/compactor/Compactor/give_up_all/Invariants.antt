@@ -11,8 +11,8 @@ invariant-loop-context g l = record {
       → GivesUpAll l.self l.partition new l.clock end
       → GivesUpAll l.self l.fn.partition new l.fn.clock end;
   others : (s d : ℕ) → s ≢ l.self → asked l.partition s d ≡ asked l.fn.partition s d;
-  core : IsWithoutThem g.F.Key.Ord.cmp l.fn.partition.core l.partition.core;
+  without : IsWithoutThem g.F.Key.Ord.cmp l.fn.partition l.partition;
   cleared : l.partition.cleared ≡ l.fn.partition.cleared;
-  past : l.partition.core.moment ≤ l.clock;
+  past : l.partition.moment ≤ l.clock;
   used : l.clock ≤ l.fn.clock + l.context;
 }

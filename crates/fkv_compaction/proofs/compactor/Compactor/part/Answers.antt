@@ -15,7 +15,7 @@ returns-clause-effect g c =
 
 pub returns-clause-event : goal.returns-clause-event
 returns-clause-event g c =
-    left-parted g.R.Receipt.keeps g.F.Key.Ord.cmp c.args.partition.now c.give_up_all.new.partition c.leave.new.self c.in-Ok.now _ c.leave.result c.give_up_all.ensures.core c.in-Ok.ensures.given c.leave.ensures.event
+    left-parted g.R.Receipt.keeps g.F.Key.Ord.cmp c.args.partition.now c.give_up_all.new.partition c.leave.new.self c.in-Ok.now _ c.leave.result c.give_up_all.ensures.without c.in-Ok.ensures.given c.leave.ensures.event
 
 pub returns-clause-others : goal.returns-clause-others
 returns-clause-others g c = λ s d other.
@@ -25,17 +25,17 @@ returns-clause-others g c = λ s d other.
 pub returns-clause-operations : goal.returns-clause-operations
 returns-clause-operations g c = λ s d x o here key.
     left-asked g.R.Receipt.keeps c.give_up_all.new.partition c.leave.new.self c.in-Ok.now c.leave.result c.leave.ensures.event c.leave.ensures.unchanged s d
-    ∙ operation-stays g.F.Key.Ord.cmp c.args.partition.now c.give_up_all.new.partition c.give_up_all.ensures.core s d x o here key
+    ∙ operation-stays g.F.Key.Ord.cmp c.args.partition.now c.give_up_all.new.partition c.give_up_all.ensures.without s d x o here key
 
 pub returns-clause-pends : goal.returns-clause-pends
 returns-clause-pends g c = λ yes_keeps s d.
     c.leave.ensures.pends yes_keeps s d
-    ∙ c.give_up_all.ensures.core.pend s d
+    ∙ c.give_up_all.ensures.without.pend s d
 
 pub returns-clause-live : goal.returns-clause-live
 returns-clause-live g c = λ yes_keeps k.
     left-live g.R.Receipt.keeps g.F.Key.Ord.cmp c.give_up_all.new.partition c.leave.new.self c.in-Ok.now c.leave.result c.leave.ensures.event c.leave.ensures.unchanged yes_keeps k
-    ∙ ap (λ r. live g.F.Key.Ord.cmp r.text k) c.give_up_all.ensures.core.records
+    ∙ ap (λ r. live g.F.Key.Ord.cmp r.text k) c.give_up_all.ensures.without.records
 
 pub returns-clause-cleared : goal.returns-clause-cleared
 returns-clause-cleared g c =

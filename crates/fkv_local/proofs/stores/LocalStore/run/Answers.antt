@@ -2,7 +2,7 @@ use Rattle.std.proofs.Common.{IsTrue, length, refl, sym, ap, subst, ◌∙◌}
 use Rattle.std.proofs.lemmas.Option.{slice_get_read}
 use Rattle.std.proofs.lemmas.Result.{IfErr-weaker}
 use Rattle.fkv_functions.proofs.KeyOrder.{key_order}
-use Rattle.fkv_partition.specs.CoreViews.{partition_of}
+use Rattle.fkv_partition.specs.Views.{partition_of}
 use Rattle.fkv_local.proofs.CauseLemmas.{home-numbered, numbered-set}
 use Rattle.fkv_local.proofs.PartLemmas.{view-same}
 use Rattle.fkv_local.proofs.StoreLemmas.{inside-home, home-idle, home-past, home-own, home-rests, home-runs, home-refusal, home-loads, parts-is, terms-are, readers-is, keeps-is}
@@ -33,7 +33,7 @@ operate-requires-clause-own g c =
     let old = c.index_mut-shard.result.now in
     let within = inside-home (λ shard. shard.part.partition) g.F.Functions.code items c.self.inside.clock c.args.self.now.parts (parts-is c.self.view_is) home c.home-home.ensures.within in
     let here = slice_get_read items (length items) home old refl within c.index_mut-shard.ensures.value in
-    ap (λ q. partition_of old.part.partition.core.count (g.F.Functions.code q)) (sym c.key.ensures) ∙ home-own (λ shard. shard.part.partition) g.F.Functions.code items c.self.inside.clock c.args.self.now.parts (parts-is c.self.view_is) home old c.self.invariant.0 here c.key.result c.home-home.ensures.value
+    ap (λ q. partition_of old.part.partition.count (g.F.Functions.code q)) (sym c.key.ensures) ∙ home-own (λ shard. shard.part.partition) g.F.Functions.code items c.self.inside.clock c.args.self.now.parts (parts-is c.self.view_is) home old c.self.invariant.0 here c.key.result c.home-home.ensures.value
 
 pub invariant_of-self : goal.invariant_of-self
 invariant_of-self g c =

@@ -35,7 +35,7 @@ invariant_of-self-2 g c =
           let done = c.in-Some.ensures.done in
           let count = ready.at ∙ g.met.H.Recorder.counted c.self.inside.history k in
           rw (c.finish.ensures.book, c.finish.ensures.entries k, ready.entries)
-          (at_once_keeps cmp join f stands code c.self.inside.partition c.try_update_in_place.new.self slot c.args.key.now c.args.input.now issued now shown done keeps c.known.ensures.core
+          (at_once_keeps cmp join f stands code c.self.inside.partition c.try_update_in_place.new.self slot c.args.key.now c.args.input.now issued now shown done keeps c.known.ensures.sound
           c.in-Some.ensures.within (omega arith) (omega arith)
           (λ p q h. c.pendings_stay.ensures.issues cmp code p q slot done.context op issued h)
           (λ p q s h. c.pendings_stay.ensures.goes keeps stands cmp join f code p q slot done.context now (Ok (Done (Value shown) now)) held order s h)

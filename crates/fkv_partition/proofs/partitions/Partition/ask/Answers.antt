@@ -1,6 +1,4 @@
-use Rattle.std.proofs.Common.{Some, refl, subst}
-use Rattle.fkv_records.specs.Places.{page_at}
-use Rattle.fkv_hybrid.specs.Loads.{IsHeldBy}
+use Rattle.std.proofs.Common.{Some, refl}
 use Rattle.fkv_partition.specs.Checking.{asks}
 use Rattle.fkv_partition.specs.Views.{at_stage}
 use Rattle.fkv_partition.proofs.ApartLemmas.{err-ok, loads-done, no-later, has-come}
@@ -10,7 +8,7 @@ use Rattle.fkv_partition.proofs.partitions.Partition.ask.Goals as goal
 pub returns-clause-effect : goal.returns-clause-effect
 returns-clause-effect g c =
     let held = rw (c.page_of-page.ensures, c.records.ensures, c.records-2.ensures) at c.in-Ok.ensures.stands in
-    rw c.set_stage.ensures (asks c.in-Ok.receipt (subst (λ u. IsHeldBy u.core.records.log.receipts (page_at u.core.records.log.bits c.args.wanted) (g.R.Receipt.stands c.in-Ok.receipt)) c.self.view_is held) refl refl)
+    rw c.set_stage.ensures (asks c.in-Ok.receipt (held) refl refl)
 
 pub returns-clause-event : goal.returns-clause-event
 returns-clause-event g c = rw c.set_stage.ensures (event-set g.R.Receipt.keeps g.F.Key.Ord.cmp c.args.self.now c.args.slot c.args.context c.args.now c.requires.context (keyless-here c.args.self.now c.args.slot c.args.context c.args.relocation.now c.requires.here) (Some (at_stage c.args.relocation.now c.args.stage)))

@@ -1,10 +1,10 @@
-use Rattle.std.proofs.Common.{◌≡◌, ◌≢◌, inl, Some, None, option_map, refl, sym, ap, subst, ◌∙◌}
+use Rattle.std.proofs.Common.{◌≢◌, inl, option_map, refl, sym, ap, subst, ◌∙◌}
 use Rattle.std.specs.Prelude.{IfSome}
 use Rattle.fkv_functions.proofs.KeyOrder.{key_order}
 use Rattle.fkv_index.specs.Words.{address_of}
 use Rattle.fkv_operations.specs.declared.entries.IndexEntry.{IndexEntry}
 use Rattle.fkv_lookups.specs.RecordsViews.{class_in, IsEntryOf}
-use Rattle.fkv_partition.specs.CoreViews.{partition_of, found_for, entry_for}
+use Rattle.fkv_partition.specs.Views.{partition_of}
 use Rattle.fkv_partition.specs.Checking.{NeedsNoCopy, ChecksLiveness}
 use Rattle.fkv_partition.proofs.ApartLemmas.{none-by, some-by, has-come}
 use Rattle.fkv_partition.proofs.MoveLemmas.{event-done, past-place, open-here, stands-here, low-here, keyless-here}
@@ -27,19 +27,19 @@ pub finish-requires-clause-low : goal.finish-requires-clause-low
 finish-requires-clause-low g c =
     let v = c.args.self.now in
     let x = c.args.relocation.now in
-    low-here v c.args.slot c.args.context x c.requires.here c.known.ensures.compacting c.known.ensures.core.traced
+    low-here v c.args.slot c.args.context x c.requires.here c.known.ensures.compacting c.known.ensures.sound.traced
 
 pub returns-then-is_none-clause-event : goal.returns-then-is_none-clause-event
 returns-then-is_none-clause-event g c =
     let v = c.args.self.now in
     let x = c.args.relocation.now in
-    rw c.finish.ensures (event-done g.R.Receipt.keeps g.F.Key.Ord.cmp v c.args.slot c.args.context c.args.now c.requires.context (keyless-here v c.args.slot c.args.context c.args.relocation.now c.requires.here) x.target (past-place v x.target c.known.ensures.core.traced (stands-here v c.args.slot c.args.context x c.requires.here c.known.ensures.compacting).place).0)
+    rw c.finish.ensures (event-done g.R.Receipt.keeps g.F.Key.Ord.cmp v c.args.slot c.args.context c.args.now c.requires.context (keyless-here v c.args.slot c.args.context c.args.relocation.now c.requires.here) x.target (past-place v x.target c.known.ensures.sound.traced (stands-here v c.args.slot c.args.context x c.requires.here c.known.ensures.compacting).place).0)
 
 pub returns-then-is_none-clause-cleared : goal.returns-then-is_none-clause-cleared
 returns-then-is_none-clause-cleared g c =
     let v = c.args.self.now in
     let x = c.args.relocation.now in
-    λ is. rw c.finish.ensures (past-place v x.target c.known.ensures.core.traced (stands-here v c.args.slot c.args.context x c.requires.here c.known.ensures.compacting).place).1
+    λ is. rw c.finish.ensures (past-place v x.target c.known.ensures.sound.traced (stands-here v c.args.slot c.args.context x c.requires.here c.known.ensures.compacting).place).1
 
 pub finish-requires-then-home-number-clause-issued : goal.finish-requires-then-home-number-clause-issued
 finish-requires-then-home-number-clause-issued g c =
@@ -57,7 +57,7 @@ pub finish-requires-then-home-number-clause-low : goal.finish-requires-then-home
 finish-requires-then-home-number-clause-low g c =
     let v = c.args.self.now in
     let x = c.args.relocation.now in
-    low-here v c.args.slot c.args.context x c.requires.here c.known.ensures.compacting c.known.ensures.core.traced
+    low-here v c.args.slot c.args.context x c.requires.here c.known.ensures.compacting c.known.ensures.sound.traced
 
 pub finish-requires-then-home-number-clause-superseded : goal.finish-requires-then-home-number-clause-superseded
 finish-requires-then-home-number-clause-superseded g c =
@@ -67,20 +67,20 @@ finish-requires-then-home-number-clause-superseded g c =
     let v = c.args.self.now in
     let x = c.args.relocation.now in
     let e = c.args.entry in
-    let other = subst (λ u. partition_of u.core.count (g.F.Functions.code e.key) ≢ u.core.number) c.self.view_is (λ q. c.if-home-number.true (c.home-home.ensures ∙ q ∙ sym c.number.ensures)) in
-    superseded-one g.F.Key.Ord.cmp v.core.records.log.text x.target e c.requires.is (superseded-foreign g.F.Key.Ord.cmp g.F.Mergeable.parts.joined g.F.Functions.code order v.core c.known.ensures.core c.args.slot (open-here v c.args.slot c.args.context x c.requires.here).inside x.target e c.requires.stands c.requires.is other)
+    let other : partition_of c.args.self.now.count (g.F.Functions.code c.args.entry.key) ≢ c.args.self.now.number = λ q. c.if-home-number.true (c.home-home.ensures ∙ q ∙ sym c.number.ensures) in
+    superseded-one g.F.Key.Ord.cmp v.records.log.text x.target e c.requires.is (superseded-foreign g.F.Key.Ord.cmp g.F.Mergeable.parts.joined g.F.Functions.code order v c.known.ensures.sound c.args.slot (open-here v c.args.slot c.args.context x c.requires.here).inside x.target e c.requires.stands c.requires.is other)
 
 pub returns-then-home-number-clause-event : goal.returns-then-home-number-clause-event
 returns-then-home-number-clause-event g c =
     let v = c.args.self.now in
     let x = c.args.relocation.now in
-    rw c.finish-then-home-number.ensures (event-done g.R.Receipt.keeps g.F.Key.Ord.cmp v c.args.slot c.args.context c.args.now c.requires.context (keyless-here v c.args.slot c.args.context c.args.relocation.now c.requires.here) x.target (past-place v x.target c.known.ensures.core.traced (stands-here v c.args.slot c.args.context x c.requires.here c.known.ensures.compacting).place).0)
+    rw c.finish-then-home-number.ensures (event-done g.R.Receipt.keeps g.F.Key.Ord.cmp v c.args.slot c.args.context c.args.now c.requires.context (keyless-here v c.args.slot c.args.context c.args.relocation.now c.requires.here) x.target (past-place v x.target c.known.ensures.sound.traced (stands-here v c.args.slot c.args.context x c.requires.here c.known.ensures.compacting).place).0)
 
 pub returns-then-home-number-clause-cleared : goal.returns-then-home-number-clause-cleared
 returns-then-home-number-clause-cleared g c =
     let v = c.args.self.now in
     let x = c.args.relocation.now in
-    λ is. rw c.finish-then-home-number.ensures (past-place v x.target c.known.ensures.core.traced (stands-here v c.args.slot c.args.context x c.requires.here c.known.ensures.compacting).place).1
+    λ is. rw c.finish-then-home-number.ensures (past-place v x.target c.known.ensures.sound.traced (stands-here v c.args.slot c.args.context x c.requires.here c.known.ensures.compacting).place).1
 
 pub finish-requires-in-None-clause-issued : goal.finish-requires-in-None-clause-issued
 finish-requires-in-None-clause-issued g c =
@@ -98,7 +98,7 @@ pub finish-requires-in-None-clause-low : goal.finish-requires-in-None-clause-low
 finish-requires-in-None-clause-low g c =
     let v = c.args.self.now in
     let x = c.args.relocation.now in
-    low-here v c.args.slot c.args.context x c.requires.here c.known.ensures.compacting c.known.ensures.core.traced
+    low-here v c.args.slot c.args.context x c.requires.here c.known.ensures.compacting c.known.ensures.sound.traced
 
 pub finish-requires-in-None-clause-superseded : goal.finish-requires-in-None-clause-superseded
 finish-requires-in-None-clause-superseded g c =
@@ -108,24 +108,24 @@ finish-requires-in-None-clause-superseded g c =
     let v = c.args.self.now in
     let x = c.args.relocation.now in
     let e = c.args.entry in
-    let none = subst (λ u. entry_for g.F.Functions.code u.core e.key ≡ None) c.self.view_is (sym c.find-found.ensures.address ∙ ap (option_map (λ (q : IndexEntry). address_of q.word)) c.in-None.is) in
-    superseded-one g.F.Key.Ord.cmp v.core.records.log.text x.target e c.requires.is (superseded-nowhere g.F.Key.Ord.cmp g.F.Mergeable.parts.joined g.F.Functions.code order v.core c.known.ensures.core c.args.slot (open-here v c.args.slot c.args.context x c.requires.here).inside x.target e c.requires.stands c.requires.is none)
+    let none = (sym c.find-found.ensures.address ∙ ap (option_map (λ (q : IndexEntry). address_of q.word)) c.in-None.is) in
+    superseded-one g.F.Key.Ord.cmp v.records.log.text x.target e c.requires.is (superseded-nowhere g.F.Key.Ord.cmp g.F.Mergeable.parts.joined g.F.Functions.code order v c.known.ensures.sound c.args.slot (open-here v c.args.slot c.args.context x c.requires.here).inside x.target e c.requires.stands c.requires.is none)
 
 pub returns-in-None-clause-event : goal.returns-in-None-clause-event
 returns-in-None-clause-event g c =
     let v = c.args.self.now in
     let x = c.args.relocation.now in
-    rw c.finish-in-None.ensures (event-done g.R.Receipt.keeps g.F.Key.Ord.cmp v c.args.slot c.args.context c.args.now c.requires.context (keyless-here v c.args.slot c.args.context c.args.relocation.now c.requires.here) x.target (past-place v x.target c.known.ensures.core.traced (stands-here v c.args.slot c.args.context x c.requires.here c.known.ensures.compacting).place).0)
+    rw c.finish-in-None.ensures (event-done g.R.Receipt.keeps g.F.Key.Ord.cmp v c.args.slot c.args.context c.args.now c.requires.context (keyless-here v c.args.slot c.args.context c.args.relocation.now c.requires.here) x.target (past-place v x.target c.known.ensures.sound.traced (stands-here v c.args.slot c.args.context x c.requires.here c.known.ensures.compacting).place).0)
 
 pub returns-in-None-clause-cleared : goal.returns-in-None-clause-cleared
 returns-in-None-clause-cleared g c =
     let v = c.args.self.now in
     let x = c.args.relocation.now in
-    λ is. rw c.finish-in-None.ensures (past-place v x.target c.known.ensures.core.traced (stands-here v c.args.slot c.args.context x c.requires.here c.known.ensures.compacting).place).1
+    λ is. rw c.finish-in-None.ensures (past-place v x.target c.known.ensures.sound.traced (stands-here v c.args.slot c.args.context x c.requires.here c.known.ensures.compacting).place).1
 
 pub finish-requires-clause-superseded : goal.finish-requires-clause-superseded
 finish-requires-clause-superseded g c =
-    superseded-one g.F.Key.Ord.cmp c.args.self.now.core.records.log.text c.args.relocation.now.target c.args.entry c.requires.is (λ _. inl (none-by c.args.entry.value c.is_none.ensures c.if-is_none.true))
+    superseded-one g.F.Key.Ord.cmp c.args.self.now.records.log.text c.args.relocation.now.target c.args.entry c.requires.is (λ _. inl (none-by c.args.entry.value c.is_none.ensures c.if-is_none.true))
 
 pub returns-then-is_none-clause-effect : goal.returns-then-is_none-clause-effect
 returns-then-is_none-clause-effect g c = ChecksLiveness.superseded (NeedsNoCopy.tombstone (none-by c.args.entry.value c.is_none.ensures c.if-is_none.true)) c.finish.ensures refl
@@ -135,7 +135,7 @@ returns-then-is_none-clause-moment g c = has-come c.finish.ensures refl
 
 pub returns-then-home-number-clause-effect : goal.returns-then-home-number-clause-effect
 returns-then-home-number-clause-effect g c =
-    let other = subst (λ u. partition_of u.core.count (g.F.Functions.code c.args.entry.key) ≢ u.core.number) c.self.view_is (λ q. c.if-home-number.true (c.home-home.ensures ∙ q ∙ sym c.number.ensures)) in
+    let other : partition_of c.args.self.now.count (g.F.Functions.code c.args.entry.key) ≢ c.args.self.now.number = λ q. c.if-home-number.true (c.home-home.ensures ∙ q ∙ sym c.number.ensures) in
     ChecksLiveness.superseded (NeedsNoCopy.foreign other) c.finish-then-home-number.ensures refl
 
 pub returns-then-home-number-clause-moment : goal.returns-then-home-number-clause-moment
@@ -143,7 +143,7 @@ returns-then-home-number-clause-moment g c = has-come c.finish-then-home-number.
 
 pub returns-in-None-clause-effect : goal.returns-in-None-clause-effect
 returns-in-None-clause-effect g c =
-    let none = subst (λ u. found_for g.F.Functions.code u.core c.args.entry.key ≡ None) c.self.view_is (sym c.find-found.ensures.entry ∙ c.in-None.is) in
+    let none = (sym c.find-found.ensures.entry ∙ c.in-None.is) in
     ChecksLiveness.superseded (NeedsNoCopy.nowhere none) c.finish-in-None.ensures refl
 
 pub returns-in-None-clause-moment : goal.returns-in-None-clause-moment
@@ -154,20 +154,20 @@ follow-requires-clause-some g c = some-by c.args.entry.value c.is_none.ensures c
 
 pub follow-requires-clause-own : goal.follow-requires-clause-own
 follow-requires-clause-own g c =
-    subst (λ u. partition_of u.core.count (g.F.Functions.code c.args.entry.key) ≡ u.core.number) c.self.view_is (sym c.home-home.ensures ∙ c.if-home-number.false ∙ c.number.ensures)
+    (sym c.home-home.ensures ∙ c.if-home-number.false ∙ c.number.ensures)
 
 pub follow-requires-clause-found : goal.follow-requires-clause-found
 follow-requires-clause-found g c =
-    subst (λ u. found_for g.F.Functions.code u.core c.args.entry.key ≡ Some c.in-Some.kept) c.self.view_is (sym c.find-found.ensures.entry ∙ c.in-Some.is)
+    (sym c.find-found.ensures.entry ∙ c.in-Some.is)
 
 pub follow-requires-clause-leads : goal.follow-requires-clause-leads
 follow-requires-clause-leads g c =
-    subst (λ u. entry_for g.F.Functions.code u.core c.args.entry.key ≡ Some (address_of c.in-Some.kept.word)) c.self.view_is (sym c.find-found.ensures.address ∙ ap (option_map (λ (q : IndexEntry). address_of q.word)) c.in-Some.is)
+    (sym c.find-found.ensures.address ∙ ap (option_map (λ (q : IndexEntry). address_of q.word)) c.in-Some.is)
 
 pub follow-requires-clause-entry_stands : goal.follow-requires-clause-entry_stands
 follow-requires-clause-entry_stands g c =
-    let held = subst (λ o. IfSome o (λ q. IsEntryOf c.self.inside.core.records (class_in g.F.Functions.code c.self.inside.core.records c.args.entry.key) q)) c.in-Some.is c.find-found.ensures.stands in
-    subst (λ u. IsEntryOf u.core.records (class_in g.F.Functions.code u.core.records c.args.entry.key) c.in-Some.kept) c.self.view_is held
+    let held = subst (λ o. IfSome o (λ q. IsEntryOf c.args.self.now.records (class_in g.F.Functions.code c.args.self.now.records c.args.entry.key) q)) c.in-Some.is c.find-found.ensures.stands in
+    held
 
 pub returns-in-Some-clause-effect : goal.returns-in-Some-clause-effect
 returns-in-Some-clause-effect g c = c.follow.ensures.effect

@@ -1,21 +1,32 @@
-use Rattle.std.proofs.Common.{◌+◌, ◌*◌, None, sym, subst, IsSome}
+use Rattle.std.proofs.Common.{◌+◌, ◌*◌, None}
 use Rattle.fkv_partition.specs.Inside.{view_of}
-use Rattle.fkv_partition.specs.Views.{relocation_at, cleared_past}
+use Rattle.fkv_partition.specs.Views.{cleared_past}
 use Rattle.fkv_partition.proofs.KeepLemmas.{keep-changed, rises-past}
 use Rattle.fkv_partition.proofs.MoveLemmas.{some-unclaimed}
+use Rattle.fkv_partition.proofs.SoundLemmas.{sound-freed, sound-cleared}
+use Rattle.fkv_partition.proofs.WholeLemmas.{none-moves}
 use Rattle.fkv_partition.proofs.partitions.Partition.finish.Goals as goal
 
-pub free-requires-clause-unclaimed : goal.free-requires-clause-unclaimed
-free-requires-clause-unclaimed g c =
-    some-unclaimed (view_of c.self.inside.core c.self.inside.cleared) c.args.slot c.args.context (subst (λ u. IsSome (relocation_at u c.args.slot c.args.context)) (sym c.self.view_is) c.requires.here)
+pub set_context-requires-clause-places : goal.set_context-requires-clause-places
+set_context-requires-clause-places g c = c.self.invariant.sound.places
 
 pub invariant_of-self : goal.invariant_of-self
 invariant_of-self g c =
-    let v = view_of c.self.inside.core c.self.inside.cleared in
-    let r = c.self.inside.core.records in
-    rw (c.free.ensures, c.past-cleared.ensures, ← c.self.view_is)
-    (keep-changed g.R.Receipt.keeps g.F.Key.Ord.cmp g.F.Mergeable.parts.joined g.F.Functions.code v (c.args.slot * 8 + c.args.context) c.args.now (cleared_past v c.args.place) None c.self.invariant
-    (rises-past g.R.Receipt.keeps g.F.Key.Ord.cmp g.F.Mergeable.parts.joined g.F.Functions.code v c.args.place c.self.invariant c.known.ensures.traced
-    (rw (← c.self.view_is) at c.requires.issued) (rw (← c.self.view_is) at c.requires.place) (rw (← c.self.view_is) at c.requires.low)
-    (λ yes_keeps clear. c.cleared_stay.ensures.raised g.R.Receipt.keeps g.F.Key.Ord.cmp g.F.Mergeable.parts.joined g.F.Functions.code r c.args.place c.known.ensures.traced c.known.ensures.stood (rw (← c.self.view_is) at c.requires.place) (rw (← c.self.view_is) at c.requires.low) clear ((rw (← c.self.view_is) at c.requires.superseded) yes_keeps)))
-    (λ x e. absurd (cc)))
+    let v = view_of g.F.Mergeable.MERGES c.self.inside.number c.self.inside.count c.self.inside.records c.self.inside.contexts.items c.self.inside.moment c.self.inside.cleared in
+    let r = v.records in
+    let keeps = g.R.Receipt.keeps in
+    let cmp = g.F.Key.Ord.cmp in
+    let join = g.F.Mergeable.parts.joined in
+    let code = g.F.Functions.code in
+    let place = rw (← c.self.view_is) at c.requires.place in
+    let low = rw (← c.self.view_is) at c.requires.low in
+    let sound = c.self.invariant.sound in
+    let unclaimed = some-unclaimed v c.args.slot c.args.context (rw (← c.self.view_is) at c.requires.here) in
+    rw (c.set_context.ensures, c.past-cleared.ensures, ← c.self.view_is)
+    (record {
+      sound = sound-cleared (sound-freed sound c.args.slot c.args.context c.args.now unclaimed) (cleared_past v c.args.place);
+      compacting = keep-changed keeps cmp join code v (c.args.slot * 8 + c.args.context) c.args.now (cleared_past v c.args.place) None c.self.invariant.compacting
+          (rises-past keeps cmp join code v c.args.place c.self.invariant.compacting sound.traced (rw (← c.self.view_is) at c.requires.issued) place low
+          (λ yes_keeps clear. c.cleared_stay.ensures.raised keeps cmp join code r c.args.place sound.traced sound.stood place low clear ((rw (← c.self.view_is) at c.requires.superseded) yes_keeps)))
+          (λ x e. none-moves x e);
+    })

@@ -1,6 +1,6 @@
-use Rattle.std.proofs.Common.{◌≡◌, ◌∙◌, Some, length, slice_get, refl, ap, subst}
+use Rattle.std.proofs.Common.{refl}
 use Rattle.fkv_partition.proofs.ApartLemmas.{no-later, has-come}
-use Rattle.fkv_partition.proofs.OperationLemmas.{passed-event, passed-pends, due-same}
+use Rattle.fkv_partition.proofs.OperationLemmas.{passed-event, passed-pends}
 use Rattle.fkv_partition.proofs.partitions.Partition.flush_take.Goals as goal
 
 pub returns-clause-event : goal.returns-clause-event
@@ -10,7 +10,7 @@ pub returns-clause-pends : goal.returns-clause-pends
 returns-clause-pends g c = rw c.pass.ensures (passed-pends g.F.Key.Ord.cmp c.args.self.now c.args.now)
 
 pub returns-in-Err-clause-due : goal.returns-in-Err-clause-due
-returns-in-Err-clause-due g c = due-same c.self.view_is (rw (c.log.ensures, c.records.ensures) at c.in-Err.ensures.due)
+returns-in-Err-clause-due g c = rw (c.log.ensures, c.records.ensures) at c.in-Err.ensures.due
 
 pub returns-in-Err-clause-only : goal.returns-in-Err-clause-only
 returns-in-Err-clause-only g c = c.in-Err.ensures.only
@@ -22,13 +22,13 @@ pub returns-in-Err-clause-moment : goal.returns-in-Err-clause-moment
 returns-in-Err-clause-moment g c = no-later c.requires.later
 
 pub returns-clause-page : goal.returns-clause-page
-returns-clause-page g c = (rw (c.log.ensures, c.records.ensures) at c.in-Ok.ensures.page) ∙ ap (λ u. length u.core.records.log.receipts) c.self.view_is
+returns-clause-page g c = (rw (c.log.ensures, c.records.ensures) at c.in-Ok.ensures.page)
 
 pub returns-clause-bytes : goal.returns-clause-bytes
-returns-clause-bytes g c = subst (λ u. slice_get u.core.records.log.waiting 0 ≡ Some c.in-Ok.job.bytes) c.self.view_is (rw (c.log.ensures, c.records.ensures) at c.in-Ok.ensures.bytes)
+returns-clause-bytes g c = (rw (c.log.ensures, c.records.ensures) at c.in-Ok.ensures.bytes)
 
 pub returns-clause-due : goal.returns-clause-due
-returns-clause-due g c = due-same c.self.view_is (rw (c.log.ensures, c.records.ensures) at c.in-Ok.ensures.due)
+returns-clause-due g c = rw (c.log.ensures, c.records.ensures) at c.in-Ok.ensures.due
 
 pub returns-clause-passes : goal.returns-clause-passes
 returns-clause-passes g c = c.pass.ensures

@@ -1,8 +1,6 @@
-use Rattle.std.proofs.Common.{Some, refl, sym, ap, subst, ◌∙◌, arith}
+use Rattle.std.proofs.Common.{Some, refl, sym, ap, ◌∙◌, arith}
 use Rattle.fkv_functions.proofs.KeyOrder.{key_order}
 use Rattle.fkv_texts.proofs.CoverLemmas.{cleared-lower}
-use Rattle.fkv_partition.specs.CoreBeginning.{IsEntered}
-use Rattle.fkv_partition.specs.CoreViews.{entry_for}
 use Rattle.fkv_partition.proofs.DecidedLemmas.{page_flushed}
 use Rattle.fkv_partition.specs.Checking.{ChecksLiveness}
 use Rattle.fkv_functions.proofs.CallLemmas.{with_six}
@@ -17,7 +15,7 @@ lowest-requires-whole g c κs =
     let v = c.args.self.now in
     let x = c.args.relocation.now in
     with_six (
-    subst (λ u. IsEntered u.core c.args.slot) (sym c.self.view_is) (open-here v c.args.slot c.args.context x c.requires.here).inside)
+    (open-here v c.args.slot c.args.context x c.requires.here).inside)
 
 pub reach-came-requires-clause-begin : goal.reach-came-requires-clause-begin
 reach-came-requires-clause-begin g c = no-higher c.lowest.ensures.begin c.higher_of-low.ensures.right
@@ -27,7 +25,7 @@ reach-came-requires-clause-closed g c = no-higher c.lowest.ensures.closed c.high
 
 pub reach-came-requires-clause-entry : goal.reach-came-requires-clause-entry
 reach-came-requires-clause-entry g c =
-    ap Some c.address.ensures ∙ sym c.requires.leads ∙ ap (λ u. entry_for g.F.Functions.code u.core c.args.entry.key) (sym c.self.view_is)
+    ap Some c.address.ensures ∙ sym c.requires.leads
 
 pub finish-requires-clause-issued : goal.finish-requires-clause-issued
 finish-requires-clause-issued g c =
@@ -48,7 +46,7 @@ finish-requires-clause-low g c =
     let v = c.args.self.now in
     let x = c.args.relocation.now in
     let e = c.args.entry in
-    low-here v c.args.slot c.args.context x c.requires.here c.known.ensures.compacting c.known.ensures.core.traced
+    low-here v c.args.slot c.args.context x c.requires.here c.known.ensures.compacting c.known.ensures.sound.traced
 
 pub finish-requires-clause-superseded : goal.finish-requires-clause-superseded
 finish-requires-clause-superseded g c =
@@ -58,8 +56,8 @@ finish-requires-clause-superseded g c =
     let v = c.args.self.now in
     let x = c.args.relocation.now in
     let e = c.args.entry in
-    let so = told-so g.F.Key.Ord.cmp g.F.Mergeable.parts.joined g.F.Functions.code c.self.view_is c.args.slot x.target e.key c.lowest.ensures.value c.higher_of-low.ensures.value c.reach-came.ensures c.liveness_of.ensures c.in-Superseded.is in
-    superseded-one g.F.Key.Ord.cmp v.core.records.log.text x.target e c.requires.is (superseded-newer g.F.Key.Ord.cmp g.F.Mergeable.parts.joined g.F.Functions.code order v.core c.known.ensures.core c.args.slot (open-here v c.args.slot c.args.context x c.requires.here).inside x.target e c.requires.stands c.requires.is c.args.kept c.requires.entry_stands c.requires.leads so)
+    let so = told-so g.F.Key.Ord.cmp g.F.Mergeable.parts.joined g.F.Functions.code {u = c.args.self.now} refl c.args.slot x.target e.key c.lowest.ensures.value c.higher_of-low.ensures.value c.reach-came.ensures c.liveness_of.ensures c.in-Superseded.is in
+    superseded-one g.F.Key.Ord.cmp v.records.log.text x.target e c.requires.is (superseded-newer g.F.Key.Ord.cmp g.F.Mergeable.parts.joined g.F.Functions.code order v c.known.ensures.sound c.args.slot (open-here v c.args.slot c.args.context x c.requires.here).inside x.target e c.requires.stands c.requires.is c.args.kept c.requires.entry_stands c.requires.leads so)
 
 pub append_again-requires-clause-stands : goal.append_again-requires-clause-stands
 append_again-requires-clause-stands g c =
@@ -69,8 +67,8 @@ append_again-requires-clause-stands g c =
     let v = c.args.self.now in
     let x = c.args.relocation.now in
     let e = c.args.entry in
-    let so = told-so g.F.Key.Ord.cmp g.F.Mergeable.parts.joined g.F.Functions.code c.self.view_is c.args.slot x.target e.key c.lowest.ensures.value c.higher_of-low.ensures.value c.reach-came.ensures c.liveness_of.ensures c.in-Last.is in
-    rw c.renewed-whole.ensures (c.requires.own, ready g.F.Key.Ord.cmp g.F.Mergeable.parts.joined g.F.Functions.code order v.core c.known.ensures.core c.args.slot (open-here v c.args.slot c.args.context x c.requires.here).inside x.target e c.requires.stands c.requires.is c.args.kept c.requires.entry_stands c.requires.leads c.in-Last.parts so c.requires.begun (stands-here v c.args.slot c.args.context x c.requires.here c.known.ensures.compacting).frozen c.requires.some (λ yes_keeps. cleared-lower g.F.Key.Ord.cmp v.core.records.log.text x.target v.cleared (stands-here v c.args.slot c.args.context x c.requires.here c.known.ensures.compacting).issued (c.known.ensures.compacting.cleared yes_keeps)))
+    let so = told-so g.F.Key.Ord.cmp g.F.Mergeable.parts.joined g.F.Functions.code {u = c.args.self.now} refl c.args.slot x.target e.key c.lowest.ensures.value c.higher_of-low.ensures.value c.reach-came.ensures c.liveness_of.ensures c.in-Last.is in
+    rw c.renewed-whole.ensures (c.requires.own, ready g.F.Key.Ord.cmp g.F.Mergeable.parts.joined g.F.Functions.code order v c.known.ensures.sound c.args.slot (open-here v c.args.slot c.args.context x c.requires.here).inside x.target e c.requires.stands c.requires.is c.args.kept c.requires.entry_stands c.requires.leads c.in-Last.parts so c.requires.begun (stands-here v c.args.slot c.args.context x c.requires.here c.known.ensures.compacting).frozen c.requires.some (λ yes_keeps. cleared-lower g.F.Key.Ord.cmp v.records.log.text x.target v.cleared (stands-here v c.args.slot c.args.context x c.requires.here c.known.ensures.compacting).issued (c.known.ensures.compacting.cleared yes_keeps)))
 
 pub ask-requires-clause-flushed : goal.ask-requires-clause-flushed
 ask-requires-clause-flushed g c =
@@ -80,9 +78,9 @@ ask-requires-clause-flushed g c =
     let v = c.args.self.now in
     let x = c.args.relocation.now in
     let e = c.args.entry in
-    let so = told-so g.F.Key.Ord.cmp g.F.Mergeable.parts.joined g.F.Functions.code c.self.view_is c.args.slot x.target e.key c.lowest.ensures.value c.higher_of-low.ensures.value c.reach-came.ensures c.liveness_of.ensures c.in-Further.is in
-    let disk = further-disk g.F.Key.Ord.cmp g.F.Mergeable.parts.joined g.F.Functions.code order v.core c.known.ensures.core c.args.slot (open-here v c.args.slot c.args.context x c.requires.here).inside x.target e c.requires.stands c.requires.is c.args.kept c.requires.entry_stands c.requires.leads c.in-Further.wanted c.in-Further.parts c.requires.begun so in
-    page_flushed v.core.records c.in-Further.wanted c.known.ensures.core.traced disk.0 disk.1
+    let so = told-so g.F.Key.Ord.cmp g.F.Mergeable.parts.joined g.F.Functions.code {u = c.args.self.now} refl c.args.slot x.target e.key c.lowest.ensures.value c.higher_of-low.ensures.value c.reach-came.ensures c.liveness_of.ensures c.in-Further.is in
+    let disk = further-disk g.F.Key.Ord.cmp g.F.Mergeable.parts.joined g.F.Functions.code order v c.known.ensures.sound c.args.slot (open-here v c.args.slot c.args.context x c.requires.here).inside x.target e c.requires.stands c.requires.is c.args.kept c.requires.entry_stands c.requires.leads c.in-Further.wanted c.in-Further.parts c.requires.begun so in
+    page_flushed v.records c.in-Further.wanted c.known.ensures.sound.traced disk.0 disk.1
 
 pub ask-requires-clause-stands : goal.ask-requires-clause-stands
 ask-requires-clause-stands g c =
@@ -92,30 +90,30 @@ ask-requires-clause-stands g c =
     let v = c.args.self.now in
     let x = c.args.relocation.now in
     let e = c.args.entry in
-    let so = told-so g.F.Key.Ord.cmp g.F.Mergeable.parts.joined g.F.Functions.code c.self.view_is c.args.slot x.target e.key c.lowest.ensures.value c.higher_of-low.ensures.value c.reach-came.ensures c.liveness_of.ensures c.in-Further.is in
-    let begins = c.begin.ensures ∙ ap (λ r. r.log.begin) c.records.ensures ∙ ap (λ u. u.core.records.log.begin) c.self.view_is in
-    rw begins (c.requires.own, tracing g.F.Key.Ord.cmp g.F.Mergeable.parts.joined g.F.Functions.code order v.core c.known.ensures.core c.args.slot (open-here v c.args.slot c.args.context x c.requires.here).inside x.target e c.requires.stands c.requires.is c.args.kept c.requires.entry_stands c.requires.leads c.in-Further.wanted c.in-Further.parts c.requires.begun so c.args.now c.requires.some)
+    let so = told-so g.F.Key.Ord.cmp g.F.Mergeable.parts.joined g.F.Functions.code {u = c.args.self.now} refl c.args.slot x.target e.key c.lowest.ensures.value c.higher_of-low.ensures.value c.reach-came.ensures c.liveness_of.ensures c.in-Further.is in
+    let begins = c.begin.ensures ∙ ap (λ r. r.log.begin) c.records.ensures in
+    rw begins (c.requires.own, tracing g.F.Key.Ord.cmp g.F.Mergeable.parts.joined g.F.Functions.code order v c.known.ensures.sound c.args.slot (open-here v c.args.slot c.args.context x c.requires.here).inside x.target e c.requires.stands c.requires.is c.args.kept c.requires.entry_stands c.requires.leads c.in-Further.wanted c.in-Further.parts c.requires.begun so c.args.now c.requires.some)
 
 pub returns-in-Superseded-clause-event : goal.returns-in-Superseded-clause-event
 returns-in-Superseded-clause-event g c =
     let v = c.args.self.now in
     let x = c.args.relocation.now in
     let e = c.args.entry in
-    rw c.finish.ensures (event-done g.R.Receipt.keeps g.F.Key.Ord.cmp v c.args.slot c.args.context c.args.now c.requires.context (keyless-here v c.args.slot c.args.context c.args.relocation.now c.requires.here) x.target (past-place v x.target c.known.ensures.core.traced (stands-here v c.args.slot c.args.context x c.requires.here c.known.ensures.compacting).place).0)
+    rw c.finish.ensures (event-done g.R.Receipt.keeps g.F.Key.Ord.cmp v c.args.slot c.args.context c.args.now c.requires.context (keyless-here v c.args.slot c.args.context c.args.relocation.now c.requires.here) x.target (past-place v x.target c.known.ensures.sound.traced (stands-here v c.args.slot c.args.context x c.requires.here c.known.ensures.compacting).place).0)
 
 pub returns-in-Superseded-clause-cleared : goal.returns-in-Superseded-clause-cleared
 returns-in-Superseded-clause-cleared g c =
     let v = c.args.self.now in
     let x = c.args.relocation.now in
     let e = c.args.entry in
-    λ is. rw c.finish.ensures (past-place v x.target c.known.ensures.core.traced (stands-here v c.args.slot c.args.context x c.requires.here c.known.ensures.compacting).place).1
+    λ is. rw c.finish.ensures (past-place v x.target c.known.ensures.sound.traced (stands-here v c.args.slot c.args.context x c.requires.here c.known.ensures.compacting).place).1
 
 pub returns-in-Last-clause-effect : goal.returns-in-Last-clause-effect
 returns-in-Last-clause-effect g c =
     let v = c.args.self.now in
     let x = c.args.relocation.now in
     let e = c.args.entry in
-    let so = told-so g.F.Key.Ord.cmp g.F.Mergeable.parts.joined g.F.Functions.code c.self.view_is c.args.slot x.target e.key c.lowest.ensures.value c.higher_of-low.ensures.value c.reach-came.ensures c.liveness_of.ensures c.in-Last.is in
+    let so = told-so g.F.Key.Ord.cmp g.F.Mergeable.parts.joined g.F.Functions.code {u = c.args.self.now} refl c.args.slot x.target e.key c.lowest.ensures.value c.higher_of-low.ensures.value c.reach-came.ensures c.liveness_of.ensures c.in-Last.is in
     ChecksLiveness.last c.args.kept c.in-Last.parts (record { some = c.requires.some; own = c.requires.own; leads = c.requires.found; outcome_is = so }) (rw c.renewed-whole.ensures at c.append_again.ensures.effect)
 
 pub returns-in-Further-clause-effect : goal.returns-in-Further-clause-effect
@@ -123,14 +121,14 @@ returns-in-Further-clause-effect g c =
     let v = c.args.self.now in
     let x = c.args.relocation.now in
     let e = c.args.entry in
-    let so = told-so g.F.Key.Ord.cmp g.F.Mergeable.parts.joined g.F.Functions.code c.self.view_is c.args.slot x.target e.key c.lowest.ensures.value c.higher_of-low.ensures.value c.reach-came.ensures c.liveness_of.ensures c.in-Further.is in
-    let begins = c.begin.ensures ∙ ap (λ r. r.log.begin) c.records.ensures ∙ ap (λ u. u.core.records.log.begin) c.self.view_is in
+    let so = told-so g.F.Key.Ord.cmp g.F.Mergeable.parts.joined g.F.Functions.code {u = c.args.self.now} refl c.args.slot x.target e.key c.lowest.ensures.value c.higher_of-low.ensures.value c.reach-came.ensures c.liveness_of.ensures c.in-Further.is in
+    let begins = c.begin.ensures ∙ ap (λ r. r.log.begin) c.records.ensures in
     ChecksLiveness.further c.args.kept c.in-Further.wanted c.in-Further.parts (record { some = c.requires.some; own = c.requires.own; leads = c.requires.found; outcome_is = so }) (rw begins at c.ask.ensures.effect)
 
 pub overflow_add-target : goal.overflow_add-target
 overflow_add-target g c =
     let frozen = (stands-here c.args.self.now c.args.slot c.args.context c.args.relocation.now c.requires.here c.known.ensures.compacting).frozen in
-    let regions = c.known.ensures.core.traced.regions.agree in
+    let regions = c.known.ensures.sound.traced.regions.agree in
     let safe = regions.in_order.safe in
     let most = regions.in_order.most in
     omega (arith, frozen, safe, most)
@@ -140,7 +138,7 @@ returns-in-Superseded-clause-effect g c =
     let v = c.args.self.now in
     let x = c.args.relocation.now in
     let e = c.args.entry in
-    let so = told-so g.F.Key.Ord.cmp g.F.Mergeable.parts.joined g.F.Functions.code c.self.view_is c.args.slot x.target e.key c.lowest.ensures.value c.higher_of-low.ensures.value c.reach-came.ensures c.liveness_of.ensures c.in-Superseded.is in
+    let so = told-so g.F.Key.Ord.cmp g.F.Mergeable.parts.joined g.F.Functions.code {u = c.args.self.now} refl c.args.slot x.target e.key c.lowest.ensures.value c.higher_of-low.ensures.value c.reach-came.ensures c.liveness_of.ensures c.in-Superseded.is in
     ChecksLiveness.superseded (NeedsNoCopy.newer so) c.finish.ensures refl
 
 pub returns-in-Superseded-clause-moment : goal.returns-in-Superseded-clause-moment

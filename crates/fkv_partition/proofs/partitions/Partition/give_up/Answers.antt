@@ -1,21 +1,18 @@
-use Rattle.std.proofs.Common.{sym, subst}
-use Rattle.fkv_partition.specs.Effect.{IsGiveUp}
 use Rattle.fkv_partition.specs.Events.{GivesUp}
 use Rattle.fkv_partition.proofs.EffectLemmas.{on-ok, key-give-up}
 use Rattle.fkv_partition.proofs.OperationLemmas.{drops-event, drops-pend}
 use Rattle.fkv_partition.proofs.partitions.Partition.give_up.Goals as goal
 
 pub returns-else-holds_relocation-clause-effect : goal.returns-else-holds_relocation-clause-effect
-returns-else-holds_relocation-clause-effect g c = GivesUp.on_key c.if-holds_relocation.ensures.none c.give_up_on_key.ensures.effect c.give_up_on_key.ensures.rest
+returns-else-holds_relocation-clause-effect g c = GivesUp.on_key c.if-holds_relocation.ensures.none c.give_up_on_key.ensures.effect (c.sessions_preserved.ensures.gives_up c.args.self.now c.give_up_on_key.new.self c.args.slot c.args.context c.args.now c.give_up_on_key.result c.give_up_on_key.ensures.effect).0
 
 pub returns-else-holds_relocation-clause-event : goal.returns-else-holds_relocation-clause-event
 returns-else-holds_relocation-clause-event g c =
-    on-ok c.give_up_on_key.result (λ e. subst (λ w. IsGiveUp c.args.self.now w c.args.slot c.args.context c.args.now) (sym c.give_up_on_key.ensures.rest.is)
-    (key-give-up c.args.self.now c.give_up_on_key.new.self.core c.args.slot c.args.context c.args.now c.if-holds_relocation.ensures.none c.give_up_on_key.ensures.rest.relocations e)) c.give_up_on_key.ensures.event
+    on-ok c.give_up_on_key.result (key-give-up c.args.self.now c.give_up_on_key.new.self c.args.slot c.args.context c.args.now c.if-holds_relocation.ensures.none (c.sessions_preserved.ensures.gives_up c.args.self.now c.give_up_on_key.new.self c.args.slot c.args.context c.args.now c.give_up_on_key.result c.give_up_on_key.ensures.effect).0) c.give_up_on_key.ensures.event
 
 pub returns-else-holds_relocation-clause-others : goal.returns-else-holds_relocation-clause-others
 returns-else-holds_relocation-clause-others g c =
-    c.pendings_stay.ensures.gives_up g.F.Key.Ord.cmp c.args.self.now.core c.give_up_on_key.new.self.core c.args.slot c.args.context c.args.now c.give_up_on_key.result c.give_up_on_key.ensures.effect
+    c.pendings_stay.ensures.gives_up g.F.Key.Ord.cmp c.args.self.now c.give_up_on_key.new.self c.args.slot c.args.context c.args.now c.give_up_on_key.result c.give_up_on_key.ensures.effect
 
 pub returns-then-holds_relocation-clause-effect : goal.returns-then-holds_relocation-clause-effect
 returns-then-holds_relocation-clause-effect g c = GivesUp.relocation c.if-holds_relocation.ensures.some.0 c.if-holds_relocation.ensures.some.1 c.drop_relocation.ensures.effect

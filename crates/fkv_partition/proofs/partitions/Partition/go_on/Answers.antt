@@ -12,8 +12,8 @@ append_again-requires-clause-stands g c =
     let v = c.args.self.now in
     let x = c.in-Some.relocation in
     let here = sym c.in-Some.ensures.value in
-    let sound = subst (λ u. IsCompacting g.R.Receipt.keeps g.F.Key.Ord.cmp g.F.Mergeable.parts.joined g.F.Functions.code u) c.self.view_is c.self.invariant in
-    subst (λ s. StageStands g.R.Receipt.keeps g.F.Key.Ord.cmp g.F.Mergeable.parts.joined g.F.Functions.code v.core x.target s) c.in-Ready.is (stands-here v c.args.slot c.args.context x here sound).stage
+    let sound = subst (λ u. IsCompacting g.R.Receipt.keeps g.F.Key.Ord.cmp g.F.Mergeable.parts.joined g.F.Functions.code u) c.self.view_is c.self.invariant.compacting in
+    subst (λ s. StageStands g.R.Receipt.keeps g.F.Key.Ord.cmp g.F.Mergeable.parts.joined g.F.Functions.code v x.target s) c.in-Ready.is (stands-here v c.args.slot c.args.context x here sound).stage
 
 pub returns-then-relocation-self-clause-effect : goal.returns-then-relocation-self-clause-effect
 returns-then-relocation-self-clause-effect g c =
@@ -33,7 +33,7 @@ look-requires-clause-uncleared g c =
     let v = c.args.self.now in
     let x = c.in-Some.relocation in
     let here = sym c.in-Some.ensures.value in
-    let sound = subst (λ u. IsCompacting g.R.Receipt.keeps g.F.Key.Ord.cmp g.F.Mergeable.parts.joined g.F.Functions.code u) c.self.view_is c.self.invariant in
+    let sound = subst (λ u. IsCompacting g.R.Receipt.keeps g.F.Key.Ord.cmp g.F.Mergeable.parts.joined g.F.Functions.code u) c.self.view_is c.self.invariant.compacting in
     let high = subst (λ u. u.cleared ≤ x.target) c.self.view_is c.if-relocation-self.false in
     let issued = (stands-here v c.args.slot c.args.context x here sound).issued in
     omega arith

@@ -7,4 +7,4 @@ held-some None is = rw is tt
 held-some (Some x) is = rw is (x, refl)
 
 pub returns-clause-some : goal.returns-clause-some
-returns-clause-some g c = rw (← c.self.view_is) (held-some _ c.holds_relocation.ensures)
+returns-clause-some g c = (held-some _ c.is_relocating.ensures)

@@ -4,20 +4,20 @@ use Rattle.fkv_partition.proofs.OperationLemmas.{goes-event, goes-finds}
 use Rattle.fkv_partition.proofs.partitions.Partition.install.Goals as goal
 
 pub returns-else-holds_relocation-clause-effect : goal.returns-else-holds_relocation-clause-effect
-returns-else-holds_relocation-clause-effect g c = Installs.on_key c.if-holds_relocation.ensures.none c.install_on_key.ensures.effect c.install_on_key.ensures.rest
+returns-else-holds_relocation-clause-effect g c = Installs.on_key c.if-holds_relocation.ensures.none c.install_on_key.ensures.effect (c.sessions_preserved.ensures.installs g.F.Key.Ord.cmp g.F.Mergeable.parts.joined g.F.Functions.meaning g.F.Functions.code c.args.self.now c.install_on_key.new.self c.args.slot c.args.context c.args.built c.args.now c.install_on_key.result c.install_on_key.ensures.effect).0
 
 pub returns-else-holds_relocation-clause-event : goal.returns-else-holds_relocation-clause-event
 returns-else-holds_relocation-clause-event g c = λ yes_keeps.
-    goes-event g.F.Key.Ord.cmp g.F.Functions.meaning c.args.self.now c.install_on_key.new.self c.args.slot c.args.context c.args.now c.if-holds_relocation.ensures.none c.install_on_key.ensures.rest.is c.install_on_key.ensures.rest.relocations c.install_on_key.result (c.install_on_key.ensures.event yes_keeps)
+    goes-event g.F.Key.Ord.cmp g.F.Functions.meaning c.args.self.now c.install_on_key.new.self c.args.slot c.args.context c.args.now c.if-holds_relocation.ensures.none (c.sessions_preserved.ensures.installs g.F.Key.Ord.cmp g.F.Mergeable.parts.joined g.F.Functions.meaning g.F.Functions.code c.args.self.now c.install_on_key.new.self c.args.slot c.args.context c.args.built c.args.now c.install_on_key.result c.install_on_key.ensures.effect).0 c.install_on_key.result (c.install_on_key.ensures.event yes_keeps)
 
 pub returns-else-holds_relocation-clause-others : goal.returns-else-holds_relocation-clause-others
 returns-else-holds_relocation-clause-others g c = λ yes_keeps.
-    c.pendings_stay.ensures.installs g.R.Receipt.keeps g.F.Key.Ord.cmp g.F.Mergeable.parts.joined g.F.Functions.meaning g.F.Functions.code c.args.self.now.core c.install_on_key.new.self.core c.args.slot c.args.context c.args.built c.args.now c.install_on_key.result yes_keeps c.known.ensures.core c.install_on_key.ensures.effect
+    c.pendings_stay.ensures.installs g.R.Receipt.keeps g.F.Key.Ord.cmp g.F.Mergeable.parts.joined g.F.Functions.meaning g.F.Functions.code c.args.self.now c.install_on_key.new.self c.args.slot c.args.context c.args.built c.args.now c.install_on_key.result yes_keeps c.known.ensures.sound c.install_on_key.ensures.effect
 
 pub returns-else-holds_relocation-clause-finds : goal.returns-else-holds_relocation-clause-finds
 returns-else-holds_relocation-clause-finds g c = λ yes_keeps.
-    goes-finds g.F.Key.Ord.cmp g.F.Functions.meaning c.args.self.now c.install_on_key.new.self c.args.slot c.args.context c.args.now c.if-holds_relocation.ensures.none c.install_on_key.ensures.rest.is c.install_on_key.ensures.rest.relocations c.install_on_key.result
-    (λ p e. c.pendings_stay.ensures.built g.F.Key.Ord.cmp g.F.Mergeable.parts.joined g.F.Functions.meaning g.F.Functions.code c.args.self.now.core c.install_on_key.new.self.core c.args.slot c.args.context c.args.built c.args.now p (rw e at c.install_on_key.ensures.effect))
+    goes-finds g.F.Key.Ord.cmp g.F.Functions.meaning c.args.self.now c.install_on_key.new.self c.args.slot c.args.context c.args.now c.if-holds_relocation.ensures.none (c.sessions_preserved.ensures.installs g.F.Key.Ord.cmp g.F.Mergeable.parts.joined g.F.Functions.meaning g.F.Functions.code c.args.self.now c.install_on_key.new.self c.args.slot c.args.context c.args.built c.args.now c.install_on_key.result c.install_on_key.ensures.effect).0 c.install_on_key.result
+    (λ p e. c.pendings_stay.ensures.built g.F.Key.Ord.cmp g.F.Mergeable.parts.joined g.F.Functions.meaning g.F.Functions.code c.args.self.now c.install_on_key.new.self c.args.slot c.args.context c.args.built c.args.now p (rw e at c.install_on_key.ensures.effect))
 
 pub returns-then-holds_relocation-clause-effect : goal.returns-then-holds_relocation-clause-effect
 returns-then-holds_relocation-clause-effect g c = Installs.relocation c.if-holds_relocation.ensures.some.0 c.if-holds_relocation.ensures.some.1 refl refl

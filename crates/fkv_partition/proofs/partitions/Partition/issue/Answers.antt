@@ -8,7 +8,7 @@ returns-in-Some-clause-effect g c = Issues.on_key c.in-Some.keyed (sym c.keyed.e
 
 pub returns-in-Some-clause-event : goal.returns-in-Some-clause-event
 returns-in-Some-clause-event g c =
-    issue-on-key g.F.Functions.code c.args.self.now c.issue_on_key.new.self c.args.slot c.args.now c.args.op c.in-Some.keyed c.issue_on_key.result (sym c.keyed.ensures ∙ c.in-Some.is) c.issue_on_key.ensures.rest.is c.issue_on_key.ensures.rest.relocations
+    issue-on-key g.F.Functions.code c.args.self.now c.issue_on_key.new.self c.args.slot c.args.now c.args.op c.in-Some.keyed c.issue_on_key.result (sym c.keyed.ensures ∙ c.in-Some.is) c.issue_on_key.ensures.rest
     c.issue_on_key.ensures.event c.issue_on_key.ensures.closed
 
 pub returns-in-Some-clause-pends : goal.returns-in-Some-clause-pends
@@ -21,7 +21,7 @@ returns-in-None-clause-effect g c = Issues.relocation (keyed-not c.args.op (sym 
 
 pub returns-in-None-clause-event : goal.returns-in-None-clause-event
 returns-in-None-clause-event g c =
-    relocates-event g.F.Functions.code c.args.self.now c.relocate.new.self c.args.slot c.args.now c.args.op c.relocate.result (keyed-not c.args.op (sym c.keyed.ensures ∙ c.in-None.is)) c.known.ensures.core c.relocate.ensures.within c.relocate.ensures.effect
+    relocates-event g.F.Functions.code c.args.self.now c.relocate.new.self c.args.slot c.args.now c.args.op c.relocate.result (keyed-not c.args.op (sym c.keyed.ensures ∙ c.in-None.is)) c.known.ensures.sound c.relocate.ensures.within c.relocate.ensures.effect
 
 pub returns-in-None-clause-pends : goal.returns-in-None-clause-pends
 returns-in-None-clause-pends g c = λ yes_keeps. relocates-pend g.F.Key.Ord.cmp c.args.self.now c.relocate.new.self c.args.slot c.args.now c.relocate.result c.relocate.ensures.effect

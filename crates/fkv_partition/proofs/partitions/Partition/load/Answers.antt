@@ -6,20 +6,20 @@ use Rattle.fkv_partition.proofs.OperationLemmas.{loads-event, ends-key, relocati
 use Rattle.fkv_partition.proofs.partitions.Partition.load.Goals as goal
 
 pub returns-else-holds_relocation-clause-effect : goal.returns-else-holds_relocation-clause-effect
-returns-else-holds_relocation-clause-effect g c = Loads.on_key c.if-holds_relocation.ensures.none c.load_on_key.ensures.effect c.load_on_key.ensures.rest
+returns-else-holds_relocation-clause-effect g c = Loads.on_key c.if-holds_relocation.ensures.none c.load_on_key.ensures.effect (c.loads_preserve_sessions.ensures c.args.self.now c.load_on_key.new.self c.args.slot c.args.context c.args.came c.args.now c.load_on_key.result c.load_on_key.ensures.effect).0
 
 pub returns-else-holds_relocation-clause-event : goal.returns-else-holds_relocation-clause-event
 returns-else-holds_relocation-clause-event g c = λ yes_keeps.
-    loads-event g.F.Key.Ord.cmp g.F.Functions.meaning c.args.self.now c.load_on_key.new.self c.args.slot c.args.context c.args.now c.if-holds_relocation.ensures.none c.load_on_key.ensures.rest.is c.load_on_key.ensures.rest.relocations c.load_on_key.result (c.load_on_key.ensures.event yes_keeps)
+    loads-event g.F.Key.Ord.cmp g.F.Functions.meaning c.args.self.now c.load_on_key.new.self c.args.slot c.args.context c.args.now c.if-holds_relocation.ensures.none (c.loads_preserve_sessions.ensures c.args.self.now c.load_on_key.new.self c.args.slot c.args.context c.args.came c.args.now c.load_on_key.result c.load_on_key.ensures.effect).0 c.load_on_key.result (c.load_on_key.ensures.event yes_keeps)
 
 pub returns-else-holds_relocation-clause-fails : goal.returns-else-holds_relocation-clause-fails
 returns-else-holds_relocation-clause-fails g c =
-    if-err c.load_on_key.result (λ why e. ends-key c.args.self.now c.load_on_key.new.self c.args.slot c.args.context c.args.now c.if-holds_relocation.ensures.none c.load_on_key.ensures.rest.is c.load_on_key.ensures.rest.relocations
-    (c.loads_end.ensures.fails c.args.self.now.core c.load_on_key.new.self.core c.args.slot c.args.context c.args.came c.args.now why (rw e at c.load_on_key.ensures.effect)))
+    if-err c.load_on_key.result (λ why e. ends-key c.args.self.now c.load_on_key.new.self c.args.slot c.args.context c.args.now c.if-holds_relocation.ensures.none (c.loads_preserve_sessions.ensures c.args.self.now c.load_on_key.new.self c.args.slot c.args.context c.args.came c.args.now c.load_on_key.result c.load_on_key.ensures.effect).0
+    (c.loads_end.ensures.fails c.args.self.now c.load_on_key.new.self c.args.slot c.args.context c.args.came c.args.now why (rw e at c.load_on_key.ensures.effect)))
 
 pub returns-else-holds_relocation-clause-others : goal.returns-else-holds_relocation-clause-others
 returns-else-holds_relocation-clause-others g c = λ yes_keeps.
-    c.loads_end.ensures.loads c.args.self.now.core c.load_on_key.new.self.core c.args.slot c.args.context c.args.came c.args.now c.load_on_key.result c.load_on_key.ensures.effect
+    c.loads_end.ensures.loads c.args.self.now c.load_on_key.new.self c.args.slot c.args.context c.args.came c.args.now c.load_on_key.result c.load_on_key.ensures.effect
 
 pub returns-else-holds_relocation-clause-cleared : goal.returns-else-holds_relocation-clause-cleared
 returns-else-holds_relocation-clause-cleared g c = λ told. rw c.if-holds_relocation.ensures.none tt

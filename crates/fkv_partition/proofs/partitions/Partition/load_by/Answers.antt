@@ -9,23 +9,23 @@ use Rattle.fkv_partition.proofs.partitions.Partition.load_by.Goals as goal
 
 pub returns-else-holds_relocation-clause-effect : goal.returns-else-holds_relocation-clause-effect
 returns-else-holds_relocation-clause-effect g c =
-    reads-key g.R.Receipt.stands _ g.F.Key.Ord.cmp g.F.Mergeable.parts.joined g.F.Functions.meaning g.F.Functions.code c.args.self.now c.load_by_on_key.new.self c.args.slot c.args.context c.args.now c.if-holds_relocation.ensures.none c.load_by_on_key.ensures.rest c.load_by_on_key.ensures.effect
+    reads-key g.R.Receipt.stands _ g.F.Key.Ord.cmp g.F.Mergeable.parts.joined g.F.Functions.meaning g.F.Functions.code c.args.self.now c.load_by_on_key.new.self c.args.slot c.args.context c.args.now c.if-holds_relocation.ensures.none (reads-any _ c.load_by_on_key.ensures.effect (λ came does. (c.loads_preserve_sessions.ensures c.args.self.now c.load_by_on_key.new.self c.args.slot c.args.context came c.args.now c.load_by_on_key.result does).0) (λ told same is. rw same (record { cleared = refl; relocations = λ p. refl }))) c.load_by_on_key.ensures.effect
 
 pub returns-else-holds_relocation-clause-event : goal.returns-else-holds_relocation-clause-event
 returns-else-holds_relocation-clause-event g c = λ yes_keeps.
-    loads-event g.F.Key.Ord.cmp g.F.Functions.meaning c.args.self.now c.load_by_on_key.new.self c.args.slot c.args.context c.args.now c.if-holds_relocation.ensures.none c.load_by_on_key.ensures.rest.is c.load_by_on_key.ensures.rest.relocations c.load_by_on_key.result (c.load_by_on_key.ensures.event yes_keeps)
+    loads-event g.F.Key.Ord.cmp g.F.Functions.meaning c.args.self.now c.load_by_on_key.new.self c.args.slot c.args.context c.args.now c.if-holds_relocation.ensures.none (reads-any _ c.load_by_on_key.ensures.effect (λ came does. (c.loads_preserve_sessions.ensures c.args.self.now c.load_by_on_key.new.self c.args.slot c.args.context came c.args.now c.load_by_on_key.result does).0) (λ told same is. rw same (record { cleared = refl; relocations = λ p. refl }))) c.load_by_on_key.result (c.load_by_on_key.ensures.event yes_keeps)
 
 pub returns-else-holds_relocation-clause-fails : goal.returns-else-holds_relocation-clause-fails
 returns-else-holds_relocation-clause-fails g c =
-    if-err c.load_by_on_key.result (λ why e. ends-key c.args.self.now c.load_by_on_key.new.self c.args.slot c.args.context c.args.now c.if-holds_relocation.ensures.none c.load_by_on_key.ensures.rest.is c.load_by_on_key.ensures.rest.relocations
+    if-err c.load_by_on_key.result (λ why e. ends-key c.args.self.now c.load_by_on_key.new.self c.args.slot c.args.context c.args.now c.if-holds_relocation.ensures.none (reads-any _ c.load_by_on_key.ensures.effect (λ came does. (c.loads_preserve_sessions.ensures c.args.self.now c.load_by_on_key.new.self c.args.slot c.args.context came c.args.now c.load_by_on_key.result does).0) (λ told same is. rw same (record { cleared = refl; relocations = λ p. refl })))
     (reads-any _ c.load_by_on_key.ensures.effect
-    (λ came does. c.loads_end.ensures.fails c.args.self.now.core c.load_by_on_key.new.self.core c.args.slot c.args.context came c.args.now why (rw e at does))
+    (λ came does. c.loads_end.ensures.fails c.args.self.now c.load_by_on_key.new.self c.args.slot c.args.context came c.args.now why (rw e at does))
     (λ told same is. inl same)))
 
 pub returns-else-holds_relocation-clause-others : goal.returns-else-holds_relocation-clause-others
 returns-else-holds_relocation-clause-others g c = λ yes_keeps.
     reads-any _ c.load_by_on_key.ensures.effect
-    (λ came does. c.loads_end.ensures.loads c.args.self.now.core c.load_by_on_key.new.self.core c.args.slot c.args.context came c.args.now c.load_by_on_key.result does)
+    (λ came does. c.loads_end.ensures.loads c.args.self.now c.load_by_on_key.new.self c.args.slot c.args.context came c.args.now c.load_by_on_key.result does)
     (λ told same is. rw same (λ s d other. refl))
 
 pub returns-else-holds_relocation-clause-cleared : goal.returns-else-holds_relocation-clause-cleared

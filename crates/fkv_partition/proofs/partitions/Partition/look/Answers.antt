@@ -1,9 +1,8 @@
-use Rattle.std.proofs.Common.{◌≡◌, ◌<◌, ◌≤◌, IsSome, Some, sym, ap, subst, ◌∙◌}
+use Rattle.std.proofs.Common.{◌≡◌, ◌<◌, ◌≤◌, Some, ap, subst, ◌∙◌}
 use Rattle.fkv_regions.specs.Offsets.{view_at}
 use Rattle.fkv_texts.specs.Text.{entry_at}
 use Rattle.fkv_lookups.specs.Decisions.{low_of}
-use Rattle.fkv_partition.specs.CoreBeginning.{IsEntered}
-use Rattle.fkv_partition.specs.Going.{low_at, GoesOn}
+use Rattle.fkv_partition.specs.Going.{GoesOn}
 use Rattle.fkv_functions.proofs.CallLemmas.{with_six}
 use Rattle.fkv_partition.proofs.MoveLemmas.{open-here}
 use Rattle.fkv_partition.proofs.LookLemmas.{address-at, begun-here, place-flushed, place-reading, place-there, place-open}
@@ -14,7 +13,7 @@ view-view-requires-whole g c κs =
     let v = c.args.self.now in
     let x = c.args.relocation.now in
     with_six (
-    rw c.records.ensures (subst (λ u. IsEntered u.core c.args.slot) (sym c.self.view_is) (open-here v c.args.slot c.args.context x c.requires.here).inside))
+    rw c.records.ensures ((open-here v c.args.slot c.args.context x c.requires.here).inside))
 
 pub ask-requires-clause-flushed : goal.ask-requires-clause-flushed
 ask-requires-clause-flushed g c =
@@ -22,10 +21,9 @@ ask-requires-clause-flushed g c =
     let x = c.args.relocation.now in
     let low = c.low_of.ensures
     ∙ ap (λ b. low_of b c.view-view.result) (c.begin-begin.ensures ∙ ap (λ r. r.log.begin) c.records-2.ensures)
-    ∙ ap (λ w. low_of c.self.inside.core.records.log.begin w) (c.view-view.ensures.value ∙ ap (λ r. view_at r.log.regions.views c.args.slot) c.records.ensures)
-    ∙ ap (λ u. low_at u c.args.slot) c.self.view_is in
+    ∙ ap (λ w. low_of c.args.self.now.records.log.begin w) (c.view-view.ensures.value ∙ ap (λ r. view_at r.log.regions.views c.args.slot) c.records.ensures) in
     let under = subst (λ n. x.target < n) low c.if-target-low_of.true in
-    place-flushed g.F.Key.Ord.cmp g.F.Mergeable.parts.joined g.F.Functions.code v c.known.ensures.compacting c.known.ensures.core c.args.slot c.args.context x c.requires.here c.requires.uncleared under
+    place-flushed g.F.Key.Ord.cmp g.F.Mergeable.parts.joined g.F.Functions.code v c.known.ensures.compacting c.known.ensures.sound c.args.slot c.args.context x c.requires.here c.requires.uncleared under
 
 pub ask-requires-clause-stands : goal.ask-requires-clause-stands
 ask-requires-clause-stands g c =
@@ -33,11 +31,10 @@ ask-requires-clause-stands g c =
     let x = c.args.relocation.now in
     let low = c.low_of.ensures
     ∙ ap (λ b. low_of b c.view-view.result) (c.begin-begin.ensures ∙ ap (λ r. r.log.begin) c.records-2.ensures)
-    ∙ ap (λ w. low_of c.self.inside.core.records.log.begin w) (c.view-view.ensures.value ∙ ap (λ r. view_at r.log.regions.views c.args.slot) c.records.ensures)
-    ∙ ap (λ u. low_at u c.args.slot) c.self.view_is in
+    ∙ ap (λ w. low_of c.args.self.now.records.log.begin w) (c.view-view.ensures.value ∙ ap (λ r. view_at r.log.regions.views c.args.slot) c.records.ensures) in
     let under = subst (λ n. x.target < n) low c.if-target-low_of.true in
-    let begins = c.begin-begin.ensures ∙ ap (λ r. r.log.begin) c.records-2.ensures ∙ ap (λ u. u.core.records.log.begin) c.self.view_is in
-    rw begins (place-reading g.F.Key.Ord.cmp g.F.Mergeable.parts.joined g.F.Functions.code v c.known.ensures.compacting c.known.ensures.core c.args.slot c.args.context x c.requires.here c.requires.uncleared under)
+    let begins = c.begin-begin.ensures ∙ ap (λ r. r.log.begin) c.records-2.ensures in
+    rw begins (place-reading g.F.Key.Ord.cmp g.F.Mergeable.parts.joined g.F.Functions.code v c.known.ensures.compacting c.known.ensures.sound c.args.slot c.args.context x c.requires.here c.requires.uncleared under)
 
 pub returns-then-target-low_of-clause-effect : goal.returns-then-target-low_of-clause-effect
 returns-then-target-low_of-clause-effect g c =
@@ -45,10 +42,9 @@ returns-then-target-low_of-clause-effect g c =
     let x = c.args.relocation.now in
     let low = c.low_of.ensures
     ∙ ap (λ b. low_of b c.view-view.result) (c.begin-begin.ensures ∙ ap (λ r. r.log.begin) c.records-2.ensures)
-    ∙ ap (λ w. low_of c.self.inside.core.records.log.begin w) (c.view-view.ensures.value ∙ ap (λ r. view_at r.log.regions.views c.args.slot) c.records.ensures)
-    ∙ ap (λ u. low_at u c.args.slot) c.self.view_is in
+    ∙ ap (λ w. low_of c.args.self.now.records.log.begin w) (c.view-view.ensures.value ∙ ap (λ r. view_at r.log.regions.views c.args.slot) c.records.ensures) in
     let under = subst (λ n. x.target < n) low c.if-target-low_of.true in
-    let begins = c.begin-begin.ensures ∙ ap (λ r. r.log.begin) c.records-2.ensures ∙ ap (λ u. u.core.records.log.begin) c.self.view_is in
+    let begins = c.begin-begin.ensures ∙ ap (λ r. r.log.begin) c.records-2.ensures in
     GoesOn.reads x c.requires.here c.requires.fresh c.requires.uncleared under (rw begins at c.ask.ensures.effect)
 
 pub record_at-entry-requires-clause-there : goal.record_at-entry-requires-clause-there
@@ -57,10 +53,9 @@ record_at-entry-requires-clause-there g c =
     let x = c.args.relocation.now in
     let low = c.low_of.ensures
     ∙ ap (λ b. low_of b c.view-view.result) (c.begin-begin.ensures ∙ ap (λ r. r.log.begin) c.records-2.ensures)
-    ∙ ap (λ w. low_of c.self.inside.core.records.log.begin w) (c.view-view.ensures.value ∙ ap (λ r. view_at r.log.regions.views c.args.slot) c.records.ensures)
-    ∙ ap (λ u. low_at u c.args.slot) c.self.view_is in
+    ∙ ap (λ w. low_of c.args.self.now.records.log.begin w) (c.view-view.ensures.value ∙ ap (λ r. view_at r.log.regions.views c.args.slot) c.records.ensures) in
     let over = subst (λ n. n ≤ x.target) low c.if-target-low_of.false in
-    rw c.records-3.ensures (subst (λ u. IsSome (entry_at u.core.records.log.text x.target)) (sym c.self.view_is) (place-there g.F.Key.Ord.cmp g.F.Mergeable.parts.joined g.F.Functions.code v c.known.ensures.compacting c.known.ensures.core c.args.slot c.args.context x c.requires.here c.requires.uncleared over))
+    rw c.records-3.ensures ((place-there g.F.Key.Ord.cmp g.F.Mergeable.parts.joined g.F.Functions.code v c.known.ensures.compacting c.known.ensures.sound c.args.slot c.args.context x c.requires.here c.requires.uncleared over))
 
 pub record_at-entry-requires-clause-in_frame : goal.record_at-entry-requires-clause-in_frame
 record_at-entry-requires-clause-in_frame g c =
@@ -68,10 +63,9 @@ record_at-entry-requires-clause-in_frame g c =
     let x = c.args.relocation.now in
     let low = c.low_of.ensures
     ∙ ap (λ b. low_of b c.view-view.result) (c.begin-begin.ensures ∙ ap (λ r. r.log.begin) c.records-2.ensures)
-    ∙ ap (λ w. low_of c.self.inside.core.records.log.begin w) (c.view-view.ensures.value ∙ ap (λ r. view_at r.log.regions.views c.args.slot) c.records.ensures)
-    ∙ ap (λ u. low_at u c.args.slot) c.self.view_is in
+    ∙ ap (λ w. low_of c.args.self.now.records.log.begin w) (c.view-view.ensures.value ∙ ap (λ r. view_at r.log.regions.views c.args.slot) c.records.ensures) in
     let over = subst (λ n. n ≤ x.target) low c.if-target-low_of.false in
-    rw c.records-3.ensures (subst (λ u. u.core.records.log.regions.offsets.closed ≤ x.target) (sym c.self.view_is) (place-open g.F.Key.Ord.cmp g.F.Mergeable.parts.joined g.F.Functions.code v c.known.ensures.compacting c.known.ensures.core c.args.slot c.args.context x c.requires.here c.requires.uncleared over))
+    rw c.records-3.ensures ((place-open g.F.Key.Ord.cmp g.F.Mergeable.parts.joined g.F.Functions.code v c.known.ensures.compacting c.known.ensures.sound c.args.slot c.args.context x c.requires.here c.requires.uncleared over))
 
 pub check_liveness-requires-clause-stands : goal.check_liveness-requires-clause-stands
 check_liveness-requires-clause-stands g c =
@@ -83,21 +77,20 @@ returns-clause-effect g c =
     let x = c.args.relocation.now in
     let low = c.low_of.ensures
     ∙ ap (λ b. low_of b c.view-view.result) (c.begin-begin.ensures ∙ ap (λ r. r.log.begin) c.records-2.ensures)
-    ∙ ap (λ w. low_of c.self.inside.core.records.log.begin w) (c.view-view.ensures.value ∙ ap (λ r. view_at r.log.regions.views c.args.slot) c.records.ensures)
-    ∙ ap (λ u. low_at u c.args.slot) c.self.view_is in
+    ∙ ap (λ w. low_of c.args.self.now.records.log.begin w) (c.view-view.ensures.value ∙ ap (λ r. view_at r.log.regions.views c.args.slot) c.records.ensures) in
     let over = subst (λ n. n ≤ x.target) low c.if-target-low_of.false in
-    let there = subst (λ u. entry_at u.core.records.log.text x.target ≡ Some c.record_at-entry.result) c.self.view_is (subst (λ r. entry_at r.log.text x.target ≡ Some c.record_at-entry.result) c.records-3.ensures c.record_at-entry.ensures.entry) in
+    let there = (subst (λ r. entry_at r.log.text x.target ≡ Some c.record_at-entry.result) c.records-3.ensures c.record_at-entry.ensures.entry) in
     GoesOn.checks x c.record_at-entry.result c.requires.here c.requires.fresh c.requires.uncleared over there c.check_liveness.ensures.effect
 
 pub returns-then-target-low_of-clause-cleared : goal.returns-then-target-low_of-clause-cleared
 returns-then-target-low_of-clause-cleared g c = λ is. absurd (c.ask.ensures.uncleared is)
 
 pub check_liveness-requires-clause-begun : goal.check_liveness-requires-clause-begun
-check_liveness-requires-clause-begun g c = begun-here g.F.Key.Ord.cmp g.F.Mergeable.parts.joined g.F.Functions.code c.args.self.now c.known.ensures.compacting c.known.ensures.core c.args.slot c.args.context c.args.relocation.now c.requires.here c.requires.uncleared
+check_liveness-requires-clause-begun g c = begun-here g.F.Key.Ord.cmp g.F.Mergeable.parts.joined g.F.Functions.code c.args.self.now c.known.ensures.compacting c.known.ensures.sound c.args.slot c.args.context c.args.relocation.now c.requires.here c.requires.uncleared
 
 pub check_liveness-requires-clause-is : goal.check_liveness-requires-clause-is
 check_liveness-requires-clause-is g c =
-    let there = subst (λ r. entry_at r.log.text c.args.relocation.now.target ≡ Some c.record_at-entry.result) (c.records-3.ensures ∙ ap (λ u. u.core.records) c.self.view_is) c.record_at-entry.ensures.entry in
+    let there = subst (λ r. entry_at r.log.text c.args.relocation.now.target ≡ Some c.record_at-entry.result) (c.records-3.ensures) c.record_at-entry.ensures.entry in
     λ _. there
 
 pub returns-then-target-low_of-clause-event : goal.returns-then-target-low_of-clause-event

@@ -18,10 +18,10 @@ check_liveness-requires-clause-begun g c =
     let x = c.args.relocation.now in
     let a = c.requires.has.awaits in
     let p = c.args.loaded.now in
-    let sound = c.known.ensures.core in
+    let sound = c.known.ensures.sound in
     let s = c.known.ensures.compacting in
     let at = c.requires.reads in
-    place-begun g.F.Key.Ord.cmp g.F.Mergeable.parts.joined g.F.Functions.code v sound s c.args.slot c.args.context x v.core.records.log.begin at refl a.here
+    place-begun g.F.Key.Ord.cmp g.F.Mergeable.parts.joined g.F.Functions.code v sound s c.args.slot c.args.context x v.records.log.begin at refl a.here
 
 pub check_liveness-requires-clause-is : goal.check_liveness-requires-clause-is
 check_liveness-requires-clause-is g c =
@@ -29,11 +29,11 @@ check_liveness-requires-clause-is g c =
     let x = c.args.relocation.now in
     let a = c.requires.has.awaits in
     let p = c.args.loaded.now in
-    let sound = c.known.ensures.core in
+    let sound = c.known.ensures.sound in
     let s = c.known.ensures.compacting in
     let at = c.requires.reads in
-    let kept = subst (λ u. IsTrue g.R.Receipt.keeps → IfSome (entry_at u.core.records.log.text x.target) (λ y. c.own_record_in.result ≡ Ok y)) c.self.view_is (subst (λ r. IsTrue g.R.Receipt.keeps → IfSome (entry_at r.log.text x.target) (λ y. c.own_record_in.result ≡ Ok y)) c.records-2.ensures c.own_record_in.ensures.kept) in
-    place-read g.F.Key.Ord.cmp g.F.Mergeable.parts.joined g.F.Functions.code v sound s c.args.slot c.args.context x v.core.records.log.begin at refl a.here c.in-Ok.entry c.own_record_in.result c.in-Ok.is kept
+    let kept = (subst (λ r. IsTrue g.R.Receipt.keeps → IfSome (entry_at r.log.text x.target) (λ y. c.own_record_in.result ≡ Ok y)) c.records-2.ensures c.own_record_in.ensures.kept) in
+    place-read g.F.Key.Ord.cmp g.F.Mergeable.parts.joined g.F.Functions.code v sound s c.args.slot c.args.context x v.records.log.begin at refl a.here c.in-Ok.entry c.own_record_in.result c.in-Ok.is kept
 
 pub returns-in-Err-clause-effect : goal.returns-in-Err-clause-effect
 returns-in-Err-clause-effect g c =
@@ -41,14 +41,13 @@ returns-in-Err-clause-effect g c =
     let x = c.args.relocation.now in
     let a = c.requires.has.awaits in
     let p = c.args.loaded.now in
-    let sound = c.known.ensures.core in
+    let sound = c.known.ensures.sound in
     let s = c.known.ensures.compacting in
     let at = c.requires.reads in
-    let moved = ap (λ u. u.core.records) c.self.view_is in
-    let page = c.page_of-page.ensures ∙ ap (λ r. page_at r.log.bits x.target) (c.records.ensures ∙ moved) in
+    let page = c.page_of-page.ensures ∙ ap (λ r. page_at r.log.bits x.target) (c.records.ensures) in
     let has : HasPage v c.args.slot c.args.context x x.target (g.R.Receipt.stands p.receipt) = c.requires.has in
-    let found = subst (λ r. (y : Entry _ _) → IsEntryIn g.F.Key.Fixed.codec g.F.Value.Fixed.codec r.log.bits p.bytes x.target y → c.own_record_in.result ≡ Ok y) (c.records-2.ensures ∙ moved) c.own_record_in.ensures.found in
-    LoadsOn.damaged x v.core.records.log.begin p at has refl (λ y spelled. err-ok (sym c.in-Err.is ∙ found y spelled)) c.end.ensures (ap (λ n. Err (Damaged n)) page)
+    let found = subst (λ r. (y : Entry _ _) → IsEntryIn g.F.Key.Fixed.codec g.F.Value.Fixed.codec r.log.bits p.bytes x.target y → c.own_record_in.result ≡ Ok y) (c.records-2.ensures) c.own_record_in.ensures.found in
+    LoadsOn.damaged x v.records.log.begin p at has refl (λ y spelled. err-ok (sym c.in-Err.is ∙ found y spelled)) c.end.ensures (ap (λ n. Err (Damaged n)) page)
 
 pub returns-in-Ok-clause-effect : goal.returns-in-Ok-clause-effect
 returns-in-Ok-clause-effect g c =
@@ -56,14 +55,13 @@ returns-in-Ok-clause-effect g c =
     let x = c.args.relocation.now in
     let a = c.requires.has.awaits in
     let p = c.args.loaded.now in
-    let sound = c.known.ensures.core in
+    let sound = c.known.ensures.sound in
     let s = c.known.ensures.compacting in
     let at = c.requires.reads in
-    let moved = ap (λ u. u.core.records) c.self.view_is in
-    let page = c.page_of-page.ensures ∙ ap (λ r. page_at r.log.bits x.target) (c.records.ensures ∙ moved) in
+    let page = c.page_of-page.ensures ∙ ap (λ r. page_at r.log.bits x.target) (c.records.ensures) in
     let has : HasPage v c.args.slot c.args.context x x.target (g.R.Receipt.stands p.receipt) = c.requires.has in
-    let spelled = subst (λ u. (IsEntryIn g.F.Key.Fixed.codec g.F.Value.Fixed.codec) u.core.records.log.bits p.bytes x.target c.in-Ok.entry) c.self.view_is (rw (c.records-2.ensures, c.in-Ok.is) at c.own_record_in.ensures.only) in
-    LoadsOn.checks x v.core.records.log.begin p c.in-Ok.entry at has refl spelled c.check_liveness.ensures.effect
+    let spelled = (rw (c.records-2.ensures, c.in-Ok.is) at c.own_record_in.ensures.only) in
+    LoadsOn.checks x v.records.log.begin p c.in-Ok.entry at has refl spelled c.check_liveness.ensures.effect
 
 pub returns-in-Err-clause-cleared : goal.returns-in-Err-clause-cleared
 returns-in-Err-clause-cleared g c = err-ok
@@ -100,16 +98,14 @@ returns-in-Ok-clause-moment g c = c.check_liveness.ensures.moment
 
 pub own_record_in-requires : goal.own_record_in-requires
 own_record_in-requires g c =
-    let moved = ap (λ u. u.core.records) c.self.view_is in
-    record { own = subst (λ r. IsHeldBy r.log.receipts (page_at r.log.bits c.args.relocation.now.target) (g.R.Receipt.stands c.args.loaded.now.receipt)) (sym (c.records-2.ensures ∙ moved)) c.requires.has.own }
+    record { own = subst (λ r. IsHeldBy r.log.receipts (page_at r.log.bits c.args.relocation.now.target) (g.R.Receipt.stands c.args.loaded.now.receipt)) (sym (c.records-2.ensures)) c.requires.has.own }
 
 pub returns-in-Err-clause-undamaged : goal.returns-in-Err-clause-undamaged
 returns-in-Err-clause-undamaged g c = λ yes_keeps page told.
     let v = c.args.self.now in
     let x = c.args.relocation.now in
-    let moved = ap (λ u. u.core.records) c.self.view_is in
-    let kept = subst (λ r. IsTrue g.R.Receipt.keeps → IfSome (entry_at r.log.text x.target) (λ y. c.own_record_in.result ≡ Ok y)) (c.records-2.ensures ∙ moved) c.own_record_in.ensures.kept in
-    place-undamaged g.F.Key.Ord.cmp g.F.Mergeable.parts.joined g.F.Functions.code v c.known.ensures.core c.known.ensures.compacting c.args.slot c.args.context x v.core.records.log.begin c.requires.reads refl c.requires.has.awaits.here c.own_record_in.result c.in-Err.is kept yes_keeps
+    let kept = subst (λ r. IsTrue g.R.Receipt.keeps → IfSome (entry_at r.log.text x.target) (λ y. c.own_record_in.result ≡ Ok y)) (c.records-2.ensures) c.own_record_in.ensures.kept in
+    place-undamaged g.F.Key.Ord.cmp g.F.Mergeable.parts.joined g.F.Functions.code v c.known.ensures.sound c.known.ensures.compacting c.args.slot c.args.context x v.records.log.begin c.requires.reads refl c.requires.has.awaits.here c.own_record_in.result c.in-Err.is kept yes_keeps
 
 pub returns-in-Ok-clause-undamaged : goal.returns-in-Ok-clause-undamaged
 returns-in-Ok-clause-undamaged g c = λ yes_keeps page is. checks-not c.check_liveness.ensures.effect is

@@ -1,12 +1,12 @@
-use Rattle.std.proofs.Common.{Err, refl, sym, ap, subst, ◌∙◌}
+use Rattle.std.proofs.Common.{Err, refl, sym, ap, subst}
+use Rattle.std.proofs.Math.Nat.{le_of_lt}
 use Rattle.fkv_functions.proofs.KeyOrder.{key_order}
 use Rattle.fkv_functions.proofs.CallLemmas.{with_six}
 use Rattle.fkv_records.specs.Places.{page_at}
-use Rattle.fkv_hybrid.specs.Loads.{IsHeldBy}
-use Rattle.fkv_partition.specs.Reading.{LoadsOn}
-use Rattle.fkv_partition.proofs.ApartLemmas.{err-ok, no-later}
-use Rattle.fkv_partition.proofs.ReadLemmas.{page-within, stranger-held}
-use Rattle.fkv_partition.proofs.TraceLemmas.{awaited-flushed}
+use Rattle.fkv_hybrid.specs.Loads.{HasReceipt, IsHeldBy}
+use Rattle.fkv_partition.specs.Inside.{view_of}
+use Rattle.fkv_partition.specs.KeyLoading.{Loads}
+use Rattle.fkv_partition.proofs.LoadLemmas.{stranger-kept, wanted-flushed}
 use Rattle.fkv_partition.proofs.DamageLemmas.{stranger-not}
 use Rattle.fkv_partition.proofs.partitions.Partition.receive.Goals as goal
 
@@ -15,10 +15,14 @@ is_own-requires-whole g c κs =
     let ord = g.met.F.Key.Ord in
     let known = g.met.F.Key.FixedKey in
     let order = key_order g.F.Key.PartialEq.eq g.F.Key.Ord.cmp ord.matches_eq known.exact ord.total in
-    let there = awaited-flushed g.F.Key.Ord.cmp g.F.Mergeable.parts.joined g.F.Functions.code order c.args.self.now c.known.ensures.core c.known.ensures.compacting c.args.slot c.args.context c.args.relocation.now c.args.wanted c.requires.awaits in
-    let moved = ap (λ u. u.core.records) c.self.view_is in
+    let v = c.args.self.now in
+    let x = c.args.operation.now in
+    let l = c.args.loading in
+    let a = c.requires.awaits in
+    let p = c.args.loaded in
+    let there = wanted-flushed g.F.Key.Ord.cmp g.F.Mergeable.parts.joined g.F.Functions.code order v c.known.ensures.sound c.args.slot c.args.context x l a in
     with_six (
-    page-within c.args.wanted c.page_of-page.ensures (c.records.ensures ∙ moved) (c.records-2.ensures ∙ moved) there)
+    rw c.page_of-page.ensures (subst (λ u. HasReceipt u.records.log.receipts (page_at u.records.log.bits l.wanted)) (sym c.self.view_is) there))
 
 pub returns-in-Err-clause-effect : goal.returns-in-Err-clause-effect
 returns-in-Err-clause-effect g c =
@@ -26,49 +30,42 @@ returns-in-Err-clause-effect g c =
     let known = g.met.F.Key.FixedKey in
     let order = key_order g.F.Key.PartialEq.eq g.F.Key.Ord.cmp ord.matches_eq known.exact ord.total in
     let v = c.args.self.now in
-    let x = c.args.relocation.now in
+    let x = c.args.operation.now in
+    let l = c.args.loading in
     let a = c.requires.awaits in
     let p = c.args.loaded in
-    let there = awaited-flushed g.F.Key.Ord.cmp g.F.Mergeable.parts.joined g.F.Functions.code order v c.known.ensures.core c.known.ensures.compacting c.args.slot c.args.context x c.args.wanted a in
-    let moved = ap (λ u. u.core.records) c.self.view_is in
-    let page = c.page_of-page.ensures ∙ ap (λ r. page_at r.log.bits c.args.wanted) (c.records.ensures ∙ sym c.records-2.ensures) in
-    let z = stranger-held c.records-2.result.now v.core.records c.page_of-page.result c.args.wanted (g.R.Receipt.stands p.receipt) c.in-Err.refused (c.records-2.ensures ∙ moved) page there c.in-Err.ensures.stranger in
-    LoadsOn.stranger x c.args.wanted p z.0 a refl z.1 z.2 refl (ap Err z.3)
-
-pub returns-in-Err-clause-cleared : goal.returns-in-Err-clause-cleared
-returns-in-Err-clause-cleared g c = err-ok
+    let there = wanted-flushed g.F.Key.Ord.cmp g.F.Mergeable.parts.joined g.F.Functions.code order v c.known.ensures.sound c.args.slot c.args.context x l a in
+    let s = stranger-kept (view_of g.F.Mergeable.MERGES c.self.inside.number c.self.inside.count c.self.inside.records c.self.inside.contexts.items c.self.inside.moment c.self.inside.cleared) v c.page_of-page.result l.wanted (g.R.Receipt.stands p.receipt) c.in-Err.refused c.self.view_is c.page_of-page.ensures there c.in-Err.ensures.stranger in
+    Loads.stranger x l p s.0 a refl s.1 s.2 refl (ap Err s.3)
 
 pub returns-in-Err-clause-moment : goal.returns-in-Err-clause-moment
-returns-in-Err-clause-moment g c = no-later c.requires.later
+returns-in-Err-clause-moment g c = le_of_lt c.requires.later
 
-pub read_on-requires-clause-has : goal.read_on-requires-clause-has
-read_on-requires-clause-has g c =
-    let moved = ap (λ u. u.core.records) c.self.view_is in
-    let page = c.page_of-page.ensures ∙ ap (λ r. page_at r.log.bits c.args.wanted) (c.records.ensures ∙ moved) in
-    let st = g.R.Receipt.stands c.args.loaded.receipt in
-    let own = subst (λ n. IsHeldBy c.args.self.now.core.records.log.receipts n st) page (subst (λ r. IsHeldBy r.log.receipts c.page_of-page.result st) (c.records-2.ensures ∙ moved) (c.in_default.ensures.own.0 refl)) in
-    (c.args.wanted, record { awaits = c.requires.awaits; own = own })
+pub resume_look_up-requires-clause-own : goal.resume_look_up-requires-clause-own
+resume_look_up-requires-clause-own g c =
+    subst (λ v. IsHeldBy v.records.log.receipts (page_at v.records.log.bits c.args.loading.wanted) (g.R.Receipt.stands c.args.loaded.receipt)) c.self.view_is
+    (rw c.page_of-page.ensures at (c.in_default.ensures.own.0 refl))
 
-pub read_on-requires-clause-later : goal.read_on-requires-clause-later
-read_on-requires-clause-later g c = c.requires.later
+pub resume_look_up-requires-clause-awaits : goal.resume_look_up-requires-clause-awaits
+resume_look_up-requires-clause-awaits g c = c.requires.awaits
 
-pub read_on-requires-clause-session : goal.read_on-requires-clause-session
-read_on-requires-clause-session g c = c.requires.session
+pub resume_look_up-requires-clause-session : goal.resume_look_up-requires-clause-session
+resume_look_up-requires-clause-session g c = c.requires.session
 
-pub read_on-requires-clause-context : goal.read_on-requires-clause-context
-read_on-requires-clause-context g c = c.requires.context
+pub resume_look_up-requires-clause-context : goal.resume_look_up-requires-clause-context
+resume_look_up-requires-clause-context g c = c.requires.context
+
+pub resume_look_up-requires-clause-later : goal.resume_look_up-requires-clause-later
+resume_look_up-requires-clause-later g c = c.requires.later
 
 pub returns-clause-effect : goal.returns-clause-effect
-returns-clause-effect g c = c.read_on.ensures.effect
+returns-clause-effect g c = c.resume_look_up.ensures.effect
 
 pub returns-clause-event : goal.returns-clause-event
-returns-clause-event g c = c.read_on.ensures.event
-
-pub returns-clause-cleared : goal.returns-clause-cleared
-returns-clause-cleared g c = c.read_on.ensures.cleared
+returns-clause-event g c = c.resume_look_up.ensures.event
 
 pub returns-clause-moment : goal.returns-clause-moment
-returns-clause-moment g c = c.read_on.ensures.moment
+returns-clause-moment g c = c.resume_look_up.ensures.moment
 
 pub returns-in-Err-clause-undamaged : goal.returns-in-Err-clause-undamaged
 returns-in-Err-clause-undamaged g c = λ yes_keeps page is.
@@ -76,11 +73,11 @@ returns-in-Err-clause-undamaged g c = λ yes_keeps page is.
     let known = g.met.F.Key.FixedKey in
     let order = key_order g.F.Key.PartialEq.eq g.F.Key.Ord.cmp ord.matches_eq known.exact ord.total in
     let v = c.args.self.now in
-    let there = awaited-flushed g.F.Key.Ord.cmp g.F.Mergeable.parts.joined g.F.Functions.code order v c.known.ensures.core c.known.ensures.compacting c.args.slot c.args.context c.args.relocation.now c.args.wanted c.requires.awaits in
-    let moved = ap (λ u. u.core.records) c.self.view_is in
-    let at = c.page_of-page.ensures ∙ ap (λ r. page_at r.log.bits c.args.wanted) (c.records.ensures ∙ sym c.records-2.ensures) in
-    let z = stranger-held c.records-2.result.now v.core.records c.page_of-page.result c.args.wanted (g.R.Receipt.stands c.args.loaded.receipt) c.in-Err.refused (c.records-2.ensures ∙ moved) at there c.in-Err.ensures.stranger in
-    stranger-not z.3 is
+    let x = c.args.operation.now in
+    let l = c.args.loading in
+    let there = wanted-flushed g.F.Key.Ord.cmp g.F.Mergeable.parts.joined g.F.Functions.code order v c.known.ensures.sound c.args.slot c.args.context x l c.requires.awaits in
+    let s = stranger-kept (view_of g.F.Mergeable.MERGES c.self.inside.number c.self.inside.count c.self.inside.records c.self.inside.contexts.items c.self.inside.moment c.self.inside.cleared) v c.page_of-page.result l.wanted (g.R.Receipt.stands c.args.loaded.receipt) c.in-Err.refused c.self.view_is c.page_of-page.ensures there c.in-Err.ensures.stranger in
+    stranger-not s.3 is
 
 pub returns-clause-undamaged : goal.returns-clause-undamaged
-returns-clause-undamaged g c = c.read_on.ensures.undamaged
+returns-clause-undamaged g c = c.resume_look_up.ensures.undamaged

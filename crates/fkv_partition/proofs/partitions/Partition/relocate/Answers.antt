@@ -1,8 +1,6 @@
-use Rattle.std.proofs.Common.{◌∙◌, ap, Some, refl, sym, subst, arith}
-use Rattle.fkv_partition.specs.CoreBeginning.{IsEntered}
-use Rattle.fkv_partition.specs.CoreViews.{slots_of}
-use Rattle.fkv_partition.specs.CoreContexts.{relocating}
-use Rattle.fkv_partition.specs.Inside.{view_of}
+use Rattle.std.proofs.Common.{◌∙◌, ap, Some, refl, sym, arith}
+use Rattle.fkv_partition.specs.Views.{slots_of}
+use Rattle.fkv_partition.specs.Contexts.{relocating}
 use Rattle.fkv_partition.specs.Beginning.{Relocates}
 use Rattle.fkv_partition.proofs.ApartLemmas.{no-later, has-come}
 use Rattle.fkv_partition.proofs.KeepLemmas.{may-relocate}
@@ -10,35 +8,35 @@ use Rattle.fkv_partition.proofs.MoveLemmas.{event-set, open-free, free-keyless}
 use Rattle.fkv_partition.proofs.partitions.Partition.relocate.Goals as goal
 
 pub returns-then-not-is_session-clause-effect : goal.returns-then-not-is_session-clause-effect
-returns-then-not-is_session-clause-effect g c = rw (← c.self.view_is) (Relocates.unknown (sym c.is_session.ensures.value ∙ c.if-not-is_session.true) refl refl)
+returns-then-not-is_session-clause-effect g c = (Relocates.unknown (sym c.is_session.ensures.value ∙ c.if-not-is_session.true) refl refl)
 
 pub returns-then-target-view-clause-effect : goal.returns-then-target-view-clause-effect
 returns-then-target-view-clause-effect g c =
     let inside = sym c.is_session.ensures.value ∙ c.if-not-is_session.false in
-    rw (← c.self.view_is) (Relocates.not_due inside (rw (c.view-view.ensures.value, c.records.ensures) at c.if-target-view.true) refl refl)
+    (Relocates.not_due inside (rw (c.view-view.ensures.value, c.records.ensures, c.cleared-target.ensures) at c.if-target-view.true) refl refl)
 
 pub returns-in_default-clause-effect : goal.returns-in_default-clause-effect
 returns-in_default-clause-effect g c =
     let inside = sym c.is_session.ensures.value ∙ c.if-not-is_session.false in
-    let none = rw (← c.self.view_is) at c.in_default.ensures.value in
-    rw (← c.self.view_is) (Relocates.full inside (rw (c.view-view.ensures.value, c.records.ensures) at c.if-target-view.false) none refl refl)
+    let none = c.in_default.ensures.value in
+    (Relocates.full inside (rw (c.view-view.ensures.value, c.records.ensures, c.cleared-target.ensures) at c.if-target-view.false) none refl refl)
 
 pub begin_relocation-requires-clause-free : goal.begin_relocation-requires-clause-free
 begin_relocation-requires-clause-free g c = c.in-Some.ensures.value.1
 
 pub begin_relocation-requires-clause-stands : goal.begin_relocation-requires-clause-stands
 begin_relocation-requires-clause-stands g c =
-    let v = view_of c.self.inside.core c.self.inside.cleared in
+    let v = c.args.self.now in
     let agrees = rw c.records.ensures at c.view-view.ensures.agrees in
     let safe = agrees.safe in
-    let low = c.if-target-view.false in
-    rw (← c.self.view_is) (may-relocate g.R.Receipt.keeps g.F.Key.Ord.cmp g.F.Mergeable.parts.joined g.F.Functions.code v c.self.invariant c.known.ensures.traced (omega (arith, safe, low)) c.args.now)
+    let low = rw c.cleared-target.ensures at c.if-target-view.false in
+    rw c.cleared-target.ensures (may-relocate g.R.Receipt.keeps g.F.Key.Ord.cmp g.F.Mergeable.parts.joined g.F.Functions.code v c.known.ensures.compacting c.known.ensures.sound.traced (omega (arith, safe, low)) c.args.now)
 
 pub returns-clause-effect : goal.returns-clause-effect
 returns-clause-effect g c =
     let inside = sym c.is_session.ensures.value ∙ c.if-not-is_session.false in
-    let first = rw (← c.self.view_is) at c.in-Some.ensures.value in
-    rw (c.begin_relocation.ensures, ← c.self.view_is) (Relocates.relocates c.in-Some.context inside (rw (c.view-view.ensures.value, c.records.ensures) at c.if-target-view.false) first refl refl)
+    let first = c.in-Some.ensures.value in
+    rw (c.begin_relocation.ensures, c.cleared-target.ensures) (Relocates.relocates c.in-Some.context inside (rw (c.view-view.ensures.value, c.records.ensures, c.cleared-target.ensures) at c.if-target-view.false) first refl refl)
 
 pub returns-clause-event : goal.returns-clause-event
 returns-clause-event g c = rw c.begin_relocation.ensures (event-set g.R.Receipt.keeps g.F.Key.Ord.cmp c.args.self.now c.args.slot c.in-Some.context c.args.now c.in-Some.ensures.within (free-keyless c.args.self.now c.args.slot c.in-Some.context c.in-Some.ensures.value.1) (Some _))
@@ -53,7 +51,7 @@ pub first_free-requires-clause-session : goal.first_free-requires-clause-session
 first_free-requires-clause-session g c = c.is_session.ensures.within c.if-not-is_session.false
 
 pub first_free-requires-clause-entered : goal.first_free-requires-clause-entered
-first_free-requires-clause-entered g c = subst (λ u. IsEntered u.core c.args.slot) c.self.view_is (sym c.is_session.ensures.value ∙ c.if-not-is_session.false)
+first_free-requires-clause-entered g c = (sym c.is_session.ensures.value ∙ c.if-not-is_session.false)
 
 pub returns-in_default-clause-moment : goal.returns-in_default-clause-moment
 returns-in_default-clause-moment g c = no-later c.requires.later
@@ -62,13 +60,13 @@ pub begin_relocation-requires-clause-session : goal.begin_relocation-requires-cl
 begin_relocation-requires-clause-session g c = c.is_session.ensures.within c.if-not-is_session.false
 
 pub begin_relocation-requires-clause-entered : goal.begin_relocation-requires-clause-entered
-begin_relocation-requires-clause-entered g c = subst (λ u. IsEntered u.core c.args.slot) c.self.view_is (sym c.is_session.ensures.value ∙ c.if-not-is_session.false)
+begin_relocation-requires-clause-entered g c = (sym c.is_session.ensures.value ∙ c.if-not-is_session.false)
 
 pub returns-clause-within : goal.returns-clause-within
 returns-clause-within g c = (c.is_session.ensures.within c.if-not-is_session.false, c.in-Some.ensures.within)
 
 pub returns-clause-closed : goal.returns-clause-closed
-returns-clause-closed g c = ap relocating (open-free (slots_of c.args.self.now.core) c.args.self.now.core.contexts c.args.slot c.in-Some.context c.in-Some.ensures.value.1)
+returns-clause-closed g c = ap relocating (open-free (slots_of c.args.self.now) c.args.self.now.contexts c.args.slot c.in-Some.context c.in-Some.ensures.value.1)
 
 pub returns-clause-moment : goal.returns-clause-moment
 returns-clause-moment g c = has-come c.begin_relocation.ensures refl

@@ -25,7 +25,7 @@ returns-then-begin-clause-effect g c =
     let here = sym c.in-Some.ensures.value in
     let wanted = c.in-Some-awaited.wanted in
     let told = sym c.in-Some-awaited.is ∙ c.awaited.ensures in
-    let begins = c.begin.ensures ∙ ap (λ r. r.log.begin) c.records.ensures ∙ ap (λ u. u.core.records.log.begin) c.self.view_is in
+    let begins = c.begin.ensures ∙ ap (λ r. r.log.begin) c.records.ensures in
     LoadsOn.moved x (record { begin = c.in-Some-awaited.begin; wanted = wanted }) here (awaits-some v c.args.slot c.args.context x c.in-Some-awaited.begin wanted told) (λ e. c.if-begin.true (e ∙ sym begins)) c.set_stage.ensures refl
 
 pub returns-then-begin-clause-event : goal.returns-then-begin-clause-event
@@ -39,19 +39,19 @@ returns-then-is_no_memory-clause-effect g c =
     let here = sym c.in-Some.ensures.value in
     let wanted = c.in-Some-awaited.wanted in
     let told = sym c.in-Some-awaited.is ∙ c.awaited.ensures in
-    let begins = c.begin.ensures ∙ ap (λ r. r.log.begin) c.records.ensures ∙ ap (λ u. u.core.records.log.begin) c.self.view_is in
+    let begins = c.begin.ensures ∙ ap (λ r. r.log.begin) c.records.ensures in
     let a = awaits-page v c.args.slot c.args.context x c.in-Some-awaited.begin wanted here told (c.if-begin.false ∙ begins) in
     let is = c.is_no_memory.ensures.0 c.if-is_no_memory.true in
     LoadsOn.unread x wanted a (c.in-Err.is ∙ ap Err is) refl (ap Err is)
 
-pub receive-requires-clause-awaits : goal.receive-requires-clause-awaits
-receive-requires-clause-awaits g c =
+pub receive_place-requires-clause-awaits : goal.receive_place-requires-clause-awaits
+receive_place-requires-clause-awaits g c =
     let v = c.args.self.now in
     let x = c.in-Some.relocation in
     let here = sym c.in-Some.ensures.value in
     let wanted = c.in-Some-awaited.wanted in
     let told = sym c.in-Some-awaited.is ∙ c.awaited.ensures in
-    let begins = c.begin.ensures ∙ ap (λ r. r.log.begin) c.records.ensures ∙ ap (λ u. u.core.records.log.begin) c.self.view_is in
+    let begins = c.begin.ensures ∙ ap (λ r. r.log.begin) c.records.ensures in
     let a = awaits-page v c.args.slot c.args.context x c.in-Some-awaited.begin wanted here told (c.if-begin.false ∙ begins) in
     a
 
@@ -62,12 +62,12 @@ returns-else-is_no_memory-clause-effect g c =
     let here = sym c.in-Some.ensures.value in
     let wanted = c.in-Some-awaited.wanted in
     let told = sym c.in-Some-awaited.is ∙ c.awaited.ensures in
-    let begins = c.begin.ensures ∙ ap (λ r. r.log.begin) c.records.ensures ∙ ap (λ u. u.core.records.log.begin) c.self.view_is in
+    let begins = c.begin.ensures ∙ ap (λ r. r.log.begin) c.records.ensures in
     let a = awaits-page v c.args.slot c.args.context x c.in-Some-awaited.begin wanted here told (c.if-begin.false ∙ begins) in
     LoadsOn.failed x wanted c.in-Err.refused a c.in-Err.is (λ e. false≢true (sym c.if-is_no_memory.false ∙ c.is_no_memory.ensures.1 e)) c.end.ensures refl
 
 pub returns-in-Ok-clause-effect : goal.returns-in-Ok-clause-effect
-returns-in-Ok-clause-effect g c = subst (λ r. LoadsOn g.R.Receipt.stands (IsEntryIn g.F.Key.Fixed.codec g.F.Value.Fixed.codec) g.F.Key.Ord.cmp g.F.Mergeable.parts.joined g.F.Functions.code c.args.self.now c.receive.new.self c.args.slot c.args.context r c.args.now c.receive.result) (sym c.in-Ok.is) c.receive.ensures.effect
+returns-in-Ok-clause-effect g c = subst (λ r. LoadsOn g.R.Receipt.stands (IsEntryIn g.F.Key.Fixed.codec g.F.Value.Fixed.codec) g.F.Key.Ord.cmp g.F.Mergeable.parts.joined g.F.Functions.code c.args.self.now c.receive_place.new.self c.args.slot c.args.context r c.args.now c.receive_place.result) (sym c.in-Ok.is) c.receive_place.ensures.effect
 
 pub returns-in_default-clause-effect : goal.returns-in_default-clause-effect
 returns-in_default-clause-effect g c = LoadsOn.unknown (sym c.in_default.ensures.value) refl refl
@@ -103,10 +103,10 @@ pub returns-else-is_no_memory-clause-moment : goal.returns-else-is_no_memory-cla
 returns-else-is_no_memory-clause-moment g c = has-come c.end.ensures refl
 
 pub returns-in-Ok-clause-cleared : goal.returns-in-Ok-clause-cleared
-returns-in-Ok-clause-cleared g c = λ is. subst (λ o. IfSome o (λ x. x.target < c.receive.new.self.cleared)) c.in-Some.ensures.value (c.receive.ensures.cleared is)
+returns-in-Ok-clause-cleared g c = λ is. subst (λ o. IfSome o (λ x. x.target < c.receive_place.new.self.cleared)) c.in-Some.ensures.value (c.receive_place.ensures.cleared is)
 
 pub returns-in-Ok-clause-within : goal.returns-in-Ok-clause-within
-returns-in-Ok-clause-within g c = ok-all c.receive.result (c.in-Some.ensures.session, c.in-Some.ensures.context)
+returns-in-Ok-clause-within g c = ok-all c.receive_place.result (c.in-Some.ensures.session, c.in-Some.ensures.context)
 
 pub set_stage-requires-clause-session : goal.set_stage-requires-clause-session
 set_stage-requires-clause-session g c = c.in-Some.ensures.session
@@ -123,20 +123,20 @@ end-requires-clause-session g c = c.in-Some.ensures.session
 pub end-requires-clause-context : goal.end-requires-clause-context
 end-requires-clause-context g c = c.in-Some.ensures.context
 
-pub receive-requires-clause-later : goal.receive-requires-clause-later
-receive-requires-clause-later g c = c.requires.later
+pub receive_place-requires-clause-later : goal.receive_place-requires-clause-later
+receive_place-requires-clause-later g c = c.requires.later
 
-pub receive-requires-clause-session : goal.receive-requires-clause-session
-receive-requires-clause-session g c = c.in-Some.ensures.session
+pub receive_place-requires-clause-session : goal.receive_place-requires-clause-session
+receive_place-requires-clause-session g c = c.in-Some.ensures.session
 
-pub receive-requires-clause-context : goal.receive-requires-clause-context
-receive-requires-clause-context g c = c.in-Some.ensures.context
+pub receive_place-requires-clause-context : goal.receive_place-requires-clause-context
+receive_place-requires-clause-context g c = c.in-Some.ensures.context
 
 pub returns-in-Ok-clause-event : goal.returns-in-Ok-clause-event
-returns-in-Ok-clause-event g c = c.receive.ensures.event
+returns-in-Ok-clause-event g c = c.receive_place.ensures.event
 
 pub returns-in-Ok-clause-moment : goal.returns-in-Ok-clause-moment
-returns-in-Ok-clause-moment g c = c.receive.ensures.moment
+returns-in-Ok-clause-moment g c = c.receive_place.ensures.moment
 
 pub returns-then-begin-clause-within : goal.returns-then-begin-clause-within
 returns-then-begin-clause-within g c = (c.in-Some.ensures.session, c.in-Some.ensures.context)
@@ -157,4 +157,4 @@ pub returns-else-is_no_memory-clause-undamaged : goal.returns-else-is_no_memory-
 returns-else-is_no_memory-clause-undamaged g c = λ yes_keeps page is. c.in-Err.is ∙ err-as is
 
 pub returns-in-Ok-clause-undamaged : goal.returns-in-Ok-clause-undamaged
-returns-in-Ok-clause-undamaged g c = λ yes_keeps page is. absurd (c.receive.ensures.undamaged yes_keeps page is)
+returns-in-Ok-clause-undamaged g c = λ yes_keeps page is. absurd (c.receive_place.ensures.undamaged yes_keeps page is)

@@ -2,9 +2,8 @@ use Rattle.std.proofs.Common.{◌≢◌, ◌<◌, Some, refl, sym, ap, subst, �
 use Rattle.std.specs.Prelude.{IfSome}
 use Rattle.fkv_functions.proofs.KeyOrder.{key_order}
 use Rattle.fkv_records.specs.Places.{page_at}
-use Rattle.fkv_hybrid.specs.Loads.{HasReceipt, IsHeldBy}
-use Rattle.fkv_hybrid.specs.Scans.{MayFail}
-use Rattle.fkv_partition.specs.CoreLoading.{idle, came, failed}
+use Rattle.fkv_hybrid.specs.Loads.{IsHeldBy}
+use Rattle.fkv_partition.specs.KeyLoading.{idle, came, failed}
 use Rattle.fkv_partition.proofs.LoadLemmas.{counted-why}
 use Rattle.fkv_partition.specs.Reading.{LoadsOn}
 use Rattle.fkv_partition.specs.Views.{at_stage}
@@ -36,10 +35,9 @@ returns-then-begin-begins-clause-effect g c =
     let here = sym c.in-Some.ensures.value in
     let wanted = c.in-Some-awaited.wanted in
     let told = sym c.in-Some-awaited.is ∙ c.awaited.ensures in
-    let moved = ap (λ u. u.core.records) c.self.view_is in
-    let begins = c.begin-begins.ensures ∙ ap (λ r. r.log.begin) (c.records.ensures ∙ moved) in
+    let begins = c.begin-begins.ensures ∙ ap (λ r. r.log.begin) (c.records.ensures) in
     let waits = awaits-some v c.args.slot c.args.context x c.in-Some-awaited.begin wanted told in
-    let other : c.in-Some-awaited.begin ≢ v.core.records.log.begin = λ e. c.if-begin-begins.true (e ∙ sym begins) in
+    let other : c.in-Some-awaited.begin ≢ v.records.log.begin = λ e. c.if-begin-begins.true (e ∙ sym begins) in
     idle (waits-moved-on v c.args.slot c.args.context x c.in-Some-awaited.begin wanted here waits other)
     (λ handed. LoadsOn.moved x (record { begin = c.in-Some-awaited.begin; wanted = wanted }) here waits other c.set_stage.ensures refl) refl
 
@@ -57,12 +55,11 @@ read-requires g c =
     let here = sym c.in-Some.ensures.value in
     let wanted = c.in-Some-awaited.wanted in
     let told = sym c.in-Some-awaited.is ∙ c.awaited.ensures in
-    let moved = ap (λ u. u.core.records) c.self.view_is in
-    let begins = c.begin-begins.ensures ∙ ap (λ r. r.log.begin) (c.records.ensures ∙ moved) in
+    let begins = c.begin-begins.ensures ∙ ap (λ r. r.log.begin) (c.records.ensures) in
     let a = awaits-page v c.args.slot c.args.context x c.in-Some-awaited.begin wanted here told (c.if-begin-begins.false ∙ begins) in
-    let page = c.page_of-page.ensures ∙ ap (λ r. page_at r.log.bits wanted) (c.records-2.ensures ∙ moved) in
-    let there = awaited-flushed g.F.Key.Ord.cmp g.F.Mergeable.parts.joined g.F.Functions.code order v c.known.ensures.core c.known.ensures.compacting c.args.slot c.args.context x wanted a in
-    record { flushed = subst (λ r. HasReceipt r.log.receipts c.page_of-page.result) (sym moved) (rw page there) }
+    let page = c.page_of-page.ensures ∙ ap (λ r. page_at r.log.bits wanted) (c.records-2.ensures) in
+    let there = awaited-flushed g.F.Key.Ord.cmp g.F.Mergeable.parts.joined g.F.Functions.code order v c.known.ensures.sound c.known.ensures.compacting c.args.slot c.args.context x wanted a in
+    record { flushed = (rw page there) }
 
 pub read_on-requires-clause-has : goal.read_on-requires-clause-has
 read_on-requires-clause-has g c =
@@ -71,12 +68,11 @@ read_on-requires-clause-has g c =
     let here = sym c.in-Some.ensures.value in
     let wanted = c.in-Some-awaited.wanted in
     let told = sym c.in-Some-awaited.is ∙ c.awaited.ensures in
-    let moved = ap (λ u. u.core.records) c.self.view_is in
-    let begins = c.begin-begins.ensures ∙ ap (λ r. r.log.begin) (c.records.ensures ∙ moved) in
+    let begins = c.begin-begins.ensures ∙ ap (λ r. r.log.begin) (c.records.ensures) in
     let a = awaits-page v c.args.slot c.args.context x c.in-Some-awaited.begin wanted here told (c.if-begin-begins.false ∙ begins) in
-    let page = c.page_of-page.ensures ∙ ap (λ r. page_at r.log.bits wanted) (c.records-2.ensures ∙ moved) in
+    let page = c.page_of-page.ensures ∙ ap (λ r. page_at r.log.bits wanted) (c.records-2.ensures) in
     let st = g.R.Receipt.stands c.in-Ok.loaded.receipt in
-    let own = subst (λ n. IsHeldBy v.core.records.log.receipts n st) page (subst (λ r. IsHeldBy r.log.receipts c.page_of-page.result st) moved c.in-Ok.ensures.own) in
+    let own = subst (λ n. IsHeldBy v.records.log.receipts n st) page (c.in-Ok.ensures.own) in
     (wanted, record { awaits = a; own = own })
 
 pub returns-in-Err-clause-effect : goal.returns-in-Err-clause-effect
@@ -86,10 +82,9 @@ returns-in-Err-clause-effect g c =
     let here = sym c.in-Some.ensures.value in
     let wanted = c.in-Some-awaited.wanted in
     let told = sym c.in-Some-awaited.is ∙ c.awaited.ensures in
-    let moved = ap (λ u. u.core.records) c.self.view_is in
-    let begins = c.begin-begins.ensures ∙ ap (λ r. r.log.begin) (c.records.ensures ∙ moved) in
+    let begins = c.begin-begins.ensures ∙ ap (λ r. r.log.begin) (c.records.ensures) in
     let a = awaits-page v c.args.slot c.args.context x c.in-Some-awaited.begin wanted here told (c.if-begin-begins.false ∙ begins) in
-    let page = c.page_of-page.ensures ∙ ap (λ r. page_at r.log.bits wanted) (c.records-2.ensures ∙ moved) in
+    let page = c.page_of-page.ensures ∙ ap (λ r. page_at r.log.bits wanted) (c.records-2.ensures) in
     failed c.page_of-page.result c.in-Err.refused (record { relocation = x; wanted = wanted; awaits = a; page_is = page }) c.in-Err.ensures.counted refl refl
 
 pub returns-in-Ok-clause-effect : goal.returns-in-Ok-clause-effect
@@ -99,11 +94,10 @@ returns-in-Ok-clause-effect g c =
     let here = sym c.in-Some.ensures.value in
     let wanted = c.in-Some-awaited.wanted in
     let told = sym c.in-Some-awaited.is ∙ c.awaited.ensures in
-    let moved = ap (λ u. u.core.records) c.self.view_is in
-    let begins = c.begin-begins.ensures ∙ ap (λ r. r.log.begin) (c.records.ensures ∙ moved) in
+    let begins = c.begin-begins.ensures ∙ ap (λ r. r.log.begin) (c.records.ensures) in
     let a = awaits-page v c.args.slot c.args.context x c.in-Some-awaited.begin wanted here told (c.if-begin-begins.false ∙ begins) in
-    let page = c.page_of-page.ensures ∙ ap (λ r. page_at r.log.bits wanted) (c.records-2.ensures ∙ moved) in
-    let own = subst (λ r. IsHeldBy r.log.receipts c.page_of-page.result (g.R.Receipt.stands c.in-Ok.loaded.receipt)) moved c.in-Ok.ensures.own in
+    let page = c.page_of-page.ensures ∙ ap (λ r. page_at r.log.bits wanted) (c.records-2.ensures) in
+    let own = c.in-Ok.ensures.own in
     came c.page_of-page.result c.in-Ok.loaded (record { relocation = x; wanted = wanted; awaits = a; page_is = page }) own c.read_on.ensures.effect c.in-Ok.ensures.steady
 
 pub returns-in-Err-clause-unread : goal.returns-in-Err-clause-unread
@@ -113,10 +107,9 @@ returns-in-Err-clause-unread g c = λ none.
     let here = sym c.in-Some.ensures.value in
     let wanted = c.in-Some-awaited.wanted in
     let told = sym c.in-Some-awaited.is ∙ c.awaited.ensures in
-    let moved = ap (λ u. u.core.records) c.self.view_is in
-    let begins = c.begin-begins.ensures ∙ ap (λ r. r.log.begin) (c.records.ensures ∙ moved) in
+    let begins = c.begin-begins.ensures ∙ ap (λ r. r.log.begin) (c.records.ensures) in
     let a = awaits-page v c.args.slot c.args.context x c.in-Some-awaited.begin wanted here told (c.if-begin-begins.false ∙ begins) in
-    let page = c.page_of-page.ensures ∙ ap (λ r. page_at r.log.bits wanted) (c.records-2.ensures ∙ moved) in
+    let page = c.page_of-page.ensures ∙ ap (λ r. page_at r.log.bits wanted) (c.records-2.ensures) in
     absurd (none c.page_of-page.result (record { relocation = x; wanted = wanted; awaits = a; page_is = page }))
 
 pub returns-in-Ok-clause-unread : goal.returns-in-Ok-clause-unread
@@ -126,10 +119,9 @@ returns-in-Ok-clause-unread g c = λ none.
     let here = sym c.in-Some.ensures.value in
     let wanted = c.in-Some-awaited.wanted in
     let told = sym c.in-Some-awaited.is ∙ c.awaited.ensures in
-    let moved = ap (λ u. u.core.records) c.self.view_is in
-    let begins = c.begin-begins.ensures ∙ ap (λ r. r.log.begin) (c.records.ensures ∙ moved) in
+    let begins = c.begin-begins.ensures ∙ ap (λ r. r.log.begin) (c.records.ensures) in
     let a = awaits-page v c.args.slot c.args.context x c.in-Some-awaited.begin wanted here told (c.if-begin-begins.false ∙ begins) in
-    let page = c.page_of-page.ensures ∙ ap (λ r. page_at r.log.bits wanted) (c.records-2.ensures ∙ moved) in
+    let page = c.page_of-page.ensures ∙ ap (λ r. page_at r.log.bits wanted) (c.records-2.ensures) in
     absurd (none c.page_of-page.result (record { relocation = x; wanted = wanted; awaits = a; page_is = page }))
 
 pub returns-in_default-clause-caused : goal.returns-in_default-clause-caused
@@ -142,12 +134,10 @@ pub returns-then-begin-begins-clause-caused : goal.returns-then-begin-begins-cla
 returns-then-begin-begins-clause-caused g c = λ other. absurd (other refl)
 
 pub returns-in-Err-clause-caused : goal.returns-in-Err-clause-caused
-returns-in-Err-clause-caused g c = λ other.
-    let moved = ap (λ u. u.core.records) c.self.view_is in (
-      c.page_of-page.result,
-      subst (λ r. MayFail g.R.Receipt.stands g.P.PageReader.can_fail r.log.receipts r.log.bits c.page_of-page.result) moved
-          (c.in-Err.ensures.caused (counted-why c.in-Err.refused c.in-Err.ensures.counted other)),
-    )
+returns-in-Err-clause-caused g c = λ other. (
+  c.page_of-page.result,
+  (c.in-Err.ensures.caused (counted-why c.in-Err.refused c.in-Err.ensures.counted other)),
+)
 
 pub returns-in-Ok-clause-caused : goal.returns-in-Ok-clause-caused
 returns-in-Ok-clause-caused g c = λ other. absurd (other c.in-Ok.ensures.steady)

@@ -24,7 +24,7 @@ returns-then-begin-begins-clause-effect g c =
     let here = sym c.in-Some.ensures.value in
     let wanted = c.in-Some-awaited._wanted in
     let told = sym c.in-Some-awaited.is ∙ c.awaited.ensures in
-    let begins = c.begin-begins.ensures ∙ ap (λ r. r.log.begin) c.records.ensures ∙ ap (λ u. u.core.records.log.begin) c.self.view_is in
+    let begins = c.begin-begins.ensures ∙ ap (λ r. r.log.begin) c.records.ensures in
     LoadsOn.moved x (record { begin = c.in-Some-awaited.begin; wanted = wanted }) here (awaits-some v c.args.slot c.args.context x c.in-Some-awaited.begin wanted told) (λ e. c.if-begin-begins.true (e ∙ sym begins)) c.set_stage.ensures refl
 
 pub returns-then-begin-begins-clause-event : goal.returns-then-begin-begins-clause-event
@@ -71,7 +71,7 @@ read_on-requires-clause-has g c =
     let here = sym c.in-Some.ensures.value in
     let wanted = c.in-Some-awaited._wanted in
     let told = sym c.in-Some-awaited.is ∙ c.awaited.ensures in
-    let begins = c.begin-begins.ensures ∙ ap (λ r. r.log.begin) c.records.ensures ∙ ap (λ u. u.core.records.log.begin) c.self.view_is in
+    let begins = c.begin-begins.ensures ∙ ap (λ r. r.log.begin) c.records.ensures in
     let a = awaits-page v c.args.slot c.args.context x c.in-Some-awaited.begin wanted here told (c.if-begin-begins.false ∙ begins) in
     (wanted, record { awaits = a; own = c.requires.own _ (record { relocation = x; wanted = wanted; awaits = a; page_is = refl }) })
 

@@ -27,20 +27,18 @@ first_of-requires-whole g c κs =
     let x = c.args.relocation.now in
     let a = c.requires.has.awaits in
     let p = c.args.loaded.now in
-    let sound = c.known.ensures.core in
+    let sound = c.known.ensures.sound in
     let s = c.known.ensures.compacting in
     let e = c.args.entry in
     let l = c.args.loading in
     let at = c.requires.traces in
     let there = way-flushed g.F.Key.Ord.cmp g.F.Mergeable.parts.joined g.F.Functions.code order v sound s c.args.slot c.args.context x e l a at in
-    let moved = ap (λ u. u.core.records) c.self.view_is in
     with_six (
-    receipt-within _ _ (page-within l.wanted c.page_of-page.ensures (c.records.ensures ∙ moved) (c.records-2.ensures ∙ moved) there))
+    receipt-within _ _ (page-within l.wanted c.page_of-page.ensures (c.records.ensures) (c.records-2.ensures) there))
 
 pub trace_in-requires-clause-own : goal.trace_in-requires-clause-own
 trace_in-requires-clause-own g c =
-    let moved = ap (λ u. u.core.records) c.self.view_is in
-    subst (λ r. IsHeldBy r.log.receipts (page_at r.log.bits c.args.loading.wanted) (g.R.Receipt.stands c.args.loaded.now.receipt)) (sym (c.records-3.ensures ∙ moved)) c.requires.has.own
+    subst (λ r. IsHeldBy r.log.receipts (page_at r.log.bits c.args.loading.wanted) (g.R.Receipt.stands c.args.loaded.now.receipt)) (sym (c.records-3.ensures)) c.requires.has.own
 
 pub trace_in-requires-clause-floor : goal.trace_in-requires-clause-floor
 trace_in-requires-clause-floor g c =
@@ -57,14 +55,13 @@ returns-in-Err-clause-effect g c =
     let x = c.args.relocation.now in
     let a = c.requires.has.awaits in
     let p = c.args.loaded.now in
-    let sound = c.known.ensures.core in
+    let sound = c.known.ensures.sound in
     let s = c.known.ensures.compacting in
     let e = c.args.entry in
     let l = c.args.loading in
     let at = c.requires.traces in
-    let moved = ap (λ u. u.core.records) c.self.view_is in
-    let came = page-came g.R.Receipt.keeps (IsEntryIn g.F.Key.Fixed.codec g.F.Value.Fixed.codec) g.F.Key.Ord.cmp g.F.Mergeable.parts.joined g.F.Functions.code c.records.result.now c.records-2.result.now c.records-3.result.now v.core.records x.target e.key c.page_of-page.result c.higher_of-low.result l (g.R.Receipt.stands p.receipt) p.bytes c.trace_in.result (c.records.ensures ∙ moved) (c.records-2.ensures ∙ moved) (c.records-3.ensures ∙ moved) c.page_of-page.ensures (c.higher_of-low.ensures.value ∙ ap (higher_of (x.target + 1)) c.first_of.ensures) c.requires.has.own c.trace_in.ensures.read c.trace_in.ensures.kept in
-    let page = c.page_of-page.ensures ∙ ap (λ r. page_at r.log.bits l.wanted) (c.records.ensures ∙ moved) in
+    let came = page-came g.R.Receipt.keeps (IsEntryIn g.F.Key.Fixed.codec g.F.Value.Fixed.codec) g.F.Key.Ord.cmp g.F.Mergeable.parts.joined g.F.Functions.code c.records.result.now c.records-2.result.now c.records-3.result.now v.records x.target e.key c.page_of-page.result c.higher_of-low.result l (g.R.Receipt.stands p.receipt) p.bytes c.trace_in.result (c.records.ensures) (c.records-2.ensures) (c.records-3.ensures) c.page_of-page.ensures (c.higher_of-low.ensures.value ∙ ap (higher_of (x.target + 1)) c.first_of.ensures) c.requires.has.own c.trace_in.ensures.read c.trace_in.ensures.kept in
+    let page = c.page_of-page.ensures ∙ ap (λ r. page_at r.log.bits l.wanted) (c.records.ensures) in
     let is = c.in-Err.is in
     LoadsOn.bad_record x e l p c.in-Err._damaged at (has-page g.F.Key.Ord.cmp g.F.Mergeable.parts.joined g.F.Functions.code order v sound s c.args.slot c.args.context x e l a at (IsEntryIn g.F.Key.Fixed.codec g.F.Value.Fixed.codec) (g.R.Receipt.stands p.receipt) p.bytes c.trace_in.result came) refl (traces-to g.F.Key.Ord.cmp g.F.Mergeable.parts.joined g.F.Functions.code order v sound s c.args.slot c.args.context x e l a at (IsEntryIn g.F.Key.Fixed.codec g.F.Value.Fixed.codec) (g.R.Receipt.stands p.receipt) p.bytes c.trace_in.result came (Err c.in-Err._damaged) is) c.end.ensures (ap (λ n. Err (Damaged n)) page)
 
@@ -90,12 +87,12 @@ finish-requires-clause-low g c =
     let x = c.args.relocation.now in
     let a = c.requires.has.awaits in
     let p = c.args.loaded.now in
-    let sound = c.known.ensures.core in
+    let sound = c.known.ensures.sound in
     let s = c.known.ensures.compacting in
     let e = c.args.entry in
     let l = c.args.loading in
     let at = c.requires.traces in
-    frozen-low v.core.records x.target sound.traced (stands-here v c.args.slot c.args.context x a.here s).frozen
+    frozen-low v.records x.target sound.traced (stands-here v c.args.slot c.args.context x a.here s).frozen
 
 pub finish-requires-clause-superseded : goal.finish-requires-clause-superseded
 finish-requires-clause-superseded g c =
@@ -106,13 +103,12 @@ finish-requires-clause-superseded g c =
     let x = c.args.relocation.now in
     let a = c.requires.has.awaits in
     let p = c.args.loaded.now in
-    let sound = c.known.ensures.core in
+    let sound = c.known.ensures.sound in
     let s = c.known.ensures.compacting in
     let e = c.args.entry in
     let l = c.args.loading in
     let at = c.requires.traces in
-    let moved = ap (λ u. u.core.records) c.self.view_is in
-    let came = page-came g.R.Receipt.keeps (IsEntryIn g.F.Key.Fixed.codec g.F.Value.Fixed.codec) g.F.Key.Ord.cmp g.F.Mergeable.parts.joined g.F.Functions.code c.records.result.now c.records-2.result.now c.records-3.result.now v.core.records x.target e.key c.page_of-page.result c.higher_of-low.result l (g.R.Receipt.stands p.receipt) p.bytes c.trace_in.result (c.records.ensures ∙ moved) (c.records-2.ensures ∙ moved) (c.records-3.ensures ∙ moved) c.page_of-page.ensures (c.higher_of-low.ensures.value ∙ ap (higher_of (x.target + 1)) c.first_of.ensures) c.requires.has.own c.trace_in.ensures.read c.trace_in.ensures.kept in
+    let came = page-came g.R.Receipt.keeps (IsEntryIn g.F.Key.Fixed.codec g.F.Value.Fixed.codec) g.F.Key.Ord.cmp g.F.Mergeable.parts.joined g.F.Functions.code c.records.result.now c.records-2.result.now c.records-3.result.now v.records x.target e.key c.page_of-page.result c.higher_of-low.result l (g.R.Receipt.stands p.receipt) p.bytes c.trace_in.result (c.records.ensures) (c.records-2.ensures) (c.records-3.ensures) c.page_of-page.ensures (c.higher_of-low.ensures.value ∙ ap (higher_of (x.target + 1)) c.first_of.ensures) c.requires.has.own c.trace_in.ensures.read c.trace_in.ensures.kept in
     let r = c.in-Ok.came in
     let is = c.in-Ok.is in
     let j = sym c.liveness_of.ensures ∙ c.in-Superseded.is in
@@ -127,17 +123,16 @@ append_again-requires-clause-stands g c =
     let x = c.args.relocation.now in
     let a = c.requires.has.awaits in
     let p = c.args.loaded.now in
-    let sound = c.known.ensures.core in
+    let sound = c.known.ensures.sound in
     let s = c.known.ensures.compacting in
     let e = c.args.entry in
     let l = c.args.loading in
     let at = c.requires.traces in
-    let moved = ap (λ u. u.core.records) c.self.view_is in
-    let came = page-came g.R.Receipt.keeps (IsEntryIn g.F.Key.Fixed.codec g.F.Value.Fixed.codec) g.F.Key.Ord.cmp g.F.Mergeable.parts.joined g.F.Functions.code c.records.result.now c.records-2.result.now c.records-3.result.now v.core.records x.target e.key c.page_of-page.result c.higher_of-low.result l (g.R.Receipt.stands p.receipt) p.bytes c.trace_in.result (c.records.ensures ∙ moved) (c.records-2.ensures ∙ moved) (c.records-3.ensures ∙ moved) c.page_of-page.ensures (c.higher_of-low.ensures.value ∙ ap (higher_of (x.target + 1)) c.first_of.ensures) c.requires.has.own c.trace_in.ensures.read c.trace_in.ensures.kept in
+    let came = page-came g.R.Receipt.keeps (IsEntryIn g.F.Key.Fixed.codec g.F.Value.Fixed.codec) g.F.Key.Ord.cmp g.F.Mergeable.parts.joined g.F.Functions.code c.records.result.now c.records-2.result.now c.records-3.result.now v.records x.target e.key c.page_of-page.result c.higher_of-low.result l (g.R.Receipt.stands p.receipt) p.bytes c.trace_in.result (c.records.ensures) (c.records-2.ensures) (c.records-3.ensures) c.page_of-page.ensures (c.higher_of-low.ensures.value ∙ ap (higher_of (x.target + 1)) c.first_of.ensures) c.requires.has.own c.trace_in.ensures.read c.trace_in.ensures.kept in
     let r = c.in-Ok.came in
     let is = c.in-Ok.is in
     let j = sym c.liveness_of.ensures ∙ c.in-Last.is in
-    subst (λ q. StageStands g.R.Receipt.keeps g.F.Key.Ord.cmp g.F.Mergeable.parts.joined g.F.Functions.code v.core x.target (Ready q l.kept)) (sym c.renewed-whole.ensures)
+    subst (λ q. StageStands g.R.Receipt.keeps g.F.Key.Ord.cmp g.F.Mergeable.parts.joined g.F.Functions.code v x.target (Ready q l.kept)) (sym c.renewed-whole.ensures)
     (way-last g.F.Key.Ord.cmp g.F.Mergeable.parts.joined g.F.Functions.code order v sound s c.args.slot c.args.context x e l a at (IsEntryIn g.F.Key.Fixed.codec g.F.Value.Fixed.codec) (g.R.Receipt.stands p.receipt) p.bytes c.trace_in.result came r c.in-Last.parts is j)
 
 pub returns-then-not-is_record_start-clause-effect : goal.returns-then-not-is_record_start-clause-effect
@@ -149,20 +144,19 @@ returns-then-not-is_record_start-clause-effect g c =
     let x = c.args.relocation.now in
     let a = c.requires.has.awaits in
     let p = c.args.loaded.now in
-    let sound = c.known.ensures.core in
+    let sound = c.known.ensures.sound in
     let s = c.known.ensures.compacting in
     let e = c.args.entry in
     let l = c.args.loading in
     let at = c.requires.traces in
-    let moved = ap (λ u. u.core.records) c.self.view_is in
-    let came = page-came g.R.Receipt.keeps (IsEntryIn g.F.Key.Fixed.codec g.F.Value.Fixed.codec) g.F.Key.Ord.cmp g.F.Mergeable.parts.joined g.F.Functions.code c.records.result.now c.records-2.result.now c.records-3.result.now v.core.records x.target e.key c.page_of-page.result c.higher_of-low.result l (g.R.Receipt.stands p.receipt) p.bytes c.trace_in.result (c.records.ensures ∙ moved) (c.records-2.ensures ∙ moved) (c.records-3.ensures ∙ moved) c.page_of-page.ensures (c.higher_of-low.ensures.value ∙ ap (higher_of (x.target + 1)) c.first_of.ensures) c.requires.has.own c.trace_in.ensures.read c.trace_in.ensures.kept in
-    let page = c.page_of-page.ensures ∙ ap (λ r. page_at r.log.bits l.wanted) (c.records.ensures ∙ moved) in
+    let came = page-came g.R.Receipt.keeps (IsEntryIn g.F.Key.Fixed.codec g.F.Value.Fixed.codec) g.F.Key.Ord.cmp g.F.Mergeable.parts.joined g.F.Functions.code c.records.result.now c.records-2.result.now c.records-3.result.now v.records x.target e.key c.page_of-page.result c.higher_of-low.result l (g.R.Receipt.stands p.receipt) p.bytes c.trace_in.result (c.records.ensures) (c.records-2.ensures) (c.records-3.ensures) c.page_of-page.ensures (c.higher_of-low.ensures.value ∙ ap (higher_of (x.target + 1)) c.first_of.ensures) c.requires.has.own c.trace_in.ensures.read c.trace_in.ensures.kept in
+    let page = c.page_of-page.ensures ∙ ap (λ r. page_at r.log.bits l.wanted) (c.records.ensures) in
     let r = c.in-Ok.came in
     let is = c.in-Ok.is in
     let b = c.in-Further.address in
     let j = sym c.liveness_of.ensures ∙ c.in-Further.is in
     LoadsOn.bad_link x e l p b c.in-Further.parts at (has-page g.F.Key.Ord.cmp g.F.Mergeable.parts.joined g.F.Functions.code order v sound s c.args.slot c.args.context x e l a at (IsEntryIn g.F.Key.Fixed.codec g.F.Value.Fixed.codec) (g.R.Receipt.stands p.receipt) p.bytes c.trace_in.result came) refl (way-below g.F.Key.Ord.cmp g.F.Mergeable.parts.joined g.F.Functions.code order v sound s c.args.slot c.args.context x e l a at (IsEntryIn g.F.Key.Fixed.codec g.F.Value.Fixed.codec) (g.R.Receipt.stands p.receipt) p.bytes c.trace_in.result came r b c.in-Further.parts is j) (above-place g.F.Key.Ord.cmp g.F.Mergeable.parts.joined g.F.Functions.code order v sound s c.args.slot c.args.context x e l a at (IsEntryIn g.F.Key.Fixed.codec g.F.Value.Fixed.codec) (g.R.Receipt.stands p.receipt) p.bytes c.trace_in.result came r b c.in-Further.parts is j)
-    (λ place. false≢true (sym c.if-not-is_record_start.true ∙ c.is_record_start.ensures.1 (subst (λ r. IsRecordStart r.log.bits r.record_size b) (sym (c.records-in-Further.ensures ∙ moved)) place))) c.end-then-not-is_record_start.ensures (ap (λ n. Err (Damaged n)) page)
+    (λ place. false≢true (sym c.if-not-is_record_start.true ∙ c.is_record_start.ensures.1 (subst (λ r. IsRecordStart r.log.bits r.record_size b) (sym (c.records-in-Further.ensures)) place))) c.end-then-not-is_record_start.ensures (ap (λ n. Err (Damaged n)) page)
 
 pub ask-requires-clause-flushed : goal.ask-requires-clause-flushed
 ask-requires-clause-flushed g c =
@@ -173,13 +167,12 @@ ask-requires-clause-flushed g c =
     let x = c.args.relocation.now in
     let a = c.requires.has.awaits in
     let p = c.args.loaded.now in
-    let sound = c.known.ensures.core in
+    let sound = c.known.ensures.sound in
     let s = c.known.ensures.compacting in
     let e = c.args.entry in
     let l = c.args.loading in
     let at = c.requires.traces in
-    let moved = ap (λ u. u.core.records) c.self.view_is in
-    let came = page-came g.R.Receipt.keeps (IsEntryIn g.F.Key.Fixed.codec g.F.Value.Fixed.codec) g.F.Key.Ord.cmp g.F.Mergeable.parts.joined g.F.Functions.code c.records.result.now c.records-2.result.now c.records-3.result.now v.core.records x.target e.key c.page_of-page.result c.higher_of-low.result l (g.R.Receipt.stands p.receipt) p.bytes c.trace_in.result (c.records.ensures ∙ moved) (c.records-2.ensures ∙ moved) (c.records-3.ensures ∙ moved) c.page_of-page.ensures (c.higher_of-low.ensures.value ∙ ap (higher_of (x.target + 1)) c.first_of.ensures) c.requires.has.own c.trace_in.ensures.read c.trace_in.ensures.kept in
+    let came = page-came g.R.Receipt.keeps (IsEntryIn g.F.Key.Fixed.codec g.F.Value.Fixed.codec) g.F.Key.Ord.cmp g.F.Mergeable.parts.joined g.F.Functions.code c.records.result.now c.records-2.result.now c.records-3.result.now v.records x.target e.key c.page_of-page.result c.higher_of-low.result l (g.R.Receipt.stands p.receipt) p.bytes c.trace_in.result (c.records.ensures) (c.records-2.ensures) (c.records-3.ensures) c.page_of-page.ensures (c.higher_of-low.ensures.value ∙ ap (higher_of (x.target + 1)) c.first_of.ensures) c.requires.has.own c.trace_in.ensures.read c.trace_in.ensures.kept in
     let r = c.in-Ok.came in
     let is = c.in-Ok.is in
     let b = c.in-Further.address in
@@ -195,13 +188,12 @@ ask-requires-clause-stands g c =
     let x = c.args.relocation.now in
     let a = c.requires.has.awaits in
     let p = c.args.loaded.now in
-    let sound = c.known.ensures.core in
+    let sound = c.known.ensures.sound in
     let s = c.known.ensures.compacting in
     let e = c.args.entry in
     let l = c.args.loading in
     let at = c.requires.traces in
-    let moved = ap (λ u. u.core.records) c.self.view_is in
-    let came = page-came g.R.Receipt.keeps (IsEntryIn g.F.Key.Fixed.codec g.F.Value.Fixed.codec) g.F.Key.Ord.cmp g.F.Mergeable.parts.joined g.F.Functions.code c.records.result.now c.records-2.result.now c.records-3.result.now v.core.records x.target e.key c.page_of-page.result c.higher_of-low.result l (g.R.Receipt.stands p.receipt) p.bytes c.trace_in.result (c.records.ensures ∙ moved) (c.records-2.ensures ∙ moved) (c.records-3.ensures ∙ moved) c.page_of-page.ensures (c.higher_of-low.ensures.value ∙ ap (higher_of (x.target + 1)) c.first_of.ensures) c.requires.has.own c.trace_in.ensures.read c.trace_in.ensures.kept in
+    let came = page-came g.R.Receipt.keeps (IsEntryIn g.F.Key.Fixed.codec g.F.Value.Fixed.codec) g.F.Key.Ord.cmp g.F.Mergeable.parts.joined g.F.Functions.code c.records.result.now c.records-2.result.now c.records-3.result.now v.records x.target e.key c.page_of-page.result c.higher_of-low.result l (g.R.Receipt.stands p.receipt) p.bytes c.trace_in.result (c.records.ensures) (c.records-2.ensures) (c.records-3.ensures) c.page_of-page.ensures (c.higher_of-low.ensures.value ∙ ap (higher_of (x.target + 1)) c.first_of.ensures) c.requires.has.own c.trace_in.ensures.read c.trace_in.ensures.kept in
     let r = c.in-Ok.came in
     let is = c.in-Ok.is in
     let b = c.in-Further.address in
@@ -217,13 +209,12 @@ returns-in-Superseded-clause-effect g c =
     let x = c.args.relocation.now in
     let a = c.requires.has.awaits in
     let p = c.args.loaded.now in
-    let sound = c.known.ensures.core in
+    let sound = c.known.ensures.sound in
     let s = c.known.ensures.compacting in
     let e = c.args.entry in
     let l = c.args.loading in
     let at = c.requires.traces in
-    let moved = ap (λ u. u.core.records) c.self.view_is in
-    let came = page-came g.R.Receipt.keeps (IsEntryIn g.F.Key.Fixed.codec g.F.Value.Fixed.codec) g.F.Key.Ord.cmp g.F.Mergeable.parts.joined g.F.Functions.code c.records.result.now c.records-2.result.now c.records-3.result.now v.core.records x.target e.key c.page_of-page.result c.higher_of-low.result l (g.R.Receipt.stands p.receipt) p.bytes c.trace_in.result (c.records.ensures ∙ moved) (c.records-2.ensures ∙ moved) (c.records-3.ensures ∙ moved) c.page_of-page.ensures (c.higher_of-low.ensures.value ∙ ap (higher_of (x.target + 1)) c.first_of.ensures) c.requires.has.own c.trace_in.ensures.read c.trace_in.ensures.kept in
+    let came = page-came g.R.Receipt.keeps (IsEntryIn g.F.Key.Fixed.codec g.F.Value.Fixed.codec) g.F.Key.Ord.cmp g.F.Mergeable.parts.joined g.F.Functions.code c.records.result.now c.records-2.result.now c.records-3.result.now v.records x.target e.key c.page_of-page.result c.higher_of-low.result l (g.R.Receipt.stands p.receipt) p.bytes c.trace_in.result (c.records.ensures) (c.records-2.ensures) (c.records-3.ensures) c.page_of-page.ensures (c.higher_of-low.ensures.value ∙ ap (higher_of (x.target + 1)) c.first_of.ensures) c.requires.has.own c.trace_in.ensures.read c.trace_in.ensures.kept in
     let r = c.in-Ok.came in
     let is = c.in-Ok.is in
     let j = sym c.liveness_of.ensures ∙ c.in-Superseded.is in
@@ -235,7 +226,7 @@ returns-in-Superseded-clause-event g c =
     let x = c.args.relocation.now in
     let a = c.requires.has.awaits in
     let p = c.args.loaded.now in
-    let sound = c.known.ensures.core in
+    let sound = c.known.ensures.sound in
     let s = c.known.ensures.compacting in
     let e = c.args.entry in
     let l = c.args.loading in
@@ -249,7 +240,7 @@ returns-in-Superseded-clause-cleared g c =
     let x = c.args.relocation.now in
     let a = c.requires.has.awaits in
     let p = c.args.loaded.now in
-    let sound = c.known.ensures.core in
+    let sound = c.known.ensures.sound in
     let s = c.known.ensures.compacting in
     let e = c.args.entry in
     let l = c.args.loading in
@@ -266,13 +257,12 @@ returns-in-Last-clause-effect g c =
     let x = c.args.relocation.now in
     let a = c.requires.has.awaits in
     let p = c.args.loaded.now in
-    let sound = c.known.ensures.core in
+    let sound = c.known.ensures.sound in
     let s = c.known.ensures.compacting in
     let e = c.args.entry in
     let l = c.args.loading in
     let at = c.requires.traces in
-    let moved = ap (λ u. u.core.records) c.self.view_is in
-    let came = page-came g.R.Receipt.keeps (IsEntryIn g.F.Key.Fixed.codec g.F.Value.Fixed.codec) g.F.Key.Ord.cmp g.F.Mergeable.parts.joined g.F.Functions.code c.records.result.now c.records-2.result.now c.records-3.result.now v.core.records x.target e.key c.page_of-page.result c.higher_of-low.result l (g.R.Receipt.stands p.receipt) p.bytes c.trace_in.result (c.records.ensures ∙ moved) (c.records-2.ensures ∙ moved) (c.records-3.ensures ∙ moved) c.page_of-page.ensures (c.higher_of-low.ensures.value ∙ ap (higher_of (x.target + 1)) c.first_of.ensures) c.requires.has.own c.trace_in.ensures.read c.trace_in.ensures.kept in
+    let came = page-came g.R.Receipt.keeps (IsEntryIn g.F.Key.Fixed.codec g.F.Value.Fixed.codec) g.F.Key.Ord.cmp g.F.Mergeable.parts.joined g.F.Functions.code c.records.result.now c.records-2.result.now c.records-3.result.now v.records x.target e.key c.page_of-page.result c.higher_of-low.result l (g.R.Receipt.stands p.receipt) p.bytes c.trace_in.result (c.records.ensures) (c.records-2.ensures) (c.records-3.ensures) c.page_of-page.ensures (c.higher_of-low.ensures.value ∙ ap (higher_of (x.target + 1)) c.first_of.ensures) c.requires.has.own c.trace_in.ensures.read c.trace_in.ensures.kept in
     let r = c.in-Ok.came in
     let is = c.in-Ok.is in
     let j = sym c.liveness_of.ensures ∙ c.in-Last.is in
@@ -287,24 +277,23 @@ returns-else-not-is_record_start-clause-effect g c =
     let x = c.args.relocation.now in
     let a = c.requires.has.awaits in
     let p = c.args.loaded.now in
-    let sound = c.known.ensures.core in
+    let sound = c.known.ensures.sound in
     let s = c.known.ensures.compacting in
     let e = c.args.entry in
     let l = c.args.loading in
     let at = c.requires.traces in
-    let moved = ap (λ u. u.core.records) c.self.view_is in
-    let came = page-came g.R.Receipt.keeps (IsEntryIn g.F.Key.Fixed.codec g.F.Value.Fixed.codec) g.F.Key.Ord.cmp g.F.Mergeable.parts.joined g.F.Functions.code c.records.result.now c.records-2.result.now c.records-3.result.now v.core.records x.target e.key c.page_of-page.result c.higher_of-low.result l (g.R.Receipt.stands p.receipt) p.bytes c.trace_in.result (c.records.ensures ∙ moved) (c.records-2.ensures ∙ moved) (c.records-3.ensures ∙ moved) c.page_of-page.ensures (c.higher_of-low.ensures.value ∙ ap (higher_of (x.target + 1)) c.first_of.ensures) c.requires.has.own c.trace_in.ensures.read c.trace_in.ensures.kept in
+    let came = page-came g.R.Receipt.keeps (IsEntryIn g.F.Key.Fixed.codec g.F.Value.Fixed.codec) g.F.Key.Ord.cmp g.F.Mergeable.parts.joined g.F.Functions.code c.records.result.now c.records-2.result.now c.records-3.result.now v.records x.target e.key c.page_of-page.result c.higher_of-low.result l (g.R.Receipt.stands p.receipt) p.bytes c.trace_in.result (c.records.ensures) (c.records-2.ensures) (c.records-3.ensures) c.page_of-page.ensures (c.higher_of-low.ensures.value ∙ ap (higher_of (x.target + 1)) c.first_of.ensures) c.requires.has.own c.trace_in.ensures.read c.trace_in.ensures.kept in
     let r = c.in-Ok.came in
     let is = c.in-Ok.is in
     let b = c.in-Further.address in
     let j = sym c.liveness_of.ensures ∙ c.in-Further.is in
-    let place = subst (λ r. IsRecordStart r.log.bits r.record_size b) (c.records-in-Further.ensures ∙ moved) (c.is_record_start.ensures.0 c.if-not-is_record_start.false) in
+    let place = subst (λ r. IsRecordStart r.log.bits r.record_size b) (c.records-in-Further.ensures) (c.is_record_start.ensures.0 c.if-not-is_record_start.false) in
     LoadsOn.further x e l p b c.in-Further.parts at (has-page g.F.Key.Ord.cmp g.F.Mergeable.parts.joined g.F.Functions.code order v sound s c.args.slot c.args.context x e l a at (IsEntryIn g.F.Key.Fixed.codec g.F.Value.Fixed.codec) (g.R.Receipt.stands p.receipt) p.bytes c.trace_in.result came) refl (way-below g.F.Key.Ord.cmp g.F.Mergeable.parts.joined g.F.Functions.code order v sound s c.args.slot c.args.context x e l a at (IsEntryIn g.F.Key.Fixed.codec g.F.Value.Fixed.codec) (g.R.Receipt.stands p.receipt) p.bytes c.trace_in.result came r b c.in-Further.parts is j) (above-place g.F.Key.Ord.cmp g.F.Mergeable.parts.joined g.F.Functions.code order v sound s c.args.slot c.args.context x e l a at (IsEntryIn g.F.Key.Fixed.codec g.F.Value.Fixed.codec) (g.R.Receipt.stands p.receipt) p.bytes c.trace_in.result came r b c.in-Further.parts is j) place c.ask.ensures.effect
 
 pub overflow_add-target : goal.overflow_add-target
 overflow_add-target g c =
     let frozen = (stands-here c.args.self.now c.args.slot c.args.context c.args.relocation.now c.requires.has.awaits.here c.known.ensures.compacting).frozen in
-    let regions = c.known.ensures.core.traced.regions.agree in
+    let regions = c.known.ensures.sound.traced.regions.agree in
     let safe = regions.in_order.safe in
     let most = regions.in_order.most in
     omega (arith, frozen, safe, most)
@@ -393,13 +382,12 @@ returns-in-Err-clause-undamaged g c = λ yes_keeps page told.
     let x = c.args.relocation.now in
     let a = c.requires.has.awaits in
     let p = c.args.loaded.now in
-    let sound = c.known.ensures.core in
+    let sound = c.known.ensures.sound in
     let s = c.known.ensures.compacting in
     let e = c.args.entry in
     let l = c.args.loading in
     let at = c.requires.traces in
-    let moved = ap (λ u. u.core.records) c.self.view_is in
-    let came = page-came g.R.Receipt.keeps (IsEntryIn g.F.Key.Fixed.codec g.F.Value.Fixed.codec) g.F.Key.Ord.cmp g.F.Mergeable.parts.joined g.F.Functions.code c.records.result.now c.records-2.result.now c.records-3.result.now v.core.records x.target e.key c.page_of-page.result c.higher_of-low.result l (g.R.Receipt.stands p.receipt) p.bytes c.trace_in.result (c.records.ensures ∙ moved) (c.records-2.ensures ∙ moved) (c.records-3.ensures ∙ moved) c.page_of-page.ensures (c.higher_of-low.ensures.value ∙ ap (higher_of (x.target + 1)) c.first_of.ensures) c.requires.has.own c.trace_in.ensures.read c.trace_in.ensures.kept in
+    let came = page-came g.R.Receipt.keeps (IsEntryIn g.F.Key.Fixed.codec g.F.Value.Fixed.codec) g.F.Key.Ord.cmp g.F.Mergeable.parts.joined g.F.Functions.code c.records.result.now c.records-2.result.now c.records-3.result.now v.records x.target e.key c.page_of-page.result c.higher_of-low.result l (g.R.Receipt.stands p.receipt) p.bytes c.trace_in.result (c.records.ensures) (c.records-2.ensures) (c.records-3.ensures) c.page_of-page.ensures (c.higher_of-low.ensures.value ∙ ap (higher_of (x.target + 1)) c.first_of.ensures) c.requires.has.own c.trace_in.ensures.read c.trace_in.ensures.kept in
     way-undamaged g.F.Key.Ord.cmp g.F.Mergeable.parts.joined g.F.Functions.code order v sound s c.args.slot c.args.context x e l a at (IsEntryIn g.F.Key.Fixed.codec g.F.Value.Fixed.codec) (g.R.Receipt.stands p.receipt) p.bytes c.trace_in.result came yes_keeps c.in-Err.is
 
 pub returns-then-not-is_record_start-clause-undamaged : goal.returns-then-not-is_record_start-clause-undamaged
@@ -411,16 +399,15 @@ returns-then-not-is_record_start-clause-undamaged g c = λ yes_keeps page told.
     let x = c.args.relocation.now in
     let a = c.requires.has.awaits in
     let p = c.args.loaded.now in
-    let sound = c.known.ensures.core in
+    let sound = c.known.ensures.sound in
     let s = c.known.ensures.compacting in
     let e = c.args.entry in
     let l = c.args.loading in
     let at = c.requires.traces in
-    let moved = ap (λ u. u.core.records) c.self.view_is in
-    let came = page-came g.R.Receipt.keeps (IsEntryIn g.F.Key.Fixed.codec g.F.Value.Fixed.codec) g.F.Key.Ord.cmp g.F.Mergeable.parts.joined g.F.Functions.code c.records.result.now c.records-2.result.now c.records-3.result.now v.core.records x.target e.key c.page_of-page.result c.higher_of-low.result l (g.R.Receipt.stands p.receipt) p.bytes c.trace_in.result (c.records.ensures ∙ moved) (c.records-2.ensures ∙ moved) (c.records-3.ensures ∙ moved) c.page_of-page.ensures (c.higher_of-low.ensures.value ∙ ap (higher_of (x.target + 1)) c.first_of.ensures) c.requires.has.own c.trace_in.ensures.read c.trace_in.ensures.kept in
+    let came = page-came g.R.Receipt.keeps (IsEntryIn g.F.Key.Fixed.codec g.F.Value.Fixed.codec) g.F.Key.Ord.cmp g.F.Mergeable.parts.joined g.F.Functions.code c.records.result.now c.records-2.result.now c.records-3.result.now v.records x.target e.key c.page_of-page.result c.higher_of-low.result l (g.R.Receipt.stands p.receipt) p.bytes c.trace_in.result (c.records.ensures) (c.records-2.ensures) (c.records-3.ensures) c.page_of-page.ensures (c.higher_of-low.ensures.value ∙ ap (higher_of (x.target + 1)) c.first_of.ensures) c.requires.has.own c.trace_in.ensures.read c.trace_in.ensures.kept in
     let b = c.in-Further.address in
     let place = way-place g.F.Key.Ord.cmp g.F.Mergeable.parts.joined g.F.Functions.code order v sound s c.args.slot c.args.context x e l a at (IsEntryIn g.F.Key.Fixed.codec g.F.Value.Fixed.codec) (g.R.Receipt.stands p.receipt) p.bytes c.trace_in.result came c.in-Ok.came b c.in-Further.parts c.in-Ok.is (sym c.liveness_of.ensures ∙ c.in-Further.is) yes_keeps in
-    false≢true (sym c.if-not-is_record_start.true ∙ c.is_record_start.ensures.1 (subst (λ r. IsRecordStart r.log.bits r.record_size b) (sym (c.records-in-Further.ensures ∙ moved)) place))
+    false≢true (sym c.if-not-is_record_start.true ∙ c.is_record_start.ensures.1 (subst (λ r. IsRecordStart r.log.bits r.record_size b) (sym (c.records-in-Further.ensures)) place))
 
 pub returns-in-Superseded-clause-undamaged : goal.returns-in-Superseded-clause-undamaged
 returns-in-Superseded-clause-undamaged g c = λ yes_keeps page is. answer-not is

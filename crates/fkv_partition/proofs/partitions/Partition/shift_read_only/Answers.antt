@@ -1,32 +1,19 @@
-use Rattle.std.proofs.Common.{refl, ap}
-use Rattle.fkv_partition.specs.Inside.{view_of}
-use Rattle.fkv_partition.proofs.SteadyLemmas.{shifts-steady}
-use Rattle.fkv_partition.proofs.KeepLemmas.{keep-seated, on-err}
 use Rattle.fkv_partition.proofs.EffectLemmas.{on-ok, quiet-event, relocations-stay, all-stay}
 use Rattle.fkv_partition.proofs.partitions.Partition.shift_read_only.Goals as goal
 
-pub invariant_of-self : goal.invariant_of-self
-invariant_of-self g c =
-    let v = view_of c.self.inside.core c.self.inside.cleared in
-    let does = c.shift_read_only-shifted.ensures.effect in
-    keep-seated g.R.Receipt.keeps g.F.Key.Ord.cmp g.F.Mergeable.parts.joined g.F.Functions.code v c.shift_read_only-shifted.new.self c.self.invariant c.known-2.ensures.traced c.known-2.ensures.stood
-    (c.events_preserve.ensures.shifts g.R.Receipt.keeps g.F.Key.Ord.cmp g.F.Mergeable.parts.joined g.F.Functions.code v.core c.shift_read_only-shifted.new.self c.args.page c.args.now c.shift_read_only-shifted.result c.known.ensures does)
-    (shifts-steady v.core c.shift_read_only-shifted.new.self g.R.Receipt.keeps c.args.page c.args.now c.shift_read_only-shifted.result does)
-    (c.sessions_preserved.ensures.shifts g.R.Receipt.keeps v.core c.shift_read_only-shifted.new.self c.args.page c.args.now c.shift_read_only-shifted.result does).0
-
 pub returns-clause-effect : goal.returns-clause-effect
-returns-clause-effect g c = rw (← c.self.view_is) (record { does = c.shift_read_only-shifted.ensures.effect; rest = record { is = refl; relocations = (c.sessions_preserved.ensures.shifts g.R.Receipt.keeps c.self.inside.core c.shift_read_only-shifted.new.self c.args.page c.args.now c.shift_read_only-shifted.result c.shift_read_only-shifted.ensures.effect).0 } })
+returns-clause-effect g c = (record { does = c.move_read_only.ensures.effect; rest = (c.sessions_preserved.ensures.shifts g.R.Receipt.keeps c.args.self.now c.move_read_only.new.self c.args.page c.args.now c.move_read_only.result c.move_read_only.ensures.effect).0 })
 
 pub returns-clause-unchanged : goal.returns-clause-unchanged
-returns-clause-unchanged g c = rw (← c.self.view_is) (on-err c.shift_read_only-shifted.result (λ same. ap (λ p. view_of p c.self.inside.cleared) same) c.shift_read_only-shifted.ensures.unchanged)
+returns-clause-unchanged g c = c.move_read_only.ensures.unchanged
 
 pub returns-clause-event : goal.returns-clause-event
 returns-clause-event g c =
-    let v = view_of c.self.inside.core c.self.inside.cleared in
-    let new = c.shift_read_only-shifted.new.self in
-    let does = c.shift_read_only-shifted.ensures.effect in
-    let seats = c.sessions_preserved.ensures.shifts g.R.Receipt.keeps v.core new c.args.page c.args.now c.shift_read_only-shifted.result does in
-    rw (← c.self.view_is) (on-ok c.shift_read_only-shifted.result (λ q. quiet-event v new c.args.now (relocations-stay v new c.known.ensures seats.0 (all-stay v new seats.1)) q) c.shift_read_only-shifted.ensures.event)
+    let v = c.args.self.now in
+    let new = c.move_read_only.new.self in
+    let does = c.move_read_only.ensures.effect in
+    let seats = c.sessions_preserved.ensures.shifts g.R.Receipt.keeps v new c.args.page c.args.now c.move_read_only.result does in
+    (on-ok c.move_read_only.result (λ q. quiet-event v new c.args.now seats.0.cleared (relocations-stay v new c.known.ensures.sound seats.0.relocations (all-stay v new seats.1)) q) c.move_read_only.ensures.event)
 
 pub returns-clause-pends : goal.returns-clause-pends
-returns-clause-pends g c = rw (← c.self.view_is) (λ yes_keeps. c.pendings_stay.ensures.shifts g.R.Receipt.keeps g.F.Key.Ord.cmp c.self.inside.core c.shift_read_only-shifted.new.self c.args.page c.args.now c.shift_read_only-shifted.result yes_keeps c.shift_read_only-shifted.ensures.effect)
+returns-clause-pends g c = (λ yes_keeps. c.pendings_stay.ensures.shifts g.R.Receipt.keeps g.F.Key.Ord.cmp c.args.self.now c.move_read_only.new.self c.args.page c.args.now c.move_read_only.result yes_keeps c.move_read_only.ensures.effect)

@@ -14,3 +14,6 @@ returns-in-Err-clause-told g c = (
   c.next.new.self.reader,
   unreadable-weaker _ _ _ _ _ c.in-Err.refused (ap g.P.PageReader.failures (sym c.new-behind.ensures.reader)) (λ k. (k.0, k.1, c.new-behind.ensures.all k.0 k.2)) c.in-Err.ensures.told,
 )
+
+pub returns-in-Err-clause-caused : goal.returns-in-Err-clause-caused
+returns-in-Err-clause-caused g c xs keeps h = c.in-Err.ensures.caused xs keeps (c.new-behind.ensures.all xs h)

@@ -1,4 +1,4 @@
-use Rattle.std.proofs.Common.{◌≡◌, ◌<◌, length, drop, refl, rules, deque_len}
+use Rattle.std.proofs.Common.{◌≡◌, ◌<◌, length, drop, refl, subst, rules, deque_len}
 use Rattle.fkv_spills.proofs.SpillLemmas.{no-front, front-is, behind-all, unread-all, unread-end, unread-page}
 use Rattle.fkv_spills.proofs.unread.Unread+V+P+Receipt+P.fetch.Goals as goal
 
@@ -23,3 +23,7 @@ returns-in-Ok-clause-ok g c xs keeps e h =
     unread-page g.V.Fixed.codec g.P.Receipt.Receipt.stands _ c.in-Some.next.now c.in-Ok.page (drop 1 items) items xs
     (front-is items c.in-Some.next.now some c.in-Some.ensures.lookup) c.pop_front-read.ensures.rest refl refl refl (c.in-Ok.ensures.kept keeps)
     (behind-all g.V.Fixed.codec g.P.Receipt.Receipt.stands c.args.self.now xs e h)
+
+pub returns-in-Err-clause-caused : goal.returns-in-Err-clause-caused
+returns-in-Err-clause-caused g c other =
+    (c.in-Some.next.now.receipt, subst (λ n. g.P.PageReader.can_fail c.in-Some.next.now.receipt n) c.size.ensures (c.in-Err.ensures.caused other))

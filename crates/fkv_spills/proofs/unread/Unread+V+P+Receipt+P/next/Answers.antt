@@ -23,6 +23,10 @@ told-of : {A : Type 0} (r : Result A Refused) (old new : ℕ) (known : Type 0) �
 told-of (Ok x) old new known is damaged = tt
 told-of (Err e) old new known is damaged = (damaged.0, inr (damaged.1, λ k. absurd (false≢true (is k))))
 
+none-of : {A E : Type 0} (r : Result A E) (P : E → Type 0) → IsOk r → IfErr r P
+none-of (Ok x) P is = tt
+none-of (Err e) P is = absurd (false≢true is)
+
 positive : (n : ℕ) → (n ≡ 0 → ⊥) → 0 < n
 positive zero h = absurd (h refl)
 positive (suc n) h = omega arith
@@ -55,3 +59,9 @@ returns-clause-kept g c xs keeps h = (let ready = is-ready g c xs keeps h in on-
 pub returns-clause-told : goal.returns-clause-told
 returns-clause-told g c =
     told-of c.take.result _ _ _ (λ k. (let ready = is-ready g c k.0 k.1 k.2 in c.take.ensures.done k.0 ready.0 ready.1)) c.take.ensures.damaged
+
+pub returns-in-Err-clause-caused : goal.returns-in-Err-clause-caused
+returns-in-Err-clause-caused g c xs keeps h = c.in-Err.ensures.caused
+
+pub returns-clause-caused : goal.returns-clause-caused
+returns-clause-caused g c xs keeps h = (let ready = is-ready g c xs keeps h in none-of c.take.result _ (c.take.ensures.done xs ready.0 ready.1))

@@ -1,5 +1,5 @@
 use Rattle.fkv_operations.specs.After.{key_of}
-use Rattle.fkv_partition.specs.CoreViews.{partition_of}
+use Rattle.fkv_partition.specs.Views.{partition_of}
 use Rattle.fkv_store.proofs.RunLemmas.{ran_itself}
 use Rattle.fkv_store.proofs.passes.Pass.run.Goals as goal
 

@@ -1,153 +1,53 @@
-use Rattle.std.proofs.Common.{◌≡◌, ◌∙◌, ◌<◌, Some, length, slice_index, rules, refl, sym, ap, inl, inr}
-use Rattle.std.proofs.lemmas.List.{length-map, get_or-set_same}
-use Rattle.fkv_locked.specs.Owns.{told_after}
-use Rattle.fkv_store.proofs.CountLemmas.{none-counted, told-at, strange-plain, roomless-plain, unrefreshed-plain, unentered-plain}
+use Rattle.std.proofs.Common.{◌≡◌, refl, arith}
 use Rattle.fkv_operations.specs.After.{key_of}
-use Rattle.fkv_partition.specs.CoreViews.{partition_of}
-use Rattle.fkv_store.proofs.StopLemmas.{roomless_stopped, roomless_on, unrefreshed_stopped, unrefreshed_on, unentered_stopped, unentered_on, strange_on}
+use Rattle.fkv_partition.specs.Views.{partition_of}
+use Rattle.fkv_store.proofs.CountLemmas.{none-steady}
+use Rattle.fkv_store.proofs.RunLemmas.{runs-itself, not-both}
 use Rattle.fkv_store.proofs.passes.Pass.run_as.Goals as goal
 
-pub returns-clause-ok : goal.returns-clause-ok
-returns-clause-ok g c =
-    let home : c.home-partition.result ≡ partition_of c.args.store.now.count (g.F.Functions.code (key_of c.args.op)) =
-    c.home-partition.ensures.value
-    ∙ ap (λ k. partition_of c.args.store.now.count (g.F.Functions.code k)) c.key.ensures in (
-      c.in-Ok-run_in.finished.op,
-      c.in-Ok-run_in.ensures.op,
-      (
-        c.in-Ok-run_in.finished,
-        record {
-          op_is = refl;
-          answer_is = sym c.take-answer.ensures.answer;
-          fresh =
-              let within : c.home-partition.result < length c.self.inside.told.items = search rules in
-              rw (← home, ← c.self.view_is, told-at c.self.inside.told.items c.home-partition.result c.index-known.result.now within c.index-known.ensures) c.in-Ok-run_in.ensures.fresh;
-          own_is = λ k. rw (← home, c.take-answer.ensures.takes.own_is k, c.in-Ok-make_room.ensures.entries, ← c.self.view_is) refl;
-          told_is =
-              let long : length c.make_room.new.self.told ≡ length c.self.inside.told.items = ap length c.in-Ok-make_room.ensures.told ∙ (c.self.invariant.1 ∙ sym c.self.invariant.0) in
-              let within : c.home-partition.result < length c.make_room.new.self.told = search rules in
-              let at : c.told_at.result ≡ told_after c.in-Ok-run_in.finished =
-              c.told_at.ensures ∙ (ap (λ ts. slice_index ts c.home-partition.result) c.take-answer.ensures.takes.told_is ∙ get_or-set_same _ _ _ 0 within) in
-              rw (← home, at, ← c.self.view_is) refl;
-          share_is = rw (c.take-answer.ensures.takes.share_is, c.in-Ok-make_room.ensures.same.0, ← c.self.view_is) refl;
-          last_is = c.take-answer.ensures.takes.last_is ∙ ap Some (sym c.take-answer.ensures.answer);
-          store_is = rw (← c.self.view_is) refl;
-          sized = rw (← c.self.view_is)
-              (length-map c.take-answer.new.self.lists g.H.Recorder.entries
-              ∙ (c.take-answer.ensures.takes.sized ∙ (c.in-Ok-make_room.ensures.len ∙ sym (length-map c.self.inside.owns.lists g.H.Recorder.entries))));
-        },
-      ),
-    )
+pub returns-in-Some-clause-ok : goal.returns-in-Some-clause-ok
+returns-in-Some-clause-ok g c = (c.args.op, runs-itself c.args.loads c.args.op c.args.op refl, c.in-Some.ensures.done.runs)
 
-pub returns-clause-steady : goal.returns-clause-steady
-returns-clause-steady g c =
-    let home : c.home-partition.result ≡ partition_of c.args.store.now.count (g.F.Functions.code (key_of c.args.op)) =
-    c.home-partition.ensures.value
-    ∙ ap (λ k. partition_of c.args.store.now.count (g.F.Functions.code k)) c.key.ensures in
-    rw (← home, ← c.self.view_is) c.in-Ok-run_in.ensures.steady
+pub returns-in-Some-clause-merging : goal.returns-in-Some-clause-merging
+returns-in-Some-clause-merging g c = λ is. not-both _ c.in-Some.ensures.plain is
 
-pub returns-in-Err-run_in-clause-counted : goal.returns-in-Err-run_in-clause-counted
-returns-in-Err-run_in-clause-counted g c =
-    let home : c.home-partition.result ≡ partition_of c.args.store.now.count (g.F.Functions.code (key_of c.args.op)) =
-    c.home-partition.ensures.value
-    ∙ ap (λ k. partition_of c.args.store.now.count (g.F.Functions.code k)) c.key.ensures in
-    rw (← home, ← c.self.view_is) c.in-Err-run_in.ensures.counted
+pub returns-in-Some-clause-within : goal.returns-in-Some-clause-within
+returns-in-Some-clause-within g c = omega (arith, c.in-Some.ensures.done.turned)
 
-pub returns-in-Err-clause-counted : goal.returns-in-Err-clause-counted
-returns-in-Err-clause-counted g c =
-    let missed : c.none-self-inside.result.missed ≡ 0 = ap (λ t. t.missed) c.none-self-inside.ensures in
-    rw (← c.self.view_is) (none-counted g.D.Receipt.Receipt.keeps _ _ _ c.in-Err.refused missed (strange-plain c.args.store.now c.args.self.now c.in-Err.refused c.in-Err.ensures.refused))
+pub returns-in-Some-clause-steady : goal.returns-in-Some-clause-steady
+returns-in-Some-clause-steady g c =
+    let done = c.in-Some.ensures.done in
+    rw done.reads (none-steady (partition_of c.args.store.now.count (g.F.Functions.code (key_of c.args.op))) _ _ done.missed)
 
-pub returns-in-Err-make_room-clause-counted : goal.returns-in-Err-make_room-clause-counted
-returns-in-Err-make_room-clause-counted g c =
-    let missed : c.none-self-inside.result.missed ≡ 0 = ap (λ t. t.missed) c.none-self-inside.ensures in
-    rw (← c.self.view_is) (none-counted g.D.Receipt.Receipt.keeps _ _ _ c.in-Err-make_room.refused missed (roomless-plain _ c.in-Err-make_room.ensures.only))
+pub returns-in-None-clause-ok : goal.returns-in-None-clause-ok
+returns-in-None-clause-ok g c = rw (← c.in-None.ensures.none) c.run_by_events-in-None.ensures.ok
 
-pub returns-in-Err-refresh_at_times-clause-counted : goal.returns-in-Err-refresh_at_times-clause-counted
-returns-in-Err-refresh_at_times-clause-counted g c =
-    let missed : c.none-self-inside.result.missed ≡ 0 = ap (λ t. t.missed) c.none-self-inside.ensures in
-    rw (← c.self.view_is) (none-counted g.D.Receipt.Receipt.keeps _ _ _ c.in-Err-refresh_at_times.refused missed (unrefreshed-plain _ c.in-Err-refresh_at_times.ensures.only))
+pub returns-in-None-clause-merging : goal.returns-in-None-clause-merging
+returns-in-None-clause-merging g c = c.run_by_events-in-None.ensures.merging
 
-pub returns-in-Err-session_in-clause-counted : goal.returns-in-Err-session_in-clause-counted
-returns-in-Err-session_in-clause-counted g c =
-    let missed : c.none-self-inside.result.missed ≡ 0 = ap (λ t. t.missed) c.none-self-inside.ensures in
-    rw (← c.self.view_is) (none-counted g.D.Receipt.Receipt.keeps _ _ _ c.in-Err-session_in.refused missed (unentered-plain _ c.in-Err-session_in.ensures.only))
+pub returns-in-None-clause-foreign : goal.returns-in-None-clause-foreign
+returns-in-None-clause-foreign g c = rw (← c.in-None.ensures.none) c.run_by_events-in-None.ensures.foreign
 
-pub returns-in-Err-clause-only : goal.returns-in-Err-clause-only
-returns-in-Err-clause-only g c = inl c.in-Err.ensures.refused
+pub returns-in-None-clause-own : goal.returns-in-None-clause-own
+returns-in-None-clause-own g c = rw (← c.in-None.ensures.none) c.run_by_events-in-None.ensures.own
 
-pub returns-in-Err-clause-stalled : goal.returns-in-Err-clause-stalled
-returns-in-Err-clause-stalled g c = λ is. absurd (strange_on c.args.store.now c.args.self.now c.in-Err.refused c.in-Err.ensures.refused is)
+pub returns-in-None-clause-worn : goal.returns-in-None-clause-worn
+returns-in-None-clause-worn g c = rw (← c.in-None.ensures.none) c.run_by_events-in-None.ensures.worn
 
-pub returns-in-Err-run_in-clause-stalled : goal.returns-in-Err-run_in-clause-stalled
-returns-in-Err-run_in-clause-stalled g c = c.in-Err-run_in.ensures.stalled
+pub returns-in-None-clause-only : goal.returns-in-None-clause-only
+returns-in-None-clause-only g c = rw (← c.in-None.ensures.none) c.run_by_events-in-None.ensures.only
 
-pub returns-in-Err-make_room-clause-only : goal.returns-in-Err-make_room-clause-only
-returns-in-Err-make_room-clause-only g c = inr (inl (roomless_stopped _ _ c.in-Err-make_room.ensures.only))
+pub returns-in-None-clause-stalled : goal.returns-in-None-clause-stalled
+returns-in-None-clause-stalled g c = c.run_by_events-in-None.ensures.stalled
 
-pub returns-in-Err-make_room-clause-stalled : goal.returns-in-Err-make_room-clause-stalled
-returns-in-Err-make_room-clause-stalled g c = λ is. absurd (roomless_on _ c.in-Err-make_room.ensures.only is)
+pub returns-in-None-clause-within : goal.returns-in-None-clause-within
+returns-in-None-clause-within g c = c.run_by_events-in-None.ensures.within
 
-pub returns-in-Err-refresh_at_times-clause-only : goal.returns-in-Err-refresh_at_times-clause-only
-returns-in-Err-refresh_at_times-clause-only g c = inr (inl (unrefreshed_stopped _ _ c.in-Err-refresh_at_times.ensures.only))
+pub returns-in-None-clause-unchanged : goal.returns-in-None-clause-unchanged
+returns-in-None-clause-unchanged g c = rw (← c.in-None.ensures.none) c.run_by_events-in-None.ensures.unchanged
 
-pub returns-in-Err-refresh_at_times-clause-stalled : goal.returns-in-Err-refresh_at_times-clause-stalled
-returns-in-Err-refresh_at_times-clause-stalled g c = λ is. absurd (unrefreshed_on _ c.in-Err-refresh_at_times.ensures.only is)
+pub returns-in-None-clause-steady : goal.returns-in-None-clause-steady
+returns-in-None-clause-steady g c = rw (← c.in-None.ensures.none) c.run_by_events-in-None.ensures.steady
 
-pub returns-in-Err-session_in-clause-only : goal.returns-in-Err-session_in-clause-only
-returns-in-Err-session_in-clause-only g c = inr (inl (unentered_stopped _ _ c.in-Err-session_in.ensures.only))
-
-pub returns-in-Err-session_in-clause-stalled : goal.returns-in-Err-session_in-clause-stalled
-returns-in-Err-session_in-clause-stalled g c = λ is. absurd (unentered_on _ c.in-Err-session_in.ensures.only is)
-
-pub returns-in-Err-make_room-clause-foreign : goal.returns-in-Err-make_room-clause-foreign
-returns-in-Err-make_room-clause-foreign g c = λ other. absurd (other c.in-Ok.ensures.ok)
-
-pub returns-in-Err-refresh_at_times-clause-foreign : goal.returns-in-Err-refresh_at_times-clause-foreign
-returns-in-Err-refresh_at_times-clause-foreign g c = λ other. absurd (other c.in-Ok.ensures.ok)
-
-pub returns-in-Err-session_in-clause-foreign : goal.returns-in-Err-session_in-clause-foreign
-returns-in-Err-session_in-clause-foreign g c = λ other. absurd (other c.in-Ok.ensures.ok)
-
-pub returns-in-Err-run_in-clause-foreign : goal.returns-in-Err-run_in-clause-foreign
-returns-in-Err-run_in-clause-foreign g c = λ other. absurd (other c.in-Ok.ensures.ok)
-
-pub invariant_of-self-in-Err-make_room : goal.invariant_of-self-in-Err-make_room
-invariant_of-self-in-Err-make_room g c =
-    let own = sym c.make_room.ensures.len in (
-      c.self.invariant.0 ∙ own,
-      ap length c.make_room.ensures.told ∙ c.self.invariant.1 ∙ own,
-      c.self.invariant.2 ∙ own,
-      c.self.invariant.3 ∙ own,
-      c.self.invariant.4 ∙ own,
-    )
-
-pub invariant_of-self-in-Err-refresh_at_times : goal.invariant_of-self-in-Err-refresh_at_times
-invariant_of-self-in-Err-refresh_at_times g c =
-    let own = sym c.make_room.ensures.len in (
-      c.self.invariant.0 ∙ own,
-      ap length c.make_room.ensures.told ∙ c.self.invariant.1 ∙ own,
-      c.self.invariant.2 ∙ own,
-      c.refresh_at_times.ensures.seen ∙ c.self.invariant.3 ∙ own,
-      c.self.invariant.4 ∙ own,
-    )
-
-pub invariant_of-self-in-Err-session_in : goal.invariant_of-self-in-Err-session_in
-invariant_of-self-in-Err-session_in g c =
-    let own = sym c.make_room.ensures.len in (
-      c.self.invariant.0 ∙ own,
-      ap length c.make_room.ensures.told ∙ c.self.invariant.1 ∙ own,
-      c.session_in.ensures.sessions ∙ c.self.invariant.2 ∙ own,
-      c.refresh_at_times.ensures.seen ∙ c.self.invariant.3 ∙ own,
-      c.self.invariant.4 ∙ own,
-    )
-
-pub invariant_of-self-in-Err-run_in : goal.invariant_of-self-in-Err-run_in
-invariant_of-self-in-Err-run_in g c =
-    let own = sym c.make_room.ensures.len in (
-      c.self.invariant.0 ∙ own,
-      ap length c.make_room.ensures.told ∙ c.self.invariant.1 ∙ own,
-      c.session_in.ensures.sessions ∙ c.self.invariant.2 ∙ own,
-      c.refresh_at_times.ensures.seen ∙ c.self.invariant.3 ∙ own,
-      c.run_in.ensures.readers ∙ c.self.invariant.4 ∙ own,
-    )
+pub returns-in-None-clause-counted : goal.returns-in-None-clause-counted
+returns-in-None-clause-counted g c = rw (← c.in-None.ensures.none) c.run_by_events-in-None.ensures.counted

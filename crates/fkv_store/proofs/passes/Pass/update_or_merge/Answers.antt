@@ -1,4 +1,4 @@
-use Rattle.fkv_partition.specs.CoreViews.{partition_of}
+use Rattle.fkv_partition.specs.Views.{partition_of}
 use Rattle.fkv_store.proofs.PassLemmas.{ran_update}
 use Rattle.fkv_store.proofs.passes.Pass.update_or_merge.Goals as goal
 

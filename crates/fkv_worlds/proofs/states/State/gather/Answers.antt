@@ -2,7 +2,7 @@ use Rattle.std.proofs.Common.{◌≡◌, ◌≢◌, false, cond, None, nat_lt, l
 use Rattle.std.proofs.lemmas.Bool.Decides.{nat_tests}
 use Rattle.std.specs.BTreeMap.{get, is_at}
 use Rattle.std.specs.Map.{lookup}
-use Rattle.fkv_partition.specs.CoreViews.{partition_of}
+use Rattle.fkv_partition.specs.Views.{partition_of}
 use Rattle.fkv_partition.specs.Unions.{union_of}
 use Rattle.fkv_partition.proofs.UnionLemmas.{live-more, live-all, bare_before}
 use Rattle.fkv_functions.specs.Plain.{Same}
@@ -32,7 +32,7 @@ loop-partition-preserved g c =
     rw (← c.self.view_is) (λ q. live-more g.F.Key.Ord.cmp g.F.Functions.code views i x m new here
     (c.in-Ok.ensures.live refl bare)
     (subst (λ n. (q : g.row.F-Key.Denot) → partition_of n (g.F.Functions.code q) ≢ i → new q ≡ m q) counted
-    (subst (λ p. (q : g.row.F-Key.Denot) → partition_of x.core.count (g.F.Functions.code q) ≢ p → new q ≡ m q) numbered
+    (subst (λ p. (q : g.row.F-Key.Denot) → partition_of x.count (g.F.Functions.code q) ≢ p → new q ≡ m q) numbered
     (c.in-Ok.ensures.others refl bare)))
     so_far q)
 

@@ -1,7 +1,7 @@
 use Rattle.std.proofs.Common.{None, cond, nat_lt, length}
 use Rattle.std.specs.BTreeMap.{get}
 use Rattle.fkv_functions.specs.Plain.{Same}
-use Rattle.fkv_partition.specs.CoreViews.{partition_of}
+use Rattle.fkv_partition.specs.Views.{partition_of}
 use Rattle.fkv_partition.specs.Unions.{union_of}
 use Rattle.fkv_worlds.proofs.states.State.gather.Given as goal
 

@@ -1,0 +1,129 @@
+//! Tables that stand on the device of their run: they are written row by row, as their pages are read back.
+ghost use Rattle.std.specs.Prelude.{◌≡◌, ◌≢◌, ◌≤◌, ◌⊎◌, ◌||◌, List, Err, true, if◌then◌else◌, IfOk, IfErr, IsTrue, OnOk, OnErr};
+ghost use Rattle.std.specs.Io.KnownBytes.{Appends};
+ghost use Rattle.fkv_functions.specs.declared.names.Name.{Name};
+ghost use Rattle.fkv_either.specs.Either.{is_absent};
+ghost use Rattle.fkv_streams.specs.Streams.{AppendsPrefix};
+ghost use Rattle.fkv_feeds.specs.Spilling.{ArePairsOf, HasTableOf};
+ghost use Rattle.fkv_feeds.specs.Tables.{IsTableOf};
+ghost use Rattle.fkv_feeds.specs.Writing.{fields_of, table_text};
+ghost use Rattle.fkv_commands.specs.Endings.{IsOfPages, feeds_by};
+ghost use Rattle.fkv_commands.specs.Plans.{IsPlanOf};
+
+use crate::making::{spilled_of_feeds, spilled_of_input};
+use crate::opening::Opener;
+use crate::reporting::Ran;
+use fkv_device::{Disk, PageReader};
+use fkv_either::{EitherDevice, Keeping};
+use fkv_feeds::{Shown, SpilledRun, write_pairs};
+use fkv_functions::{Fixed, Mergeable, Name, OrderFree, Refused};
+use fkv_meters::{MeteredDevice, Meters, Progress};
+use fkv_requests::TableRequest;
+use fkv_streams::{Sink, Source};
+use std::alloc::Global;
+
+/// The run that is asked for, over the feeds that are named, or over the reader. Its table stands on the device.
+fn spilled<R: Source, F: Mergeable + OrderFree<Key = Name, Input = i64>, D: Disk, O: Opener>(
+    alloc: Global,
+    table: &TableRequest,
+    functions: F,
+    reader: &mut R,
+    device: D,
+    opener: &O,
+) -> Result<SpilledRun<F::Value, D::Receipt, D::Reader>, Refused>
+    requires alone { table.now.workers ≤ 1 }
+    ensures ok { IsTrue D.Receipt.keeps → IfOk result (HasTableOf F.Value.codec D.Receipt.keeps D.Receipt.stands F.meaning
+        (feeds_by (λ path. O.bytes opener.now path) table.now (R.remaining reader.old))) }
+    ensures ran { IfOk result (λ run. IsPlanOf table.now run.plan) }
+    ensures steady { OnOk result (R.failures reader.new ≡ R.failures reader.old) }
+    ensures only { IfErr result (λ e. e ≢ Refused.Unwritable) }
+{
+    if table.paths.is_empty() {
+        spilled_of_input(alloc, table, functions, reader, device)
+    } else {
+        spilled_of_feeds(alloc, table, functions, device, opener)
+    }
+}
+
+/// Writes the table of a run from its device, and answers how much the run did.
+fn write_spilled<V: Fixed + Shown, P: PageReader, W: Sink>(
+    alloc: Global,
+    run: SpilledRun<V, P::Receipt, P>,
+    writer: &mut W,
+) -> Result<Ran, Refused>
+    ensures ok { (xs : List (Name × V)) → ArePairsOf V.codec P.Receipt.keeps P.Receipt.stands run.pairs xs → OnOk result
+        (Appends (W.contents writer.old) (W.contents writer.new) (table_text (fields_of V.FIELDS V.field_at) xs)) }
+    ensures prefix { (xs : List (Name × V)) → ArePairsOf V.codec P.Receipt.keeps P.Receipt.stands run.pairs xs → OnErr result
+        (AppendsPrefix (W.contents writer.old) (W.contents writer.new) (table_text (fields_of V.FIELDS V.field_at) xs)) }
+    ensures rows { (xs : List (Name × V))
+        × OnOk result
+        (Appends (W.contents writer.old) (W.contents writer.new) (table_text (fields_of V.FIELDS V.field_at) xs))
+        × OnErr result
+        (AppendsPrefix (W.contents writer.old) (W.contents writer.new) (table_text (fields_of V.FIELDS V.field_at) xs)) }
+    ensures ran { IfOk result (λ ran. ran.plan ≡ run.plan) }
+    ensures done { IfOk result (λ ran. (ran.keys ≡ run.keys) × (ran.counts ≡ run.counts)) }
+    ensures only { IfErr result (λ e. (e ≡ Refused.Unwritable) ⊎ IsOfPages e) }
+    ensures out { OnOk result (W.is_out writer.new ≡ true) }
+    ensures steady { OnOk result (W.failures writer.new ≡ W.failures writer.old) }
+{
+    let mut run = run;
+    let ran = Ran::of(&run);
+    match write_pairs(alloc, &mut run.pairs, writer) {
+        Ok(()) => Ok(ran),
+        Err(refused) => Err(refused),
+    }
+}
+
+/// Makes the table on this device, else in memory, whose pages are counted, and writes it from there. Answers how much the run did.
+pub(crate) fn spill_on<
+    R: Source,
+    W: Sink,
+    F: Mergeable + OrderFree<Key = Name, Input = i64>,
+    D: Disk,
+    P: Progress,
+    O: Opener,
+    K: Keeping,
+>(
+    alloc: Global,
+    table: &TableRequest,
+    functions: F,
+    reader: &mut R,
+    writer: &mut W,
+    folder: Option<D>,
+    meters: &Meters,
+    hook: &P,
+    opener: &O,
+) -> Result<Ran, Refused>
+where
+    F::Value: Shown,
+    requires kept { (if K.keeps then is_absent folder else true) ≡ true }
+    requires alone { table.now.workers ≤ 1 }
+    ensures ok { OnOk result ((pairs : List (Name × F.Value))
+        × (IsTrue (K.keeps || D.Receipt.keeps)
+        → IsTableOf F.meaning (feeds_by (λ path. O.bytes opener.now path) table.now (R.remaining reader.old)) pairs)
+        × Appends (W.contents writer.old) (W.contents writer.new)
+        (table_text (fields_of F.Value.FIELDS F.Value.field_at) pairs)) }
+    ensures ran { IfOk result (λ ran. IsPlanOf table.now ran.plan) }
+    ensures unwritable { result ≡ Err Refused.Unwritable → (pairs : List (Name × F.Value))
+        × (IsTrue (K.keeps || D.Receipt.keeps)
+        → IsTableOf F.meaning (feeds_by (λ path. O.bytes opener.now path) table.now (R.remaining reader.old)) pairs)
+        × AppendsPrefix (W.contents writer.old) (W.contents writer.new)
+        (table_text (fields_of F.Value.FIELDS F.Value.field_at) pairs) }
+    ensures nothing { IfErr result (λ e. (e ≡ Refused.Unwritable) ⊎ IsOfPages e ⊎ (W.contents writer.new ≡ W.contents writer.old)) }
+    ensures front { OnErr result ((W.contents writer.new ≡ W.contents writer.old) ⊎ ((pairs : List (Name × F.Value))
+        × (IsTrue (K.keeps || D.Receipt.keeps)
+        → IsTableOf F.meaning (feeds_by (λ path. O.bytes opener.now path) table.now (R.remaining reader.old)) pairs)
+        × AppendsPrefix (W.contents writer.old) (W.contents writer.new)
+        (table_text (fields_of F.Value.FIELDS F.Value.field_at) pairs))) }
+    ensures out { OnOk result (W.is_out writer.new ≡ true) }
+    ensures steady { OnOk result ((R.failures reader.new ≡ R.failures reader.old)
+        × (W.failures writer.new ≡ W.failures writer.old)) }
+{
+    let device = MeteredDevice::new(EitherDevice::<D, K>::new(alloc, folder), meters);
+    let made = spilled(alloc, table, functions, reader, device, opener);
+    hook.end();
+    match made {
+        Ok(run) => write_spilled(alloc, run, writer),
+        Err(refused) => Err(refused),
+    }
+}

@@ -1,0 +1,44 @@
+use Rattle.std.proofs.Common.{◌<◌, Err, refl, sym, ap, subst, ◌∙◌}
+use Rattle.std.proofs.Math.Nat.{le_of_lt, le_refl}
+use Rattle.fkv_partition.specs.Inside.{view_of}
+use Rattle.fkv_partition.specs.Moves.{evicts}
+use Rattle.fkv_partition.proofs.SoundLemmas.{sound-moved, slots-moved}
+use Rattle.fkv_partition.proofs.EventLemmas.{event-moved, evict-refused}
+use Rattle.fkv_partition.proofs.WholeLemmas.{whole-regions}
+use Rattle.fkv_regions.specs.RegionsView.{with_head}
+use Rattle.fkv_records.specs.Places.{start_at}
+use Rattle.fkv_partition.proofs.partitions.Partition.move_head.Goals as goal
+
+pub returns-in-Err-clause-effect : goal.returns-in-Err-clause-effect
+returns-in-Err-clause-effect g c =
+    let made = c.in-Err.ensures in
+    rw (made.unchanged, ← c.self.view_is) (evict-refused g.R.Receipt.keeps _ c.args.page c.args.now (Err c.in-Err.refused) c.in-Err.refused refl made.not_due made.full made.only)
+
+pub invariant_of-self-2 : goal.invariant_of-self-2
+invariant_of-self-2 g c =
+    let made = c.in-Ok.ensures in
+    let v = (view_of g.F.Mergeable.MERGES c.self.inside.number c.self.inside.count c.self.inside.records c.self.inside.contexts.items c.self.inside.moment c.self.inside.cleared) in
+    whole-regions v c.self.invariant c.shift_head.new.self (with_head v.records.log.regions (start_at v.records.log.regions.bits c.args.page)) c.args.now made.raised made.effect
+    (sound-moved c.self.invariant.sound c.shift_head.new.self _ c.args.now c.known.ensures.traced c.known.ensures.stood made.effect made.raised
+    (λ t d x low here. slots-moved c.self.inside.records c.shift_head.new.self _ t made.effect (c.self.invariant.sound.housed t d x low here)))
+
+pub returns-clause-effect : goal.returns-clause-effect
+returns-clause-effect g c =
+    let due = c.in-Ok.ensures.ok.0 refl in
+    rw (← c.self.view_is) (evicts due.0 due.1 (record { moves = c.in-Ok.ensures.effect; is = refl }) refl)
+
+pub returns-clause-event : goal.returns-clause-event
+returns-clause-event g c =
+    rw (← c.self.view_is) (event-moved g.R.Receipt.keeps (view_of g.F.Mergeable.MERGES c.self.inside.number c.self.inside.count c.self.inside.records c.self.inside.contexts.items c.self.inside.moment c.self.inside.cleared) c.shift_head.new.self _ c.args.now c.in-Ok.ensures.effect (λ t d. refl))
+
+pub invariant_of-self : goal.invariant_of-self
+invariant_of-self g c = rw c.in-Err.ensures.unchanged c.self.invariant
+
+pub returns-in-Err-clause-unchanged : goal.returns-in-Err-clause-unchanged
+returns-in-Err-clause-unchanged g c = ap (λ r. view_of g.F.Mergeable.MERGES c.self.inside.number c.self.inside.count r c.self.inside.contexts.items c.self.inside.moment c.self.inside.cleared) c.in-Err.ensures.unchanged ∙ c.self.view_is
+
+pub returns-in-Err-clause-moment : goal.returns-in-Err-clause-moment
+returns-in-Err-clause-moment g c = le_of_lt (subst (λ u. u.moment < c.args.now) (sym c.self.view_is) c.requires.later)
+
+pub returns-clause-moment : goal.returns-clause-moment
+returns-clause-moment g c = le_refl c.args.now

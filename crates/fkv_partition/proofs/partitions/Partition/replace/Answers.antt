@@ -1,0 +1,30 @@
+use Rattle.fkv_partition.proofs.SoundLemmas.{sound-replaced}
+use Rattle.fkv_partition.proofs.WholeLemmas.{whole-records, set-stood, none-moves}
+use Rattle.fkv_partition.proofs.PreservedLemmas.{borne-value, live-high}
+use Rattle.fkv_partition.specs.Inside.{view_of}
+use Rattle.std.proofs.Common.{◌+◌, ◌*◌, None, slice_set, refl}
+use Rattle.fkv_lookups.specs.RecordsViews.{with_value}
+use Rattle.fkv_partition.proofs.partitions.Partition.replace.Goals as goal
+
+pub invariant_of-self : goal.invariant_of-self
+invariant_of-self g c =
+    let v = (view_of g.F.Mergeable.MERGES c.self.inside.number c.self.inside.count c.self.inside.records c.self.inside.contexts.items c.self.inside.moment c.self.inside.cleared) in
+    let was = v.records in
+    let cmp = g.F.Key.Ord.cmp in
+    let join = g.F.Mergeable.parts.joined in
+    let code = g.F.Functions.code in
+    let sound = c.self.invariant.sound in
+    let last = rw (← c.self.view_is) at c.requires.last in
+    let high = rw (← c.self.view_is) at c.requires.mutable in
+    let contexts = slice_set v.contexts (c.args.slot * 8 + c.args.context) None in
+    rw (c.replace.ensures, c.set_context.ensures)
+    (whole-records v c.self.invariant (with_value was c.args.address c.args.value) contexts c.args.now
+    (sound-replaced sound c.args.slot c.args.context c.args.now c.args.address c.args.value
+    (rw (← c.self.view_is) at c.requires.unclaimed)
+    high
+    (rw c.replace.ensures at c.known-2.ensures.traced)
+    (rw c.replace.ensures at c.known-2.ensures.stood)
+    (λ q b still. c.records_change.ensures.kept cmp g.R.Receipt.keeps code was c.args.address c.args.value q b c.known.ensures.traced last high still))
+    (borne-value cmp join code v sound (record v { records = with_value was c.args.address c.args.value; contexts = contexts; moment = c.args.now }) c.args.address c.args.value high (λ q b still. c.records_change.ensures.kept cmp g.R.Receipt.keeps code was c.args.address c.args.value q b c.known.ensures.traced last high still)
+    (λ limit low clear. c.cleared_stay.ensures.changed cmp was c.args.address c.args.value limit (live-high cmp join code was sound.traced sound.stood c.args.address last limit clear) clear) refl)
+    refl (set-stood v.contexts (c.args.slot * 8 + c.args.context) None none-moves))

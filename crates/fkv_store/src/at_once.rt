@@ -1,0 +1,211 @@
+//! Operations of a pass that are done in one hold of a lock: updates in place, and reads in memory. Most operations are such.
+ghost use Rattle.std.specs.Prelude.{◌≡◌, ◌<◌, false, None, IfSome};
+ghost use Rattle.fkv_operations.specs.After.{key_of, is_merge};
+ghost use Rattle.fkv_operations.specs.declared.operations.KeyedOp.TheVariants.{Read, Rmw};
+ghost use Rattle.fkv_partition.specs.Views.{partition_of};
+ghost use Rattle.fkv_store.specs.AtOnce.{IsDone};
+ghost use Rattle.fkv_store.specs.Passes.{IsPassOf};
+
+use crate::gates::{Gate, Place};
+use crate::holds::{At, Turned};
+use crate::passes::{Pass, has_session, is_fresh};
+use crate::stores::Store;
+use fkv_device::Disk;
+use fkv_functions::Mergeable;
+use fkv_histories::Recorder;
+use fkv_locked::{Locked, SessionId};
+use fkv_operations::{AnswerOf, KeyedOp, KeyedOpOf};
+use std::sync::Wait;
+
+impl<F: Mergeable, D: Disk, H: Recorder<F>> Pass<F, D, H> {
+    /// Makes an operation in one hold of its partition's lock, where it is done at once: an update in place, or a read in memory. Else
+    /// nothing changes: what stands in its way is told where it runs by its events.
+    #[inline(always)]
+    pub(crate) fn try_at_once<G: Gate>(
+        &mut self,
+        rt: &impl Wait,
+        store: &Store<F, D, H>,
+        op: &KeyedOpOf<F>,
+        gate: &G,
+    ) -> Option<AnswerOf<F>>
+        requires own { IsPassOf store.now self.old }
+        ensures done { IfSome result
+            (IsDone H.keeps self.old (partition_of store.now.count (F.code (key_of op.now))) op.now self.new) }
+        ensures plain { IfSome result (λ _. is_merge op.now ≡ false) }
+        ensures none { result ≡ None → self.new ≡ self.old }
+    {
+        if !matches!(op, KeyedOp::Rmw(..) | KeyedOp::Read(..)) {
+            return None;
+        }
+        let partition = store.home(&op.key());
+        let at = At {
+            partition,
+            worker: self.worker,
+        };
+        if !is_fresh(
+            rt,
+            store,
+            &self.sessions,
+            &mut self.seen,
+            at.worker,
+            &mut self.answered,
+            gate,
+        ) {
+            return None;
+        }
+        if !has_session(rt, store, &mut self.sessions, at, gate) {
+            return None;
+        }
+        let Some(session) = self.sessions[partition] else {
+            return None;
+        };
+        let answered = self.answered;
+        let Some(answer) = self.make_in_one(rt, store, at, session, op, gate) else {
+            return None;
+        };
+        self.answered = answered + 1;
+        gate.pass(at.worker, Place::Answered);
+        Some(answer)
+    }
+
+    /// Makes an operation on a key of this partition in one hold, where it is done at once. Else nothing changes.
+    #[inline(always)]
+    fn make_in_one<G: Gate>(
+        &mut self,
+        rt: &impl Wait,
+        store: &Store<F, D, H>,
+        at: At,
+        session: SessionId,
+        op: &KeyedOpOf<F>,
+        gate: &G,
+    ) -> Option<AnswerOf<F>>
+        requires here { at.partition < store.now.count }
+        requires own { IsPassOf store.now self.old }
+        ensures done { IfSome result (IsDone H.keeps self.old at.partition op.now self.new) }
+        ensures plain { IfSome result (λ _. is_merge op.now ≡ false) }
+        ensures none { result ≡ None → self.new ≡ self.old }
+    {
+        match op {
+            KeyedOp::Rmw(key, input) => self.update_in_one(
+                rt, store, at, session, key, input, gate,
+            ),
+            KeyedOp::Read(key, input) => self.read_in_one(rt, store, at, session, key, input, gate),
+            KeyedOp::Upsert(..) | KeyedOp::Delete(_) | KeyedOp::Merge(..) => None,
+        }
+    }
+
+    /// Makes an update of a key of this partition in one hold, where it is done at once. Else nothing changes.
+    #[inline(always)]
+    fn update_in_one<G: Gate>(
+        &mut self,
+        rt: &impl Wait,
+        store: &Store<F, D, H>,
+        at: At,
+        session: SessionId,
+        key: &F::Key,
+        input: &F::Input,
+        gate: &G,
+    ) -> Option<AnswerOf<F>>
+        requires here { at.partition < store.now.count }
+        requires own { IsPassOf store.now self.old }
+        ensures done { IfSome result (IsDone H.keeps self.old at.partition (Rmw key.now input.now) self.new) }
+        ensures none { result ≡ None → self.new ≡ self.old }
+    {
+        let mut held = store.locks[at.partition].lock(rt);
+        gate.pass(at.worker, at.locked());
+        self.update_one(store, &mut *held, at.partition, session, key, input)
+    }
+
+    /// Makes a read of a key of this partition in one hold, where it is done at once. Else nothing changes.
+    #[inline(always)]
+    fn read_in_one<G: Gate>(
+        &mut self,
+        rt: &impl Wait,
+        store: &Store<F, D, H>,
+        at: At,
+        session: SessionId,
+        key: &F::Key,
+        input: &F::Input,
+        gate: &G,
+    ) -> Option<AnswerOf<F>>
+        requires here { at.partition < store.now.count }
+        requires own { IsPassOf store.now self.old }
+        ensures done { IfSome result (IsDone H.keeps self.old at.partition (Read key.now input.now) self.new) }
+        ensures none { result ≡ None → self.new ≡ self.old }
+    {
+        let mut held = store.locks[at.partition].lock(rt);
+        gate.pass(at.worker, at.locked());
+        self.read_one(store, &mut *held, at.partition, session, key, input)
+    }
+
+    /// Makes an update of a key with the lock of its partition held, where it is done at once. Else nothing changes.
+    #[inline(always)]
+    pub(crate) fn update_one(
+        &mut self,
+        store: &Store<F, D, H>,
+        held: &mut Locked<F, D::Receipt, H>,
+        partition: usize,
+        session: SessionId,
+        key: &F::Key,
+        input: &F::Input,
+    ) -> Option<AnswerOf<F>>
+        requires here { partition < store.now.count }
+        requires own { IsPassOf store.now self.old }
+        ensures done { IfSome result (IsDone H.keeps self.old partition (Rmw key.now input.now) self.new) }
+        ensures home { IfSome result (λ _. partition_of held.old.partition.count (F.code key.now)
+            ≡ held.old.partition.number) }
+        ensures number { (held.new.partition.number ≡ held.old.partition.number)
+            × (held.new.partition.count ≡ held.old.partition.count) }
+        ensures own { IsPassOf store.now self.new }
+        ensures none { result ≡ None → self.new ≡ self.old }
+    {
+        match self.owns.make_room(partition) {
+            Ok(()) => {}
+            Err(_refused) => return None,
+        }
+        let known = self.told[partition];
+        match held.try_update_in_place(session, key, input, known, &store.functions) {
+            Ok(Some(finished)) => {
+                let answer = self.owns.take(partition, finished);
+                self.told[partition] = self.owns.told_at(partition);
+                self.turned = Turned::none();
+                Some(answer)
+            }
+            Ok(None) => None,
+            Err(_refused) => None,
+        }
+    }
+
+    /// Makes a read of a key with the lock of its partition held, where it is done at once. Else nothing changes.
+    #[inline(always)]
+    fn read_one(
+        &mut self,
+        store: &Store<F, D, H>,
+        held: &mut Locked<F, D::Receipt, H>,
+        partition: usize,
+        session: SessionId,
+        key: &F::Key,
+        input: &F::Input,
+    ) -> Option<AnswerOf<F>>
+        requires here { partition < store.now.count }
+        requires own { IsPassOf store.now self.old }
+        ensures done { IfSome result (IsDone H.keeps self.old partition (Read key.now input.now) self.new) }
+        ensures none { result ≡ None → self.new ≡ self.old }
+    {
+        match self.owns.make_room(partition) {
+            Ok(()) => {}
+            Err(_refused) => return None,
+        }
+        let known = self.told[partition];
+        match held.try_read_in_memory(session, key, input, known, &store.functions) {
+            Ok(Some(finished)) => {
+                let answer = self.owns.take(partition, finished);
+                self.told[partition] = self.owns.told_at(partition);
+                self.turned = Turned::none();
+                Some(answer)
+            }
+            Ok(None) => None,
+            Err(_refused) => None,
+        }
+    }
+}
