@@ -1,6 +1,6 @@
 -- Once pages have moved on, there is room for a record.
 use Rattle.std.proofs.Common.{◌≡◌, ◌<◌, ◌≤◌, ◌+◌, ◌-◌, ◌*◌, ◌/◌, ◌^◌, inl, inr, Bool, true, false, ℕ, List, [], Result, length, refl, sym, ◌∙◌, ap, subst, arith}
-use Rattle.std.proofs.Math.Nat.{le-div_iff_mul-le, div-mul-le_self}
+use Rattle.std.proofs.Math.Nat.{le-div_iff_mul-le}
 use Rattle.std.proofs.lemmas.Bool.{cases_lt}
 use Rattle.std.proofs.lemmas.Nat.{pow_pos}
 use Rattle.fkv_functions.specs.declared.refusals.Refused.{Refused}
@@ -214,18 +214,18 @@ module _ {K V I : Type 0} where
       rw bits (omega (arith, flushed))
 
 -- ---- the frame of the page behind the tail's is free
-half-low : (frames tail : ℕ) → tail - (frames - 2) ≤ tail - (frames / 2 - 1)
-half-low frames tail = let half : frames / 2 * 2 ≤ frames = div-mul-le_self frames 2 in omega arith
+frozen-low : (frames tail : ℕ) → tail - (frames - 2) ≤ tail - (frames - 3 - frames / 8)
+frozen-low frames tail = omega arith
 
 page-least : (bits page a : ℕ) → start_at bits page ≤ a → page ≤ page_at bits a
 page-least bits page a h = (le-div_iff_mul-le {k = 2 ^ bits} {x = page} {y = a} (pow_pos bits)).1 h
 
 -- what is kept in frames is written
-pub kept-written : {K V I : Type 0} (u : PartitionView K V I) (frames tail : ℕ) → IsSettled u.records.log.regions → start_at u.records.log.regions.bits (tail - (frames / 2 - 1)) ≤ u.records.log.regions.offsets.read_only → IsWritten u → tail - (frames - 2) ≤ u.records.log.regions.flushed
+pub kept-written : {K V I : Type 0} (u : PartitionView K V I) (frames tail : ℕ) → IsSettled u.records.log.regions → start_at u.records.log.regions.bits (tail - (frames - 3 - frames / 8)) ≤ u.records.log.regions.offsets.read_only → IsWritten u → tail - (frames - 2) ≤ u.records.log.regions.flushed
 kept-written u frames tail settled frozen written =
-    let low : tail - (frames - 2) ≤ tail - (frames / 2 - 1) = half-low frames tail in
-    let safe : start_at u.records.log.regions.bits (tail - (frames / 2 - 1)) ≤ u.records.log.regions.offsets.safe_read_only = subst (λ n. start_at u.records.log.regions.bits (tail - (frames / 2 - 1)) ≤ n) (sym settled.safe) frozen in
-    let page : tail - (frames / 2 - 1) ≤ page_at u.records.log.regions.bits u.records.log.regions.offsets.safe_read_only = page-least u.records.log.regions.bits (tail - (frames / 2 - 1)) u.records.log.regions.offsets.safe_read_only safe in
+    let low : tail - (frames - 2) ≤ tail - (frames - 3 - frames / 8) = frozen-low frames tail in
+    let safe : start_at u.records.log.regions.bits (tail - (frames - 3 - frames / 8)) ≤ u.records.log.regions.offsets.safe_read_only = subst (λ n. start_at u.records.log.regions.bits (tail - (frames - 3 - frames / 8)) ≤ n) (sym settled.safe) frozen in
+    let page : tail - (frames - 3 - frames / 8) ≤ page_at u.records.log.regions.bits u.records.log.regions.offsets.safe_read_only = page-least u.records.log.regions.bits (tail - (frames - 3 - frames / 8)) u.records.log.regions.offsets.safe_read_only safe in
     omega arith
 
 pub roomy : {K V I : Type 0} (w : PartitionView K V I) (frames tail : ℕ) → 0 < frames → w.records.log.regions.bits ≡ w.records.log.bits → w.records.log.frames ≡ frames → page_at w.records.log.bits w.records.log.tail ≡ tail → IsSettled w.records.log.regions
@@ -239,7 +239,7 @@ roomy w frames tail some bits count at settled evicted full =
 -- pages moved on: `v` before, `u` once ReadOnly moved, `t` once pages are written, and `w` at the end
 pub tidy-roomy : {K V I : Type 0} {keeps : Bool} (v u t w : PartitionView K V I) (frames tail frozen_page kept : ℕ)
     → 0 < frames → frames ≡ v.records.log.frames → tail ≡ page_at v.records.log.bits v.records.log.tail
-    → frozen_page ≡ tail - (frames / 2 - 1) → kept ≡ tail - (frames - 2) → v.records.log.regions.bits ≡ v.records.log.bits
+    → frozen_page ≡ tail - (frames - 3 - frames / 8) → kept ≡ tail - (frames - 2) → v.records.log.regions.bits ≡ v.records.log.bits
     → (IsSettled v.records.log.regions → frozen_page ≤ page_at v.records.log.regions.bits v.records.log.tail → start_at v.records.log.regions.bits frozen_page ≤ u.records.log.regions.offsets.read_only)
     → StaysSettled v u → IsSameLog keeps v u → IsOnward v u
     → IsWritten t → StaysSettled u t → IsSameLog keeps u t → IsOnward u t → t.records.log.regions.offsets ≡ u.records.log.regions.offsets

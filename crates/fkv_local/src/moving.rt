@@ -1,9 +1,9 @@
 //! How a partition's pages move: to where they are read only, to the device, and out of their frames.
 //!
-//! A partition keeps its newest records in memory. ReadOnly follows the tail at half of the frames, each page below it
-//! is written, and Head follows so that the page after the tail's finds its frame free. Whatever is refused on the way, the map
-//! stays, and the next call takes up where this one ended.
-ghost use Rattle.std.specs.Prelude.{◌≡◌, ◌<◌, ◌≤◌, ◌+◌, ◌^◌, false, IsTrue, IfOk, IfErr, OnOk};
+//! A partition keeps its newest records in memory. ReadOnly follows the tail, each page below it is written, and Head follows so that
+//! the page after the tail's finds its frame free. Whatever is refused on the way, the map stays, and the next call takes up where
+//! this one ended.
+ghost use Rattle.std.specs.Prelude.{◌≡◌, ◌<◌, ◌≤◌, ◌+◌, ◌-◌, ◌/◌, ◌^◌, false, IsTrue, IfOk, IfErr, OnOk};
 ghost use Rattle.fkv_records.specs.Places.{page_at, start_at};
 ghost use Rattle.fkv_regions.specs.Settled.{IsSettled};
 ghost use Rattle.fkv_regions.specs.RegionsView.{refreshed};
@@ -17,7 +17,7 @@ use crate::parts::{Part, SLOT};
 use fkv_device::{Disk, Receipt, Written};
 use fkv_functions::{Mergeable, Refused};
 use fkv_operations::Clock;
-use fkv_partition::{Partition, kept_page, read_only_page};
+use fkv_partition::{Partition, kept_page};
 use fkv_records::Address;
 use std::alloc::Global;
 
@@ -178,6 +178,15 @@ fn flush_all<F: Mergeable, D: Disk>(
     Err(Refused::Worn)
 }
 
+/// The page below which a log of so many frames is to be read only, while its tail stands in this page: an eighth of the frames, and
+/// one, hold records that are read only, and in all others they change in place. Nobody waits for a page to be written here, so the
+/// read-only pages only give a record that is often updated a time to be copied to the tail before it leaves memory.
+fn read_only_page(frames: u64, tail: u64) -> u64
+    ensures { result ≡ tail - (frames - 3 - frames / 8) }
+{
+    tail.saturating_sub(frames.saturating_sub(3).saturating_sub(frames / 8))
+}
+
 /// The page of an address of a partition's log.
 pub fn page_of<F: Mergeable, R: Receipt>(partition: &Partition<F, R>, address: Address) -> u64
     ensures value { result ≡ page_at partition.now.records.log.bits address }
@@ -187,10 +196,10 @@ pub fn page_of<F: Mergeable, R: Receipt>(partition: &Partition<F, R>, address: A
     address / partition.page_size() as u64
 }
 
-/// Moves a partition's pages on: ReadOnly follows the tail, so that half of the frames are changed in place, one at
-/// least; the session is refreshed; the pages below are written; Head follows, so that the page behind the tail's finds its frame
-/// free; and the session is refreshed. What is not due is passed over. **Once it is done there is room for a record.** Refused:
-/// `Worn`, `NoMemory`, and as the device refuses a page.
+/// Moves a partition's pages on: ReadOnly follows the tail, so that records in most frames are changed in place; the session is
+/// refreshed; the pages below are written; Head follows, so that the page behind the tail's finds its frame free; and the session is
+/// refreshed. What is not due is passed over. **Once it is done there is room for a record.** Refused: `Worn`, `NoMemory`, and as the
+/// device refuses a page.
 pub fn tidy<F: Mergeable, D: Disk>(
     alloc: Global,
     part: &mut Part<F, D>,
