@@ -1,4 +1,4 @@
-//! Whole runs as rows: their statuses, their texts, and streams that fail. Scripts stand in `fkv_test_steps`.
+//! Whole runs as rows: their statuses and their texts. Scripts stand in `fkv_test_steps`.
 use fkv_commands::FeedFiles;
 use fkv_commands::running::{refuse_words, run, tell};
 use fkv_device::PageFile;
@@ -15,14 +15,14 @@ use std::sync::Wait;
 use std::test::Fail;
 use std::thread::Threads;
 
-const THIN_PATH: &str = "store sum 0 8 8 2
+pub(crate) const THIN_PATH: &str = "store sum 0 8 8 2
 enter 0
 do 0 0 rmw a 5
 do 0 0 rmw a -2
 do 0 0 read a
 ";
 
-const THIN_PATH_TOLD: &str = "entered 0
+pub(crate) const THIN_PATH_TOLD: &str = "entered 0
 done value 5
 done value 3
 done value 3
@@ -30,7 +30,7 @@ map 1
 a 3
 ";
 
-const HELP: &str = "A proved key-value store for per-key state
+pub(crate) const HELP: &str = "A proved key-value store for per-key state
 
 Usage: fkv_cli [COMMAND]
 
@@ -70,18 +70,18 @@ pub(crate) fn split(alloc: Global, line: &str) -> Result<Vec<String>, AllocError
 }
 
 /// The bytes of an input that a call gives at the most, where they are few.
-const PIECE: usize = 7;
+pub(crate) const PIECE: usize = 7;
 
 /// A run: its command line, its input with the bytes of it that a call gives at the most and the calls after which it fails,
 /// and the bytes after which the output and what stands beside it are full.
 #[derive(Clone, Copy)]
 pub(crate) struct Launch<'a> {
-    line: &'a str,
-    input: &'a str,
-    piece: usize,
-    calls: u64,
-    room: usize,
-    beside: usize,
+    pub(crate) line: &'a str,
+    pub(crate) input: &'a str,
+    pub(crate) piece: usize,
+    pub(crate) calls: u64,
+    pub(crate) room: usize,
+    pub(crate) beside: usize,
 }
 
 /// A run in which nothing fails.
@@ -166,16 +166,16 @@ where
     ended.status == status && writer.text.as_slice() == printed.as_bytes() && is_told
 }
 
-const BAD_ROW: &str = "fkv_cli: bad row 2 of feed 1\nfkv_cli: standard input, row 2\n";
+pub(crate) const BAD_ROW: &str = "fkv_cli: bad row 2 of feed 1\nfkv_cli: standard input, row 2\n";
 
-const NO_FEED: &str =
+pub(crate) const NO_FEED: &str =
     "fkv_cli: cannot read input 1\nfkv_cli: feed 1 is 'no-such-file': no such file\n";
 
 /// More keys than two frames of 256 bytes hold, and the first of them again.
-const LETTERS: &str =
+pub(crate) const LETTERS: &str =
     "a,1\nb,1\nc,1\nd,1\ne,1\nf,1\ng,1\nh,1\ni,1\nj,1\nk,1\nl,1\nm,1\nn,1\no,1\np,1\nq,1\nr,1\ns,1\nt,1\na,1\n";
 
-const LETTERS_TOLD: &str =
+pub(crate) const LETTERS_TOLD: &str =
     "a,2\nb,1\nc,1\nd,1\ne,1\nf,1\ng,1\nh,1\ni,1\nj,1\nk,1\nl,1\nm,1\nn,1\no,1\np,1\nq,1\nr,1\ns,1\nt,1\n";
 
 const BAD_SIZE: &str =
@@ -184,15 +184,11 @@ const BAD_SIZE: &str =
 const BARE_SIZE: &str =
     "error: --memory takes a unit behind its number: K, M, G or T, such as 64M\n";
 
-const NO_SPILL_FOLDER: &str = "error: --spill needs a folder for its pages: --dir PATH\n";
-
-const SHARED_SPILL: &str = "error: --spill takes one worker, without --audit\n";
-
-const NO_FOLDER: &str =
+pub(crate) const NO_FOLDER: &str =
     "fkv_cli: device fault 1 on page 0\nfkv_cli: the folder '/dev/null/pages' can't be made or written: Not a directory (os error 20)\n";
 
 /// Command lines, inputs, statuses, what is printed, and what is told beside it; of a mistake its first line.
-const RUNS: [(&str, &str, u8, &str, &str); 85] = [
+const RUNS: [(&str, &str, u8, &str, &str); 74] = [
     ("fkv_cli", THIN_PATH, 0, THIN_PATH_TOLD, ""),
     ("fkv_cli replay", THIN_PATH, 0, THIN_PATH_TOLD, ""),
     ("fkv_cli --", THIN_PATH, 0, THIN_PATH_TOLD, ""),
@@ -442,73 +438,6 @@ const RUNS: [(&str, &str, u8, &str, &str); 85] = [
         LETTERS_TOLD,
         "",
     ),
-    // a table in pages of a folder, which has to be named, by one worker without histories
-    ("fkv_cli sum --spill", "a,1\n", 2, "", NO_SPILL_FOLDER),
-    (
-        "fkv_cli sum --spill --dir made/pages --workers 2",
-        "a,1\n",
-        2,
-        "",
-        SHARED_SPILL,
-    ),
-    (
-        "fkv_cli sum --dir made/pages --audit --spill",
-        "a,1\n",
-        2,
-        "",
-        SHARED_SPILL,
-    ),
-    (
-        "fkv_cli sum --spill --dir made/pages --workers 1 --partition-bits 0 --bucket-bits 0 --page-bits 8 --frames 2",
-        LETTERS,
-        0,
-        LETTERS_TOLD,
-        "",
-    ),
-    (
-        "fkv_cli count --spill --merge --dir made/pages --partition-bits 6 --page-bits 8 --frames 2",
-        LETTERS,
-        0,
-        LETTERS_TOLD,
-        "",
-    ),
-    ("fkv_cli max --spill --dir made/pages", "", 0, "", ""),
-    (
-        "fkv_cli summary --spill --dir made/pages",
-        "a,5\nb,7\na,-2\n",
-        0,
-        "a,2,3,-2,5\nb,1,7,7,7\n",
-        "",
-    ),
-    (
-        "fkv_cli sum --spill --dir made/pages",
-        "a,5\na,5x\n",
-        1,
-        "",
-        BAD_ROW,
-    ),
-    (
-        "fkv_cli sum --spill --dir /dev/null/pages",
-        "a\n",
-        1,
-        "",
-        NO_FOLDER,
-    ),
-    (
-        "fkv_cli sum --spill --dir made/pages no-such-file",
-        "a,1\n",
-        1,
-        "",
-        NO_FEED,
-    ),
-    // the one page of the table is written and read back
-    (
-        "fkv_cli sum --stats --spill --dir made/pages --partition-bits 0",
-        "a,5\nb,7\na,-2\n",
-        0,
-        "a,3\nb,7\n",
-        "fkv_cli: rows 3\nfkv_cli: keys 2\nfkv_cli: records appended 2\nfkv_cli: updates in place 1\nfkv_cli: pages written 1\nfkv_cli: pages read 1\nfkv_cli: bytes on the device 65536\n",
-    ),
     // the feeds are opened first, then the folder, and the rows are read last
     (
         "fkv_cli sum --dir /dev/null/pages no-such-file",
@@ -594,214 +523,6 @@ fn runs(rt: HostRuntime) {
         assert!(rt;
             ends(&rt, rt.alloc(), start, *status, printed, told),
             "run {at}"
-        );
-    }
-}
-
-/// Command lines whose runs read the input to its end, that input, and what they print.
-const READ: [(&str, &str, &str); 3] = [
-    ("fkv_cli", THIN_PATH, THIN_PATH_TOLD),
-    (
-        "fkv_cli sum --partition-bits 0 --bucket-bits 0 --page-bits 8 --frames 2",
-        "a,5\nb,7\na,-2\nc,1\n",
-        "a,3\nb,7\nc,1\n",
-    ),
-    // a reader that is read whole before the run begins
-    (
-        "fkv_cli sum --audit",
-        "a,5\nb,7\na,-2\nc,1\n",
-        "a,3\nb,7\nc,1\n",
-    ),
-];
-
-/// What a run prints of help whose output is full after so many bytes.
-const FULL: [(&str, usize, &str); 4] = [
-    ("fkv_cli --help", 0, ""),
-    ("fkv_cli --help", 1, "A"),
-    ("fkv_cli --help", 9, "A proved "),
-    (
-        "fkv_cli -h",
-        42,
-        "A proved key-value store for per-key state",
-    ),
-];
-
-/// More calls than give any of these inputs.
-const CALLS: u64 = 1_000;
-
-/// The calls before the first one by whose failure a run ends as it may not: each call that gives the input fails in turn,
-/// until a run makes no more calls. Where one fails nothing is printed. That run is the other one, too, where there were too
-/// few calls for all bytes and their end.
-fn first_unread<H: Files + Threads + Wait + Clock + Sync>(
-    rt: &H,
-    alloc: Global,
-    line: &str,
-    input: &str,
-    printed: &str,
-) -> Option<u64>
-where
-    H::File: PageFile + Send,
-    H::Dir: Send,
-{
-    let least = input.len().div_ceil(PIECE) as u64 + 1;
-    let unreadable = if line == "fkv_cli" {
-        "fkv_cli: cannot read input 1\n"
-    } else {
-        "fkv_cli: cannot read input 1\nfkv_cli: feed 1 is standard input\n"
-    };
-    for calls in 0..CALLS {
-        let start = Launch {
-            calls,
-            ..start(line, input)
-        };
-        if ends(rt, alloc, start, 1, "", unreadable) {
-            continue;
-        }
-        let is_whole = calls >= least && ends(rt, alloc, start, 0, printed, "");
-        return if is_whole { None } else { Some(calls) };
-    }
-    Some(CALLS)
-}
-
-/// The room of the first output by which a run ends as it may not: each room up to that for all that is printed. Where it is
-/// less, as many bytes of the front are printed.
-fn first_unwritten<H: Files + Threads + Wait + Clock + Sync>(
-    rt: &H,
-    alloc: Global,
-    line: &str,
-    input: &str,
-    printed: &str,
-) -> Option<usize>
-where
-    H::File: PageFile + Send,
-    H::Dir: Send,
-{
-    let unwritable = "fkv_cli: cannot write output\n";
-    (0..=printed.len()).find(|room| {
-        let (status, told) = if *room < printed.len() {
-            (1, unwritable)
-        } else {
-            (0, "")
-        };
-        let start = Launch {
-            room: *room,
-            ..start(line, input)
-        };
-        match printed.get(..*room) {
-            Some(front) => !ends(rt, alloc, start, status, front, told),
-            None => true,
-        }
-    })
-}
-
-/// Runs whose output has room for all, and runs whose fault can not be told whole: they end with their status.
-const ENDED: [(Launch<'_>, u8, &str, &str); 6] = [
-    // what is wrong with the input is told, not that the output is full
-    (
-        Launch {
-            line: "fkv_cli",
-            input: "store sum 0 8 7 2\n",
-            piece: PIECE,
-            calls: 100,
-            room: 0,
-            beside: 100,
-        },
-        1,
-        "",
-        "fkv_cli: bad configuration\n",
-    ),
-    (
-        Launch {
-            line: "fkv_cli sum",
-            input: "a\n",
-            piece: PIECE,
-            calls: 100,
-            room: 0,
-            beside: 200,
-        },
-        1,
-        "",
-        "fkv_cli: bad row 1 of feed 1\nfkv_cli: standard input, row 1\nfkv_cli: a feed has no header; each line is KEY,AMOUNT\n",
-    ),
-    (
-        Launch {
-            line: "fkv_cli",
-            input: THIN_PATH,
-            piece: PIECE,
-            calls: 12,
-            room: 59,
-            beside: 0,
-        },
-        0,
-        THIN_PATH_TOLD,
-        "",
-    ),
-    (
-        Launch {
-            line: "fkv_cli --help",
-            input: "",
-            piece: PIECE,
-            calls: 0,
-            room: 581,
-            beside: 0,
-        },
-        0,
-        HELP,
-        "",
-    ),
-    (
-        Launch {
-            line: "fkv_cli",
-            input: "",
-            piece: PIECE,
-            calls: 12,
-            room: 0,
-            beside: 4,
-        },
-        1,
-        "",
-        "fkv_",
-    ),
-    (
-        Launch {
-            line: "fkv_cli reply",
-            input: "",
-            piece: PIECE,
-            calls: 0,
-            room: 0,
-            beside: 4,
-        },
-        2,
-        "",
-        "erro",
-    ),
-];
-
-#[test]
-fn streams_that_fail(rt: HostRuntime) {
-    for (line, input, printed) in READ {
-        let unread = first_unread(&rt, rt.alloc(), line, input, printed);
-        assert!(rt; unread == None, "{line}: call {unread:?}");
-        let unwritten = first_unwritten(&rt, rt.alloc(), line, input, printed);
-        assert!(rt; unwritten == None, "{line}: room {unwritten:?}");
-    }
-    let unwritten = first_unwritten(&rt, rt.alloc(), "fkv_cli -V", "", "fkv_cli 0.1.0\n");
-    assert!(rt; unwritten == None, "room {unwritten:?}");
-    for (line, room, printed) in FULL {
-        let start = Launch {
-            room,
-            ..start(line, "")
-        };
-        let told = "fkv_cli: cannot write output\n";
-        assert!(rt;
-            ends(&rt, rt.alloc(), start, 1, printed, told),
-            "{line} {room}"
-        );
-    }
-    for (at, (start, status, printed, told)) in ENDED.iter().enumerate() {
-        assert!(rt;
-            ends(&rt, rt.alloc(), *start, *status, printed, told),
-            "end {at}"
         );
     }
 }

@@ -7,11 +7,15 @@ mod causes;
 #[cfg(test)]
 mod commands;
 #[cfg(test)]
+mod failing;
+#[cfg(test)]
 mod folders;
 #[cfg(test)]
 mod named;
 #[cfg(test)]
 mod printed;
+#[cfg(test)]
+mod spilled;
 #[cfg(test)]
 mod stats;
 #[cfg(test)]
