@@ -152,27 +152,27 @@ fn failing(
 #[test]
 fn each_call_fails_before_a_table_is_written(rt: HostRuntime) -> Result<(), Refused> {
     let (feed, sums) = made(rt.alloc(), 3, 80, 60)?;
-    let mut calls = 0;
-    let mut told = Some(Refused::NoMemory);
-    while told.is_some() && calls < 500 {
+    let mut whole = None;
+    for calls in 0..500 {
         let (come, fault, text) = failing(rt.alloc(), &feed, calls);
         let is_right = match fault {
             Some(refused) => come == Err(refused) && text.is_empty(),
             None => come == Ok(()) && text == sums,
         };
         assert!(rt; is_right, "{calls} {come:?} {fault:?}");
-        told = fault;
-        calls += 1;
+        if fault.is_none() {
+            whole = Some(calls);
+            break;
+        }
     }
-    assert!(rt; told.is_none() && calls > 30, "{calls}");
+    assert!(rt; whole.is_some_and(|calls| calls > 30), "{whole:?}");
     Ok(())
 }
 
-/// A feed of so many keys of 31 bytes, each once, in their order: it is the table of its sums.
-fn long_rows(alloc: Global, keys: u64) -> Result<Vec<u8>, Refused> {
+/// A feed of 1,500 keys of 31 bytes, each once, in their order: it is the table of its sums.
+fn long_rows(alloc: Global) -> Result<Vec<u8>, Refused> {
     let mut feed = Vec::new(alloc);
-    for key in 0..keys {
-        let number = 1_000 + key;
+    for number in 1_000..2_500u64 {
         let Ok(()) = writeln!(feed, "a-key-as-long-as-may-stand-{number},{}", i64::MIN) else {
             return Err(Refused::NoMemory);
         };
@@ -183,7 +183,7 @@ fn long_rows(alloc: Global, keys: u64) -> Result<Vec<u8>, Refused> {
 /// The last page of a table is not read back, when 64 KiB of its rows and more were gathered: those that were written stand.
 #[test]
 fn the_last_call_fails_after_rows_were_written(rt: HostRuntime) -> Result<(), Refused> {
-    let feed = long_rows(rt.alloc(), 1_500)?;
+    let feed = long_rows(rt.alloc())?;
     let meters = Meters::new();
     let device = MeteredDevice::new(MemoryDevice::new(rt.alloc()), &meters);
     let mut text = Vec::new(rt.alloc());
@@ -198,10 +198,10 @@ fn the_last_call_fails_after_rows_were_written(rt: HostRuntime) -> Result<(), Re
         &mut text,
     )?;
     assert!(rt; text == feed);
-    // each of four partitions opens a writer and a reader
+    // each of four partitions opens a writer and a reader, and the last call of all fails
     let seen = meters.seen();
-    let calls = 8 + seen.pages_written + seen.pages_read;
-    let (come, told, part) = failing(rt.alloc(), &feed, calls - 1);
+    let moved = seen.pages_written.saturating_add(seen.pages_read);
+    let (come, told, part) = failing(rt.alloc(), &feed, moved.saturating_add(7));
     assert!(rt; told.is_some() && come.err() == told, "{come:?} {told:?}");
     assert!(rt;
         part.len() > 60_000 && feed.starts_with(&part),
