@@ -1,8 +1,8 @@
 -- Tables that stand on a device, and what was written of them.
-use Rattle.std.proofs.Common.{◌≡◌, ◌≤◌, ◌⊎◌, ℕ, ℤ, Bool, true, false, List, [], ◌∷◌, map, Option, None, Result, Ok, Err, IsTrue, refl, sym, subst, ◌∙◌, inl, inr, option_map, string_bytes}
+use Rattle.std.proofs.Common.{◌≡◌, ◌⊎◌, ⊎_elim, ℕ, ℤ, Bool, true, false, List, [], ◌∷◌, map, Option, None, Result, Ok, Err, IsTrue, refl, sym, subst, inl, inr, option_map, string_bytes}
 use Rattle.std.specs.Prelude.{◌||◌, OnOk, OnErr, IfOk, IfErr}
 use Rattle.std.specs.List.{AllZip}
-use Rattle.std.proofs.Math.Nat.{max-eq_left}
+use Rattle.std.proofs.lemmas.Bool.{cases_eq}
 use Rattle.fkv_functions.specs.Codecs.{Codec}
 use Rattle.fkv_functions.specs.Meanings.{Meanings}
 use Rattle.fkv_functions.specs.declared.names.Name.{Name}
@@ -18,9 +18,8 @@ use Rattle.fkv_feeds.specs.Writing.{IsUnwritten}
 use Rattle.fkv_feeds.specs.declared.counting.Plan.{Plan}
 use Rattle.fkv_feeds.specs.declared.spilling.SpilledRun.{SpilledRun}
 use Rattle.fkv_requests.specs.declared.requests.TableRequest.{TableRequest}
-use Rattle.fkv_requests.specs.Requests.{Text}
-use Rattle.fkv_commands.specs.Plans.{IsPlanBy, IsPlanOf, readers}
-use Rattle.fkv_commands.specs.Endings.{IsOfPages, IsSpoilt, MayBeLate}
+use Rattle.fkv_commands.specs.Plans.{IsPlanOf}
+use Rattle.fkv_commands.specs.Endings.{IsKnown, IsOfPages, IsSpoilt, MayBeLate}
 use Rattle.fkv_commands.specs.Sources.{Agrees}
 use Rattle.fkv_commands.proofs.MakingLemmas.{unkept}
 use Rattle.fkv_commands.proofs.OpeningLemmas.{agree-table}
@@ -76,31 +75,56 @@ merged-pages failures known old new failed fails e h =
     (λ x y unread. unreadable-pages (failures x.behind.reader) (failures y.behind.reader) (known x) e unread) one) refused)
     h
 
--- what comes of pairs that are read back: where these are known it is the table, and else some rows
-written : {V : Type 0} (keeps : Bool) (Table Text : List V → Type 0)
-    → (IsTrue keeps → (xs : List V) × Table xs × Text xs)
-    → ((xs : List V) × Text xs)
-    → (xs : List V) × (IsTrue keeps → Table xs) × Text xs
-written true Table Text known some = let h = known refl in (h.0, (λ _. h.1), h.2)
-written false Table Text known some = (some.0, (λ keeps. let bad : false ≡ true = keeps in absurd (cc)), some.1)
+-- whether the table is known
+nil-or-not : {A : Type 0} (xs : List A) → (xs ≡ []) ⊎ (xs ≡ [] → ⊥)
+nil-or-not [] = inl refl
+nil-or-not (x ∷ xs) = inr (λ e. absurd (cc))
 
-pub written-whole : {T E V : Type 0} (r : Result T E) (keeps : Bool) (Come Table Whole Front : List V → Type 0)
+true-or-not : (b : Bool) → (b ≡ true) ⊎ (b ≡ true → ⊥)
+true-or-not true = inl refl
+true-or-not false = inr (λ e. absurd (cc))
+
+pub known-or-not : (table : TableRequest) → IsKnown table ⊎ (IsKnown table → ⊥)
+known-or-not table = elim (nil-or-not (map string_bytes table.paths.items)) [
+  | inl none ↦ inl (inl none)
+  | inr some ↦ elim (true-or-not table.audit) [
+    | inl audited ↦ inl (inr (inl audited))
+    | inr not ↦ elim (cases_eq table.workers 1) [
+      | inl one ↦ inl (inr (inr one))
+      | inr others ↦ inr (λ known. ⊎_elim (λ a. some a) (λ rest. ⊎_elim (λ b. not b) (λ w. others w) rest) known)
+    ]
+  ]
+]
+
+-- what comes of pairs that are read back: where these are known it is the table, and else some rows
+written : {V : Type 0} (keeps : Bool) (Known : Type 0) (Table Text : List V → Type 0)
+    → Known ⊎ (Known → ⊥)
+    → (IsTrue keeps → Known → (xs : List V) × Table xs × Text xs)
+    → ((xs : List V) × Text xs)
+    → (xs : List V) × (IsTrue keeps → Known → Table xs) × Text xs
+written true Known Table Text (inl sure) known some = let h = known refl sure in (h.0, (λ _ _. h.1), h.2)
+written true Known Table Text (inr not) known some = (some.0, (λ _ sure. absurd (not sure)), some.1)
+written false Known Table Text decided known some = (some.0, (λ keeps _. let bad : false ≡ true = keeps in absurd (cc)), some.1)
+
+pub written-whole : {T E V : Type 0} (r : Result T E) (keeps : Bool) (Known : Type 0) (Come Table Whole Front : List V → Type 0)
+    → Known ⊎ (Known → ⊥)
     → ((xs : List V) → Come xs → OnOk r (Whole xs))
     → ((xs : List V) × OnOk r (Whole xs) × OnErr r (Front xs))
-    → (IsTrue keeps → (xs : List V) × Come xs × Table xs)
-    → OnOk r ((xs : List V) × (IsTrue keeps → Table xs) × Whole xs)
-written-whole (Ok t) keeps Come Table Whole Front whole some known =
-    written keeps Table Whole (λ k. let h = known k in (h.0, h.2, whole h.0 h.1)) (some.0, some.1)
-written-whole (Err e) keeps Come Table Whole Front whole some known = tt
+    → (IsTrue keeps → Known → (xs : List V) × Come xs × Table xs)
+    → OnOk r ((xs : List V) × (IsTrue keeps → Known → Table xs) × Whole xs)
+written-whole (Ok t) keeps Known Come Table Whole Front decided whole some known =
+    written keeps Known Table Whole decided (λ k sure. let h = known k sure in (h.0, h.2, whole h.0 h.1)) (some.0, some.1)
+written-whole (Err e) keeps Known Come Table Whole Front decided whole some known = tt
 
-pub written-front : {T E V : Type 0} (r : Result T E) (keeps : Bool) (Come Table Whole Front : List V → Type 0)
+pub written-front : {T E V : Type 0} (r : Result T E) (keeps : Bool) (Known : Type 0) (Come Table Whole Front : List V → Type 0)
+    → Known ⊎ (Known → ⊥)
     → ((xs : List V) → Come xs → OnErr r (Front xs))
     → ((xs : List V) × OnOk r (Whole xs) × OnErr r (Front xs))
-    → (IsTrue keeps → (xs : List V) × Come xs × Table xs)
-    → OnErr r ((xs : List V) × (IsTrue keeps → Table xs) × Front xs)
-written-front (Ok t) keeps Come Table Whole Front front some known = tt
-written-front (Err e) keeps Come Table Whole Front front some known =
-    written keeps Table Front (λ k. let h = known k in (h.0, h.2, front h.0 h.1)) (some.0, some.2)
+    → (IsTrue keeps → Known → (xs : List V) × Come xs × Table xs)
+    → OnErr r ((xs : List V) × (IsTrue keeps → Known → Table xs) × Front xs)
+written-front (Ok t) keeps Known Come Table Whole Front decided front some known = tt
+written-front (Err e) keeps Known Come Table Whole Front decided front some known =
+    written keeps Known Table Front decided (λ k sure. let h = known k sure in (h.0, h.2, front h.0 h.1)) (some.0, some.2)
 
 -- facts of an answer, side by side
 pub at-err : {T E : Type 0} (r : Result T E) (e : E) (X : Type 0) → OnErr r X → r ≡ Err e → X
@@ -135,18 +159,6 @@ pub planned : {T E : Type 0} (plan : T → Plan) (run : Plan) (table : TableRequ
     → IfOk r (λ ran. IsPlanOf table (plan ran))
 planned plan run table (Ok ran) is by = subst (λ p. IsPlanOf table p) (sym is) by
 planned plan run table (Err e) is by = tt
-
--- one worker reads the feeds, named or not
-one-reader : (paths : List Text) (asked : ℕ) → asked ≤ 1 → readers paths asked ≡ 1
-one-reader [] asked few = refl
-one-reader (path ∷ paths) asked few = max-eq_left few
-
-pub alone-plan : {R E : Type 0} (plan : R → Plan) (table : TableRequest) (r : Result R E)
-    → table.workers ≤ 1
-    → IfOk r (λ run. IsPlanBy table 1 (plan run))
-    → IfOk r (λ run. IsPlanOf table (plan run))
-alone-plan plan table (Ok run) few by = (by.0, by.1, by.2 ∙ sym (one-reader (map string_bytes table.paths.items) table.workers few))
-alone-plan plan table (Err e) few by = tt
 
 -- the table, where the device keeps, or what spoils it
 pub table-or-spoilt : (T : Type 0) (absent : Bool) (pages : Option Pages) (table : TableRequest)

@@ -1,5 +1,5 @@
 -- What a run leaves on its output, by what was read.
-use Rattle.std.specs.Prelude.{◌≡◌, ◌≢◌, ◌⊎◌, ⊤, true, List, [], ◌∷◌, map, length, ℕ, ℤ, Option, None, Some, IfSome, codes, option_map, string_bytes}
+use Rattle.std.specs.Prelude.{◌≡◌, ◌≢◌, ◌⊎◌, ⊤, true, List, [], ◌∷◌, map, ℕ, ℤ, Option, None, Some, IfSome, codes, option_map, string_bytes}
 use Rattle.std.specs.Fmt.{decimal, signed_decimal}
 use Rattle.fkv_device.specs.Known.{Pages, HasCollision}
 use Rattle.fkv_functions.specs.Meanings.{Meanings}

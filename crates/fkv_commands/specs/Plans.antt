@@ -1,5 +1,5 @@
 -- How the run is made that a request asks for.
-use Rattle.std.specs.Prelude.{◌≡◌, ◌≤◌, ◌↔◌, ℕ, List, Option, [], ◌∷◌, map, max, true, false, string_bytes}
+use Rattle.std.specs.Prelude.{◌≡◌, ◌↔◌, ℕ, List, Option, [], ◌∷◌, map, max, true, false, string_bytes}
 use Rattle.fkv_feeds.specs.declared.counting.Plan.{Plan}
 use Rattle.fkv_feeds.specs.declared.modes.RowMode.TheVariants.{Merge}
 use Rattle.fkv_requests.specs.declared.requests.TableRequest.{TableRequest}
@@ -26,6 +26,6 @@ abbrev pub feeds_of : (List ℕ → Option (List ℕ)) → List Text → Option 
 feeds_of bytes [] input = input ∷ []
 feeds_of bytes (path ∷ paths) input = map bytes (path ∷ paths)
 
--- a table that is spilled is made by one worker, which keeps no histories
-abbrev pub IsAlone : TableRequest → Type 0
-IsAlone table = table.spill ≡ true → (table.workers ≤ 1) × (table.audit ≡ false)
+-- of a table that is spilled no histories are kept
+abbrev pub IsUnaudited : TableRequest → Type 0
+IsUnaudited table = table.spill ≡ true → table.audit ≡ false

@@ -13,7 +13,7 @@ use fkv_meters::Progress;
 use fkv_requests::TableRequest;
 use fkv_store::Open;
 use fkv_streams::{CountedReader, Source};
-use fkv_workers::run_blocks;
+use fkv_workers::{run_blocks, spill_blocks};
 use std::alloc::Global;
 use std::fs::Files;
 use std::rt::Clock;
@@ -181,28 +181,74 @@ pub(crate) fn spilled_of_input<
     spill_alone_by(alloc, reader, functions, &table.config, device, mode)
 }
 
-/// A run by one worker over the feeds that are named, all of which are opened, in order, before a row is read. Its table stands on the
-/// device.
-pub(crate) fn spilled_of_feeds<
-    F: Mergeable + OrderFree<Key = Name, Input = i64>,
-    D: Disk,
-    O: Opener,
+/// A run over these feeds by so many workers, in threads of their own, whose table stands on the device: each takes blocks of any feed.
+fn spilled_by<
+    S: Source + Drop + Send,
+    F: Mergeable + OrderFree<Key = Name, Input = i64> + Send + Sync,
+    D: Disk + Send,
+    T: Threads + Wait + Clock + Sync,
 >(
+    rt: &T,
+    alloc: Global,
+    table: &TableRequest,
+    workers: usize,
+    functions: F,
+    feeds: Vec<S>,
+    device: D,
+) -> Result<SpilledRun<F::Value, D::Receipt, D::Reader>, Refused>
+where
+    F::Value: Send,
+    F::Output: Send,
+    D::Receipt: Send,
+    D::Writer: Send,
+    D::Reader: Send,
+    ensures ran { IfOk result (λ run. IsPlanBy table.now workers run.plan) }
+    ensures some { OnOk result (0 < workers) }
+    ensures only { IfErr result (λ e. e ≢ Refused.Unwritable) }
+{
+    let config = &table.config;
+    let mode = mode_of(table);
+    let mut feeds = feeds;
+    spill_blocks::<S, F, D, Plain, Open, T>(
+        rt, alloc, &mut feeds, workers, functions, config, device, &Open, mode,
+    )
+}
+
+/// A run over the feeds that are named, all of which are opened, in order, before a row is read. Its table stands on the device.
+pub(crate) fn spilled_of_feeds<
+    F: Mergeable + OrderFree<Key = Name, Input = i64> + Send + Sync,
+    D: Disk + Send,
+    O: Opener,
+    T: Threads + Wait + Clock + Sync,
+>(
+    rt: &T,
     alloc: Global,
     table: &TableRequest,
     functions: F,
     device: D,
     opener: &O,
 ) -> Result<SpilledRun<F::Value, D::Receipt, D::Reader>, Refused>
-    ensures ok { IsTrue D.Receipt.keeps → IfOk result (HasTableOf F.Value.codec D.Receipt.keeps D.Receipt.stands F.meaning
+where
+    F::Value: Send,
+    F::Output: Send,
+    O::Feed: Send,
+    D::Receipt: Send,
+    D::Writer: Send,
+    D::Reader: Send,
+    ensures ok { IsTrue D.Receipt.keeps → table.now.workers ≡ 1
+        → IfOk result (HasTableOf F.Value.codec D.Receipt.keeps D.Receipt.stands F.meaning
         (map (λ path. O.bytes opener.now (string_bytes path)) table.now.paths.items)) }
-    ensures ran { IfOk result (λ run. IsPlanBy table.now 1 run.plan) }
+    ensures ran { IfOk result (λ run. IsPlanBy table.now (max 1 table.now.workers) run.plan) }
     ensures only { IfErr result (λ e. e ≢ Refused.Unwritable) }
 {
     let mut feeds = match all_opened(alloc, opener, table.paths.as_slice()) {
         Ok(feeds) => feeds,
         Err(refused) => return Err(refused),
     };
+    let workers = table.workers as usize;
+    if workers > 1 {
+        return spilled_by::<_, F, D, T>(rt, alloc, table, workers, functions, feeds, device);
+    }
     let config = &table.config;
     let mode = mode_of(table);
     spill_one_by(alloc, feeds.as_mut_slice(), functions, config, device, mode)

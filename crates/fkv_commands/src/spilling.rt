@@ -1,5 +1,5 @@
 //! Tables that stand on the device of their run: they are written row by row, as their pages are read back.
-ghost use Rattle.std.specs.Prelude.{◌≡◌, ◌≢◌, ◌≤◌, ◌⊎◌, ◌||◌, List, Err, true, if◌then◌else◌, IfOk, IfErr, IsTrue, OnOk, OnErr};
+ghost use Rattle.std.specs.Prelude.{◌≡◌, ◌≢◌, ◌⊎◌, ◌||◌, List, Err, false, true, if◌then◌else◌, IfOk, IfErr, IsTrue, OnOk, OnErr};
 ghost use Rattle.std.specs.Io.KnownBytes.{Appends};
 ghost use Rattle.fkv_functions.specs.declared.names.Name.{Name};
 ghost use Rattle.fkv_either.specs.Either.{is_absent};
@@ -7,7 +7,7 @@ ghost use Rattle.fkv_streams.specs.Streams.{AppendsPrefix};
 ghost use Rattle.fkv_feeds.specs.Spilling.{ArePairsOf, HasTableOf};
 ghost use Rattle.fkv_feeds.specs.Tables.{IsTableOf};
 ghost use Rattle.fkv_feeds.specs.Writing.{fields_of, table_text};
-ghost use Rattle.fkv_commands.specs.Endings.{IsOfPages, feeds_by};
+ghost use Rattle.fkv_commands.specs.Endings.{IsKnown, IsOfPages, feeds_by};
 ghost use Rattle.fkv_commands.specs.Plans.{IsPlanOf};
 
 use crate::making::{spilled_of_feeds, spilled_of_input};
@@ -21,9 +21,19 @@ use fkv_meters::{MeteredDevice, Meters, Progress};
 use fkv_requests::TableRequest;
 use fkv_streams::{Sink, Source};
 use std::alloc::Global;
+use std::rt::Clock;
+use std::sync::Wait;
+use std::thread::Threads;
 
 /// The run that is asked for, over the feeds that are named, or over the reader. Its table stands on the device.
-fn spilled<R: Source, F: Mergeable + OrderFree<Key = Name, Input = i64>, D: Disk, O: Opener>(
+fn spilled<
+    R: Source,
+    F: Mergeable + OrderFree<Key = Name, Input = i64> + Send + Sync,
+    D: Disk + Send,
+    O: Opener,
+    T: Threads + Wait + Clock + Sync,
+>(
+    rt: &T,
     alloc: Global,
     table: &TableRequest,
     functions: F,
@@ -31,9 +41,17 @@ fn spilled<R: Source, F: Mergeable + OrderFree<Key = Name, Input = i64>, D: Disk
     device: D,
     opener: &O,
 ) -> Result<SpilledRun<F::Value, D::Receipt, D::Reader>, Refused>
-    requires alone { table.now.workers ≤ 1 }
-    ensures ok { IsTrue D.Receipt.keeps → IfOk result (HasTableOf F.Value.codec D.Receipt.keeps D.Receipt.stands F.meaning
-        (feeds_by (λ path. O.bytes opener.now path) table.now (R.remaining reader.old))) }
+where
+    F::Value: Send,
+    F::Output: Send,
+    O::Feed: Send,
+    D::Receipt: Send,
+    D::Writer: Send,
+    D::Reader: Send,
+    requires unaudited { table.now.audit ≡ false }
+    ensures ok { IsTrue D.Receipt.keeps → IfOk result (λ run. IsKnown table.now
+        → HasTableOf F.Value.codec D.Receipt.keeps D.Receipt.stands F.meaning
+        (feeds_by (λ path. O.bytes opener.now path) table.now (R.remaining reader.old)) run) }
     ensures ran { IfOk result (λ run. IsPlanOf table.now run.plan) }
     ensures steady { OnOk result (R.failures reader.new ≡ R.failures reader.old) }
     ensures only { IfErr result (λ e. e ≢ Refused.Unwritable) }
@@ -41,7 +59,7 @@ fn spilled<R: Source, F: Mergeable + OrderFree<Key = Name, Input = i64>, D: Disk
     if table.paths.is_empty() {
         spilled_of_input(alloc, table, functions, reader, device)
     } else {
-        spilled_of_feeds(alloc, table, functions, device, opener)
+        spilled_of_feeds(rt, alloc, table, functions, device, opener)
     }
 }
 
@@ -78,12 +96,14 @@ fn write_spilled<V: Fixed + Shown, P: PageReader, W: Sink>(
 pub(crate) fn spill_on<
     R: Source,
     W: Sink,
-    F: Mergeable + OrderFree<Key = Name, Input = i64>,
-    D: Disk,
+    F: Mergeable + OrderFree<Key = Name, Input = i64> + Send + Sync,
+    D: Disk + Send,
     P: Progress,
     O: Opener,
-    K: Keeping,
+    K: Keeping + Send,
+    T: Threads + Wait + Clock + Sync,
 >(
+    rt: &T,
     alloc: Global,
     table: &TableRequest,
     functions: F,
@@ -95,23 +115,28 @@ pub(crate) fn spill_on<
     opener: &O,
 ) -> Result<Ran, Refused>
 where
-    F::Value: Shown,
+    F::Value: Shown + Send,
+    F::Output: Send,
+    O::Feed: Send,
+    D::Receipt: Send,
+    D::Writer: Send,
+    D::Reader: Send,
     requires kept { (if K.keeps then is_absent folder else true) ≡ true }
-    requires alone { table.now.workers ≤ 1 }
+    requires unaudited { table.now.audit ≡ false }
     ensures ok { OnOk result ((pairs : List (Name × F.Value))
-        × (IsTrue (K.keeps || D.Receipt.keeps)
+        × (IsTrue (K.keeps || D.Receipt.keeps) → IsKnown table.now
         → IsTableOf F.meaning (feeds_by (λ path. O.bytes opener.now path) table.now (R.remaining reader.old)) pairs)
         × Appends (W.contents writer.old) (W.contents writer.new)
         (table_text (fields_of F.Value.FIELDS F.Value.field_at) pairs)) }
     ensures ran { IfOk result (λ ran. IsPlanOf table.now ran.plan) }
     ensures unwritable { result ≡ Err Refused.Unwritable → (pairs : List (Name × F.Value))
-        × (IsTrue (K.keeps || D.Receipt.keeps)
+        × (IsTrue (K.keeps || D.Receipt.keeps) → IsKnown table.now
         → IsTableOf F.meaning (feeds_by (λ path. O.bytes opener.now path) table.now (R.remaining reader.old)) pairs)
         × AppendsPrefix (W.contents writer.old) (W.contents writer.new)
         (table_text (fields_of F.Value.FIELDS F.Value.field_at) pairs) }
     ensures nothing { IfErr result (λ e. (e ≡ Refused.Unwritable) ⊎ IsOfPages e ⊎ (W.contents writer.new ≡ W.contents writer.old)) }
     ensures front { OnErr result ((W.contents writer.new ≡ W.contents writer.old) ⊎ ((pairs : List (Name × F.Value))
-        × (IsTrue (K.keeps || D.Receipt.keeps)
+        × (IsTrue (K.keeps || D.Receipt.keeps) → IsKnown table.now
         → IsTableOf F.meaning (feeds_by (λ path. O.bytes opener.now path) table.now (R.remaining reader.old)) pairs)
         × AppendsPrefix (W.contents writer.old) (W.contents writer.new)
         (table_text (fields_of F.Value.FIELDS F.Value.field_at) pairs))) }
@@ -120,7 +145,7 @@ where
         × (W.failures writer.new ≡ W.failures writer.old)) }
 {
     let device = MeteredDevice::new(EitherDevice::<D, K>::new(alloc, folder), meters);
-    let made = spilled(alloc, table, functions, reader, device, opener);
+    let made = spilled(rt, alloc, table, functions, reader, device, opener);
     hook.end();
     match made {
         Ok(run) => write_spilled(alloc, run, writer),

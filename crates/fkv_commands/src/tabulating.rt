@@ -1,5 +1,5 @@
 //! Making tables of feeds, and writing them.
-ghost use Rattle.std.specs.Prelude.{◌≡◌, ◌≢◌, ◌≤◌, ◌⊎◌, ◌||◌, ◌^◌, ◌<◌, List, Err, None, true, length, option_map, string_bytes, if◌then◌else◌, IfOk, IfErr, IfSome, IsTrue, OnErr, OnOk};
+ghost use Rattle.std.specs.Prelude.{◌≡◌, ◌≢◌, ◌⊎◌, ◌||◌, ◌^◌, ◌<◌, List, Err, None, false, true, option_map, string_bytes, if◌then◌else◌, IfOk, IfErr, IfSome, IsTrue, OnErr, OnOk};
 ghost use Rattle.std.specs.Io.KnownBytes.{Appends};
 ghost use Rattle.fkv_functions.specs.declared.names.Name.{Name};
 ghost use Rattle.fkv_either.specs.Either.{is_absent};
@@ -7,7 +7,7 @@ ghost use Rattle.fkv_streams.specs.Streams.{AppendsPrefix};
 ghost use Rattle.fkv_feeds.specs.Tables.{IsTableOf};
 ghost use Rattle.fkv_feeds.specs.Writing.{fields_of, table_text};
 ghost use Rattle.fkv_commands.specs.Endings.{IsKnown, IsOfPages, IsSpoilt, MayBeLate, PrintsTable, PrintsTablePart, feeds_by};
-ghost use Rattle.fkv_commands.specs.Plans.{IsAlone, IsPlanOf};
+ghost use Rattle.fkv_commands.specs.Plans.{IsPlanOf, IsUnaudited};
 
 use crate::making::{made_of_feeds, made_of_input};
 use crate::opening::Opener;
@@ -170,8 +170,8 @@ where
 fn spill_by<
     R: Source,
     W: Sink,
-    F: Mergeable + OrderFree<Key = Name, Input = i64>,
-    H: Files + Clock,
+    F: Mergeable + OrderFree<Key = Name, Input = i64> + Send + Sync,
+    H: Files + Threads + Wait + Clock + Sync,
     P: Progress,
     O: Opener,
 >(
@@ -185,9 +185,12 @@ fn spill_by<
     opener: &O,
 ) -> Result<Report, Refused>
 where
-    F::Value: fkv_feeds::Shown,
-    H::File: PageFile,
-    requires alone { table.now.workers ≤ 1 }
+    F::Value: fkv_feeds::Shown + Send,
+    F::Output: Send,
+    H::File: PageFile + Send,
+    H::Dir: Send,
+    O::Feed: Send,
+    requires unaudited { table.now.audit ≡ false }
     ensures ok { OnOk result ((pairs : List (Name × F.Value))
         × (IsKnown table.now
         → IsTableOf F.meaning (feeds_by (λ path. O.bytes opener.now path) table.now (R.remaining reader.old)) pairs
@@ -221,8 +224,8 @@ where
             return Err(refused);
         }
     };
-    match spill_on::<R, W, F, _, P, O, Brand>(
-        alloc, table, functions, reader, writer, folder, &meters, hook, opener,
+    match spill_on::<R, W, F, _, P, O, Brand, H>(
+        rt, alloc, table, functions, reader, writer, folder, &meters, hook, opener,
     ) {
         Ok(ran) => Ok(Report::of_spilled(ran, meters.seen(), begun, rt.monotonic())),
         Err(refused) => Err(refused),
@@ -253,7 +256,7 @@ where
     H::File: PageFile + Send,
     H::Dir: Send,
     O::Feed: Send,
-    requires alone { IsAlone table.now }
+    requires unaudited { IsUnaudited table.now }
     ensures ok { OnOk result ((pairs : List (Name × F.Value))
         × (IsKnown table.now
         → IsTableOf F.meaning (feeds_by (λ path. O.bytes opener.now path) table.now (R.remaining reader.old)) pairs
@@ -318,7 +321,7 @@ where
     H::File: PageFile + Send,
     H::Dir: Send,
     O::Feed: Send,
-    requires alone { IsAlone table.now }
+    requires unaudited { IsUnaudited table.now }
     ensures ok { OnOk result (PrintsTable H.File.pages table.now
         (feeds_by (λ path. O.bytes opener.now path) table.now (R.remaining reader.old)) (W.contents writer.old) (W.contents writer.new)) }
     ensures ran { IfOk result (λ report. IsPlanOf table.now report.plan) }

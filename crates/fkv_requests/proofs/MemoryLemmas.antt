@@ -1,6 +1,6 @@
 -- Digits at the front of a text, and how many partitions there are.
 use Rattle.std.proofs.Common.{◌≡◌, ◌≤◌, ◌<◌, ◌∙◌, ℕ, List, Bool, Option, Some, None, true, false, cond, refl, sym, ap, length, ltb, arith}
-use Rattle.std.specs.Prelude.{◌||◌, nat_lt, if◌then◌else◌}
+use Rattle.std.specs.Prelude.{nat_lt, if◌then◌else◌}
 use Rattle.std.specs.Option.{unwrap_or}
 use Rattle.std.specs.List.{position, position_or_len}
 use Rattle.std.proofs.lemmas.Bool.Decides.{Decides-ltb}
@@ -27,16 +27,5 @@ pub for_one : (workers usual : ℕ) → workers ≤ 1 → (if nat_lt 1 workers t
 for_one workers usual le = go (nat_lt 1 workers) refl
   where
     go : (b : Bool) → b ≡ nat_lt 1 workers → (if b then 6 else usual) ≡ usual
-    go true e = (let more = (Decides-ltb 1 workers).0 (sym e) in absurd (omega (arith, more, le)))
-    go false e = refl
-
--- several workers share a store, and so does one that keeps histories
-pub shared_by_several : (workers : ℕ) (audit : Bool) → 1 < workers → true ≡ (nat_lt 1 workers || audit)
-shared_by_several workers audit lt = rw ((Decides-ltb 1 workers).1 lt) refl
-
-pub shared_by_one : (workers : ℕ) (audit : Bool) → workers ≤ 1 → audit ≡ (nat_lt 1 workers || audit)
-shared_by_one workers audit le = go (nat_lt 1 workers) refl
-  where
-    go : (b : Bool) → b ≡ nat_lt 1 workers → audit ≡ (b || audit)
     go true e = (let more = (Decides-ltb 1 workers).0 (sym e) in absurd (omega (arith, more, le)))
     go false e = refl

@@ -1,31 +1,22 @@
 -- What a command line asks to be spilled.
-use Rattle.std.specs.Prelude.{◌&&◌, ◌||◌, is_none, nat_lt}
-use Rattle.std.proofs.Common.{◌≡◌, ◌≤◌, ◌<◌, ◌∙◌, ℕ, List, Bool, Option, Some, None, true, false, sym, subst, arith}
+use Rattle.std.specs.Prelude.{◌&&◌, ◌||◌, is_none}
+use Rattle.std.proofs.Common.{◌≡◌, ◌∙◌, List, Bool, Option, Some, None, true, false, sym, subst}
 use Rattle.std.proofs.lemmas.Bool.{or_parts}
-use Rattle.std.proofs.lemmas.Bool.Decides.{Decides-ltb}
 use Rattle.clap.specs.Words.{Row, Text}
 use Rattle.fkv_requests.specs.declared.requests.TableRequest.{TableRequest}
-use Rattle.fkv_requests.specs.Requests.{AsksTable, IsTableIn, audit_of, folder_of, spill_of, workers_of}
+use Rattle.fkv_requests.specs.Requests.{AsksTable, IsTableIn, audit_of, folder_of, spill_of}
 
-not-several : (workers : ℕ) → nat_lt 1 workers ≡ false → workers ≤ 1
-not-several workers none =
-    let past : 1 < workers → ⊥ = λ more. let bad : true ≡ false = sym ((Decides-ltb 1 workers).1 more) ∙ none in absurd (cc) in
-    omega arith
+unaudited-by : (spill bare audit : Bool) → (spill && (bare || audit)) ≡ false → spill ≡ true → audit ≡ false
+unaudited-by spill bare audit none is =
+    let not_bad : (bare || audit) ≡ false = subst (λ b. (b && (bare || audit)) ≡ false) is none in
+    (or_parts bare audit not_bad).1
 
-alone-by : (spill bare several audit : Bool) → (spill && (bare || (several || audit))) ≡ false → spill ≡ true → (several ≡ false) × (audit ≡ false)
-alone-by spill bare several audit none is =
-    let not_bad : (bare || (several || audit)) ≡ false = subst (λ b. (b && (bare || (several || audit))) ≡ false) is none in
-    or_parts several audit (or_parts bare (several || audit) not_bad).1
+unaudited-in : (sub : Option (Text × List Row)) (table : TableRequest) → IsTableIn sub table → table.spill ≡ true → table.audit ≡ false
+unaudited-in None table h is = absurd h
+unaudited-in (Some p) table (named, paths, spills, memory, sized, (config, folder, workers, merge, spill, audit, stats, progress, whole, feeds)) is =
+    audit ∙ unaudited-by (spill_of p.1) (is_none (folder_of p.1)) (audit_of p.1) spills (sym spill ∙ is)
 
-alone-in : (sub : Option (Text × List Row)) (table : TableRequest) → IsTableIn sub table → table.spill ≡ true
-    → (table.workers ≤ 1) × (table.audit ≡ false)
-alone-in None table h is = absurd h
-alone-in (Some p) table (named, paths, spills, memory, sized, (config, folder, workers, merge, spill, audit, stats, progress, whole, feeds)) is =
-    let alone = alone-by (spill_of p.1) (is_none (folder_of p.1)) (nat_lt 1 (workers_of p.1)) (audit_of p.1) spills (sym spill ∙ is) in
-    (rw workers (not-several (workers_of p.1) alone.0), audit ∙ alone.1)
-
--- what is to be spilled is made by one worker, which keeps no histories
-pub asked-alone : (words : List Text) (table : TableRequest) → AsksTable words table → table.spill ≡ true
-    → (table.workers ≤ 1) × (table.audit ≡ false)
+-- of what is to be spilled no histories are kept
+pub asked-unaudited : (words : List Text) (table : TableRequest) → AsksTable words table → table.spill ≡ true → table.audit ≡ false
 unfolding AsksTable
-asked-alone words table (none, asks) is = alone-in _ table asks is
+asked-unaudited words table (none, asks) is = unaudited-in _ table asks is

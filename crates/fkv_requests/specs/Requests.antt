@@ -233,13 +233,9 @@ inputs_in paths = count_by (λ path. bytes_eq path (codes "-")) paths
 abbrev pub has_bad_path : List Row → Bool
 has_bad_path rows = is_nameless (folder_of rows) || nat_lt 1 (inputs_in (paths_of rows))
 
--- several workers make a table, or it keeps histories
-abbrev pub is_shared : List Row → Bool
-is_shared rows = nat_lt 1 (workers_of rows) || audit_of rows
-
--- clap takes words that ask for a table to be spilled, and name no folder for its pages, or share its store
+-- clap takes words that ask for a table to be spilled, and name no folder for its pages, or ask for histories
 abbrev pub has_bad_spill : List Row → Bool
-has_bad_spill rows = spill_of rows && (is_none (folder_of rows) || is_shared rows)
+has_bad_spill rows = spill_of rows && (is_none (folder_of rows) || audit_of rows)
 
 -- the options of a table, within so much memory where a size is named
 abbrev pub IsTableBy : Option ℕ → List Row → TableRequest → Type 0

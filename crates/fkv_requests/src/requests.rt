@@ -20,6 +20,7 @@ ghost use Rattle.fkv_requests.specs.Requests.{
   table_app,
   table_named,
   dir_rule,
+  audit_of,
   number_of,
   given_or,
   memory_of,
@@ -34,7 +35,6 @@ ghost use Rattle.fkv_requests.specs.Requests.{
   flag_rule,
   is_given,
   is_set,
-  is_shared,
   sized_of,
   source_of,
   spill_of,
@@ -77,8 +77,9 @@ const TWO_INPUTS: &str =
 /// What is told of a table that is to be spilled, and has no folder.
 const NO_SPILL_FOLDER: &str = "error: --spill needs a folder for its pages: --dir PATH\n";
 
-/// What is told of a table that is to be spilled, and that several workers are to make, or histories are to be kept of.
-const SHARED_SPILL: &str = "error: --spill takes one worker, without --audit\n";
+/// What is told of a table that is to be spilled, and of which histories are to be kept.
+const AUDITED_SPILL: &str =
+    "error: --spill can't stand with --audit, which keeps every update in memory\n";
 
 /// What a table shows of the amounts of each key.
 #[derive(Clone, Copy, PartialEq, Eq, Debug)]
@@ -105,7 +106,7 @@ pub struct TableRequest {
     pub workers: u64,
     /// Whether a row is made a merge where it would read a page.
     pub merge: bool,
-    /// Whether the table stands in pages of the folder until it is written out, which one worker does that keeps no history.
+    /// Whether the table stands in pages of the folder until it is written out; then no history is kept.
     pub spill: bool,
     /// Whether the history of each partition is kept, and compared at the end with what the workers were answered.
     pub audit: bool,
@@ -273,7 +274,7 @@ fn bad_path(options: &ArgMatches<'_>) -> Option<&'static str>
     None
 }
 
-/// What is told of a table that is to be spilled, and names no folder for its pages, or shares its store.
+/// What is told of a table that is to be spilled, and names no folder for its pages, or keeps histories.
 fn bad_spill(options: &ArgMatches<'_>) -> Option<&'static str>
     ensures { is_some result ≡ has_bad_spill (rows_of (found_of options.now)) }
 {
@@ -283,8 +284,8 @@ fn bad_spill(options: &ArgMatches<'_>) -> Option<&'static str>
     if lacks_folder(options) {
         return Some(NO_SPILL_FOLDER);
     }
-    if is_shared(options) {
-        return Some(SHARED_SPILL);
+    if is_audited(options) {
+        return Some(AUDITED_SPILL);
     }
     None
 }
@@ -306,13 +307,10 @@ fn lacks_folder(options: &ArgMatches<'_>) -> bool
     }
 }
 
-/// Whether several workers make a table, or it keeps histories.
-fn is_shared(options: &ArgMatches<'_>) -> bool
-    ensures { result ≡ is_shared (rows_of (found_of options.now)) }
+/// Whether a table keeps histories.
+fn is_audited(options: &ArgMatches<'_>) -> bool
+    ensures { result ≡ audit_of (rows_of (found_of options.now)) }
 {
-    if number_by(options, "workers") > 1 {
-        return true;
-    }
     flag_by(options, "audit")
 }
 
@@ -604,8 +602,8 @@ fn placed<'a>(
         .arg(flag(
             alloc,
             "spill",
-            "Keep the table in pages of --dir until it is written, for one larger than memory; it takes one worker, without \
---audit. A page that can't be read may then end the run after a part of the table was written",
+            "Keep the table in pages of --dir until it is written, for one larger than memory; it can't stand with --audit. A page \
+that can't be read may then end the run after a part of the table was written",
         ))
 }
 

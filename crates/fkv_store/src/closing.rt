@@ -75,12 +75,13 @@ fn parts_of<F: Mergeable, R: Receipt, H: Recorder<F>>(
     Ok(parts)
 }
 
-/// What is left of a store and its passes: the functions, the parts of its partitions with a reader of the pages of each, and what
-/// the passes keep.
+/// What is left of a store and its passes: the functions, the parts of its partitions with what writes and what reads the pages of
+/// each, and what the passes keep.
 #[derive(Drop)]
 struct Left<F: Mergeable, D: Disk, H: Recorder<F>> {
     functions: F,
     parts: Vec<Part<F, D::Receipt>>,
+    writers: Vec<Mutex<D::Writer>>,
     readers: Vec<D::Reader>,
     owns: Vec<Vec<H>>,
     shares: Vec<u64>,
@@ -106,6 +107,7 @@ impl<F: Mergeable, D: Disk, H: Recorder<F>> Store<F, D, H> {
         ensures ended { IfOk result (λ left. H.keeps ≡ true → IsTrue D.Receipt.keeps → All (λ part. IsEnded F.Key.cmp F.meaning
             (seen F.Key.cmp part.partition) part.history.items part.book) left.parts.items) }
         ensures parts { IfOk result (λ left. length left.parts.items ≡ self.count) }
+        ensures writers { IfOk result (λ left. length left.writers.items ≡ self.count) }
         ensures readers { IfOk result (λ left. length left.readers.items ≡ self.count) }
         ensures places { IfOk result (λ left. AreReaders D.Reader.part left.readers.items) }
         ensures sized { IfOk result (λ left. All (λ own. vec_len own ≡ vec_len left.parts) left.owns.items) }
@@ -123,6 +125,7 @@ impl<F: Mergeable, D: Disk, H: Recorder<F>> Store<F, D, H> {
         let Store {
             functions,
             device,
+            writers,
             locks,
             ..
         } = self;
@@ -143,6 +146,7 @@ impl<F: Mergeable, D: Disk, H: Recorder<F>> Store<F, D, H> {
         Ok(Left {
             functions,
             parts,
+            writers,
             readers,
             owns,
             shares,
@@ -187,6 +191,7 @@ impl<F: Mergeable, D: Disk, H: Recorder<F>> Store<F, D, H> {
             mut readers,
             owns,
             shares,
+            ..
         } = left;
         match close_parts::<F, D::Receipt, H, D::Reader>(
             &functions,
@@ -202,8 +207,8 @@ impl<F: Mergeable, D: Disk, H: Recorder<F>> Store<F, D, H> {
     }
 
     /// Ends a store with all its passes, as [`Store::close`] does, but reads no page: it hands its partitions out, each with what
-    /// reads its pages, to be listed (`Unlisted::list`), with the history of each, and how many operations were finished. What is
-    /// live in them is the map of `close`.
+    /// reads its pages and what writes them, to be listed (`Unlisted::list`), with the history of each, and how many operations were
+    /// finished. What is live in them is the map of `close`.
     ///
     /// # Errors
     ///
@@ -240,6 +245,7 @@ impl<F: Mergeable, D: Disk, H: Recorder<F>> Store<F, D, H> {
         let Left {
             functions,
             parts,
+            writers,
             readers,
             owns,
             shares,
@@ -254,7 +260,7 @@ impl<F: Mergeable, D: Disk, H: Recorder<F>> Store<F, D, H> {
             Err(refused) => return Err(refused),
         };
         let Settled { parts, finished } = settled;
-        match take_apart(alloc, parts, readers) {
+        match take_apart(alloc, parts, writers, readers) {
             Ok(
                 Parted {
                     partitions,

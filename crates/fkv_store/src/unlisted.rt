@@ -14,12 +14,24 @@ use fkv_locked::Part;
 use fkv_partition::Partition;
 use std::alloc::Global;
 use std::collections::BTreeMap;
+use std::sync::Mutex;
 
-/// A partition of a store that has ended, with what reads its pages: its live keys are still to be listed.
+/// A partition of a store that has ended, with what reads its pages and what writes them: its live keys are still to be listed.
 #[derive(Drop)]
 pub struct Unlisted<F: Mergeable, D: Disk> {
     pub partition: Partition<F, D::Receipt>,
     pub reader: D::Reader,
+    pub(crate) writer: Mutex<D::Writer>,
+}
+
+/// The live keys of a partition that has gone, with their values, and what reads and writes its pages.
+#[derive(Drop)]
+pub struct Listed<F: Mergeable, D: Disk> {
+    pub map: BTreeMap<F::Key, F::Value>,
+    pub reader: D::Reader,
+    pub writer: D::Writer,
+    /// The lowest page that is not written: those of the partition stand below it.
+    pub behind: u64,
 }
 
 /// What a store comes to at its end, where its partitions are still to be listed.
@@ -53,30 +65,65 @@ impl<F: Mergeable, D: Disk> Unlisted<F, D> {
             self.partition.records.log.bits page) }
         ensures only { IfErr result IsUnlisted }
     {
-        let Unlisted { partition, reader } = self;
+        match self.list_apart(alloc, functions) {
+            Ok(listed) => Ok(listed.map),
+            Err(refused) => Err(refused),
+        }
+    }
+
+    /// Its live keys with their values, as [`Unlisted::list`] makes them, and what reads and writes its pages, for pages that are
+    /// written behind its own.
+    ///
+    /// # Errors
+    ///
+    /// Those of `list`.
+    pub fn list_apart(self, alloc: Global, functions: &F) -> Result<Listed<F, D>, Refused>
+        ensures list { IsTrue D.Receipt.keeps → IfOk result (λ listed.
+            Same (get F.Key.cmp listed.map) (live_of F.Key.cmp self.partition)) }
+        ensures behind { IfOk result (λ listed. listed.behind ≡ length self.partition.records.log.receipts) }
+        ensures refused { IfErr result (λ why. (failures : ℕ) × IsScanRefusal D.Receipt.keeps
+            (page_at self.partition.records.log.bits self.partition.records.log.begin)
+            (length self.partition.records.log.receipts) (D.Reader.failures self.reader) failures why) }
+        ensures caused { IsTrue D.Receipt.keeps → IfErr result (λ why. why ≢ Refused.NoMemory → (page : ℕ)
+            × MayFail D.Receipt.stands D.Reader.can_fail self.partition.records.log.receipts
+            self.partition.records.log.bits page) }
+        ensures only { IfErr result IsUnlisted }
+    {
+        let Unlisted {
+            partition,
+            reader,
+            writer,
+        } = self;
         let mut reader = reader;
         let mut map = BTreeMap::new(alloc);
         match partition.put_live(functions, &mut reader, &mut map) {
-            Ok(()) => Ok(map),
+            Ok(()) => Ok(Listed {
+                map,
+                reader,
+                writer: writer.into_inner(),
+                behind: partition.unflushed(),
+            }),
             Err(refused) => Err(refused),
         }
     }
 }
 
-/// The partitions of parts, each with its reader, and their histories.
+/// The partitions of parts, each with its reader and its writer, and their histories.
 #[derive(Drop)]
 pub(crate) struct Parted<F: Mergeable, D: Disk> {
     pub partitions: Vec<Unlisted<F, D>>,
     pub histories: Vec<Vec<EntryOf<F>>>,
 }
 
-/// Takes parts apart: each partition with its reader, and the histories, in order. Refused: `NoMemory`.
+/// Takes parts apart: each partition with its reader and its writer, and the histories, in order. Refused: `NoMemory`.
 pub(crate) fn take_apart<F: Mergeable, D: Disk>(
     alloc: Global,
     parts: Vec<Part<F, D::Receipt>>,
+    writers: Vec<Mutex<D::Writer>>,
     readers: Vec<D::Reader>,
 ) -> Result<Parted<F, D>, Refused>
-    requires { length readers.items ≡ length parts.items }
+    requires writers { length writers.items ≡ length parts.items }
+    requires readers { length readers.items ≡ length parts.items }
     ensures partitions { IfOk result (λ parted. map (λ part. part.partition) parted.partitions.items
         ≡ map (λ part. part.partition) parts.items) }
     ensures readers { IfOk result (λ parted. map (λ part. part.reader) parted.partitions.items ≡ readers.items) }
@@ -86,9 +133,13 @@ pub(crate) fn take_apart<F: Mergeable, D: Disk>(
 {
     let mut partitions = Vec::new(alloc);
     let mut histories = Vec::new(alloc);
+    let mut writers = writers.into_iter();
     let mut readers = readers.into_iter();
     for part in parts {
         let Some(reader) = readers.next() else {
+            unreachable!();
+        };
+        let Some(writer) = writers.next() else {
             unreachable!();
         };
         let Part {
@@ -96,7 +147,11 @@ pub(crate) fn take_apart<F: Mergeable, D: Disk>(
             history,
             ..
         } = part;
-        let Ok(()) = partitions.push(Unlisted { partition, reader }) else {
+        let Ok(()) = partitions.push(Unlisted {
+            partition,
+            reader,
+            writer,
+        }) else {
             return Err(Refused::NoMemory);
         };
         let Ok(()) = histories.push(history) else {

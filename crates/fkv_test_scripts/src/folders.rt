@@ -25,13 +25,15 @@ fn forty(alloc: Global) -> io::Result<(String, String)> {
 }
 
 /// Options of runs whose partitions move pages to a folder.
-const MOVING: [&str; 8] = [
+const MOVING: [&str; 10] = [
     "sum --partition-bits 1 --page-bits 8 --frames 2 --dir folders/pages",
     "sum --partition-bits 1 --page-bits 8 --frames 2 --dir folders/pages --merge",
     "sum --partition-bits 2 --page-bits 8 --frames 2 --dir folders/pages",
     "sum --partition-bits 0 --page-bits 9 --frames 2 --dir folders/pages",
     "sum --partition-bits 1 --page-bits 8 --frames 2 --dir folders/pages --spill",
     "sum --partition-bits 2 --page-bits 8 --frames 2 --dir folders/pages --spill --merge folders/rows folders/none",
+    "sum --partition-bits 1 --page-bits 8 --frames 2 --dir folders/pages --spill --workers 2 folders/rows folders/none",
+    "sum --partition-bits 2 --page-bits 8 --frames 2 --dir folders/pages --spill --workers 3 --merge folders/rows folders/none",
     "sum --partition-bits 1 --page-bits 8 --frames 2 --dir folders/pages --audit",
     "sum --partition-bits 1 --page-bits 8 --frames 2 --dir folders/pages --workers 2 folders/rows folders/none",
 ];

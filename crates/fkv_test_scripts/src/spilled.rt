@@ -4,25 +4,26 @@ use fkv_requests::command_lines;
 
 const NO_SPILL_FOLDER: &str = "error: --spill needs a folder for its pages: --dir PATH\n";
 
-const SHARED_SPILL: &str = "error: --spill takes one worker, without --audit\n";
+const AUDITED_SPILL: &str =
+    "error: --spill can't stand with --audit, which keeps every update in memory\n";
 
 /// Command lines, inputs, statuses, what is printed, and what is told beside it; of a mistake its first line.
 const SPILLED: [(&str, &str, u8, &str, &str); 11] = [
-    // a table in pages of a folder, which has to be named, by one worker without histories
+    // a table in pages of a folder, which has to be named, without histories
     ("fkv_cli sum --spill", "a,1\n", 2, "", NO_SPILL_FOLDER),
     (
         "fkv_cli sum --spill --dir made/pages --workers 2",
         "a,1\n",
-        2,
+        0,
+        "a,1\n",
         "",
-        SHARED_SPILL,
     ),
     (
         "fkv_cli sum --dir made/pages --audit --spill",
         "a,1\n",
         2,
         "",
-        SHARED_SPILL,
+        AUDITED_SPILL,
     ),
     (
         "fkv_cli sum --spill --dir made/pages --workers 1 --partition-bits 0 --bucket-bits 0 --page-bits 8 --frames 2",

@@ -382,7 +382,7 @@ Options:
       --dir <PATH>          Keep pages in files of this folder, made anew; without it they are kept in memory
       --workers <N>         How many threads read the feeds, in blocks that they share: 1 to 14 [default: 1]
       --merge               Make a row a merge where it would read a page
-      --spill               Keep the table in pages of --dir until it is written, for one larger than memory; it takes one worker, without --audit. A page that can't be read may then end the run after a part of the table was written
+      --spill               Keep the table in pages of --dir until it is written, for one larger than memory; it can't stand with --audit. A page that can't be read may then end the run after a part of the table was written
       --stats               Tell on standard error, at the end, what the run did
       --progress            Tell on standard error, as it goes, how many rows were read
       --audit               Keep every update, and compare them at the end with what the workers were answered

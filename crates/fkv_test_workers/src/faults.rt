@@ -1,9 +1,12 @@
-//! A device of which one call fails, behind two workers: a run tells that call's fault, or makes the whole table.
+//! A device of which one call fails, behind two workers: a run tells that call's fault, or makes the whole table, in memory or in
+//! pages of the device.
 //!
 //! In which order two threads call a device is not fixed, so no row says which call fails: each call does in turn, and the run
 //! has to tell the fault that came.
+use crate::spilled::spilled_over;
 use crate::tables::{LETTERS, LETTERS_TABLE, SMALL, summed_over};
 use fkv_device::MemoryDevice;
+use fkv_feeds::RowMode;
 use fkv_functions::{Refused, SumFns};
 use fkv_histories::{Audited, Plain, Recorder};
 use fkv_store::Open;
@@ -28,16 +31,22 @@ enum End {
     Other,
 }
 
-/// How a run of two workers ends where the call after so many fails.
+/// How a run of two workers ends where the call after so many fails; its table is in memory or spilled.
 fn ended<H: Recorder<SumFns> + Send, T: Threads + Wait + Clock + Sync>(
     rt: &T,
     alloc: Global,
     calls: u64,
+    spills: bool,
 ) -> End {
     let fault = Fault::after(calls);
     let device = FailingDevice::new(alloc, MemoryDevice::new(alloc), &fault);
     let feeds: [&[u8]; 2] = [LETTERS, b"t,1\n"];
-    match summed_over::<H, _, _, _>(rt, alloc, &feeds, 2, &SMALL, device, &Open) {
+    let made = if spills {
+        spilled_over::<H, _, _>(rt, alloc, &feeds, 2, &SMALL, device, RowMode::Update)
+    } else {
+        summed_over::<H, _, _, _>(rt, alloc, &feeds, 2, &SMALL, device, &Open)
+    };
+    match made {
         Ok(text) if fault.told() == None && text.as_slice() == LETTERS_TABLE => End::Whole,
         Err(Refused::Device { code, page })
             if fault.told() == Some(Refused::Device { code, page }) => { End::Fault(code) }
@@ -50,10 +59,11 @@ fn ended<H: Recorder<SumFns> + Send, T: Threads + Wait + Clock + Sync>(
 fn first_other<H: Recorder<SumFns> + Send, T: Threads + Wait + Clock + Sync>(
     rt: &T,
     alloc: Global,
+    spills: bool,
 ) -> Option<u64> {
     let mut seen = [false; 3];
     for calls in 0..CALLS {
-        match ended::<H, _>(rt, alloc, calls) {
+        match ended::<H, _>(rt, alloc, calls, spills) {
             End::Whole if seen == [true; 3] => return None,
             End::Fault(1) => seen[0] = true,
             End::Fault(2) => seen[1] = true,
@@ -67,10 +77,12 @@ fn first_other<H: Recorder<SumFns> + Send, T: Threads + Wait + Clock + Sync>(
 
 #[test]
 fn each_call_of_a_device_fails(rt: HostRuntime) -> Result<(), Fail> {
-    let audited = first_other::<Audited<SumFns>, _>(&rt, rt.alloc());
-    assert!(rt; audited == None, "call {audited:?}");
-    let plain = first_other::<Plain, _>(&rt, rt.alloc());
-    assert!(rt; plain == None, "call {plain:?}");
+    for spills in [false, true] {
+        let audited = first_other::<Audited<SumFns>, _>(&rt, rt.alloc(), spills);
+        assert!(rt; audited == None, "call {audited:?} {spills}");
+        let plain = first_other::<Plain, _>(&rt, rt.alloc(), spills);
+        assert!(rt; plain == None, "call {plain:?} {spills}");
+    }
     Ok(())
 }
 

@@ -12,6 +12,8 @@ mod merging;
 #[cfg(test)]
 mod shared;
 #[cfg(test)]
+mod spilled;
+#[cfg(test)]
 mod stalling;
 #[cfg(test)]
 mod tables;

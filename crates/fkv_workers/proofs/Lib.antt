@@ -16,3 +16,4 @@ pub mod MadeLemmas
 pub mod EmptiedLemmas
 pub mod ListingLemmas
 pub mod BlockLemmas
+pub mod SpillLemmas

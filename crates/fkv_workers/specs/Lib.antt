@@ -1,3 +1,4 @@
 pub mod Listing
 pub mod Shares
+pub mod Spilling
 pub mod Works

@@ -1,22 +1,24 @@
 //! Runs over feeds whose blocks all workers share.
-ghost use Rattle.std.specs.Prelude.{◌≡◌, ◌≢◌, ◌<◌, ◌⊎◌, ℕ, true, length, map, IsTrue, Err, None, Some, IfOk, IfErr, IfSome, OnOk};
+ghost use Rattle.std.specs.Prelude.{◌≡◌, ◌≢◌, ◌<◌, ◌⊎◌, true, length, map, IsTrue, Err, None, Some, IfOk, IfErr, IfSome, OnOk};
 ghost use Rattle.std.specs.List.{All};
 ghost use Rattle.fkv_blocks.specs.Pieces.{AreWhole, IsFirstUnread};
 ghost use Rattle.fkv_blocks.specs.Shares.{IsStop, WereRead};
+ghost use Rattle.fkv_feeds.specs.Spilling.{HasTableOf};
 ghost use Rattle.fkv_feeds.specs.Tables.{IsTableOf, most_rows};
 ghost use Rattle.fkv_records.specs.Records.{size_of};
 ghost use Rattle.fkv_store.specs.Stores.{IsTold};
+ghost use Rattle.fkv_workers.specs.Spilling.{IsSpilledFrom, IsUnspilled};
 ghost use Rattle.fkv_workers.specs.Works.{IsMadeOf, IsRunnable, IsShared, IsUnread};
 
 use crate::dealing::works;
 use crate::keeping::keeper_of;
 use crate::running::is_runnable;
 use crate::sharing::{SharedFeeds, Tickets};
-use crate::tabling::tabled;
+use crate::tabling::{spilled, tabled};
 use crate::working::Worked;
 use fkv_blocks::{Ended, Feeds, Origin, Stop, Ticket};
 use fkv_device::Disk;
-use fkv_feeds::{LIMIT, RowMode, Run};
+use fkv_feeds::{LIMIT, RowMode, Run, SpilledRun};
 use fkv_functions::{Mergeable, Name, OrderFree, Refused};
 use fkv_histories::Recorder;
 use fkv_jobs::{Ran, run_jobs};
@@ -276,6 +278,66 @@ where
     }
 }
 
+/// A store that workers have filled with the rows of feeds, and their passes.
+#[derive(Drop)]
+struct Filled<F: Mergeable, D: Disk, H: Recorder<F>> {
+    store: Store<F, D, H>,
+    passes: Vec<Pass<F, D, H>>,
+}
+
+/// A store of this configuration, and the passes of workers that have read these feeds into it, as [`run_blocks`] says. Refused as there,
+/// but for the end of the store.
+fn fill<
+    S: Source + Drop + Send,
+    F: Mergeable + OrderFree<Key = Name, Input = i64> + Send + Sync,
+    D: Disk + Send,
+    H: Recorder<F> + Send,
+    G: Gate + Sync,
+    T: Threads + Wait + Clock + Sync,
+>(
+    rt: &T,
+    alloc: Global,
+    feeds: &mut Vec<S>,
+    workers: usize,
+    functions: F,
+    config: &Config,
+    device: D,
+    gate: &G,
+    mode: RowMode,
+) -> Result<Filled<F, D, H>, Refused>
+where
+    F::Value: Send,
+    F::Output: Send,
+    D::Receipt: Send,
+    D::Writer: Send,
+    D::Reader: Send,
+    ensures shared { IfOk result (λ filled. H.keeps ≡ true
+        → IsShared F.code mode (map S.remaining feeds.old.items) filled.passes.items) }
+    ensures some { IfOk result (λ filled. 0 < filled.store.count) }
+    ensures runnable { OnOk result (IsRunnable config.now (size_of 32 F.Value.SIZE) workers (length feeds.old.items)) }
+    ensures good { result ≢ Err Refused.BadConfig
+        → IsRunnable config.now (size_of 32 F.Value.SIZE) workers (length feeds.old.items) }
+    ensures refused { IfErr result (IsUnread
+        (IsRunnable config.now (size_of 32 F.Value.SIZE) workers (length feeds.old.items))
+        (map S.remaining feeds.old.items) (map S.failures feeds.old.items) (map S.failures feeds.new.items)) }
+{
+    if !is_runnable::<F::Value>(config, workers, feeds.len()) {
+        return Err(Refused::BadConfig);
+    }
+    let store = match Store::<F, D, H>::open(alloc, config, functions, device) {
+        Ok(store) => store,
+        Err(refused) => return Err(refused),
+    };
+    let bits = config.page_bits;
+    let passes = match worked::<S, Brand, F, D, H, G, T>(
+        rt, alloc, feeds, workers, &store, bits, gate, mode,
+    ) {
+        Ok(passes) => passes,
+        Err(refused) => return Err(refused),
+    };
+    Ok(Filled { store, passes })
+}
+
 /// The table of these feeds, as [`fkv_feeds::run_one`] makes it, by so many workers in threads of their own, beside a keeper that moves
 /// pages: each takes blocks of whole records of any feed, one after the other, and each row is one update of a store that all share, or,
 /// as the mode says, a merge, so that no row reads a page. With a recorder that keeps, and on a device that keeps, the table is that of
@@ -327,19 +389,65 @@ where
         (IsRunnable config.now (size_of 32 F.Value.SIZE) workers (length feeds.old.items))
         (map S.remaining feeds.old.items) (map S.failures feeds.old.items) (map S.failures feeds.new.items)) }
 {
-    if !is_runnable::<F::Value>(config, workers, feeds.len()) {
-        return Err(Refused::BadConfig);
-    }
-    let store = match Store::<F, D, H>::open(alloc, config, functions, device) {
-        Ok(store) => store,
-        Err(refused) => return Err(refused),
-    };
-    let bits = config.page_bits;
-    let passes = match worked::<S, Brand, F, D, H, G, T>(
-        rt, alloc, feeds, workers, &store, bits, gate, mode,
+    let filled = match fill::<S, F, D, H, G, T>(
+        rt, alloc, feeds, workers, functions, config, device, gate, mode,
     ) {
-        Ok(passes) => passes,
+        Ok(filled) => filled,
         Err(refused) => return Err(refused),
     };
+    let Filled { store, passes } = filled;
     tabled(rt, alloc, store, passes, config, mode, workers)
+}
+
+/// The table of these feeds, made as [`run_blocks`] makes it, but in pages of the device: at the end so many threads list the partitions
+/// one after the other, each goes from memory as its list is made, and a sorted run of the list is written behind its pages. The pairs
+/// that are read from there are the table's, as long as the device keeps; [`fkv_feeds::write_pairs`] writes them out.
+///
+/// # Errors
+///
+/// As [`run_blocks`]'s. At its end also `Device` with code 2, where a page of a run is not written; 3 and `Damaged` where the first of
+/// these is not read back; and `Worn` where the table has 2^64 keys.
+pub fn spill_blocks<
+    S: Source + Drop + Send,
+    F: Mergeable + OrderFree<Key = Name, Input = i64> + Send + Sync,
+    D: Disk + Send,
+    H: Recorder<F> + Send,
+    G: Gate + Sync,
+    T: Threads + Wait + Clock + Sync,
+>(
+    rt: &T,
+    alloc: Global,
+    feeds: &mut Vec<S>,
+    workers: usize,
+    functions: F,
+    config: &Config,
+    device: D,
+    gate: &G,
+    mode: RowMode,
+) -> Result<SpilledRun<F::Value, D::Receipt, D::Reader>, Refused>
+where
+    F::Value: Send,
+    F::Output: Send,
+    D::Receipt: Send,
+    D::Writer: Send,
+    D::Reader: Send,
+    ensures ok { H.keeps ≡ true → IsTrue D.Receipt.keeps → IfOk result
+        (HasTableOf F.Value.codec D.Receipt.keeps D.Receipt.stands F.meaning (map S.remaining feeds.old.items)) }
+    ensures made { H.keeps ≡ true → IsTrue D.Receipt.keeps → IfOk result (IsSpilledFrom F.Value.codec D.Receipt.keeps
+        D.Receipt.stands F.meaning F.code mode (map S.remaining feeds.old.items)) }
+    ensures ran { IfOk result (λ run. run.plan ≡ record { config = config.now; mode = mode; workers = workers }) }
+    ensures good { result ≢ Err Refused.BadConfig
+        → IsRunnable config.now (size_of 32 F.Value.SIZE) workers (length feeds.old.items) }
+    ensures refused { IfErr result (λ why. IsUnspilled why ⊎ IsUnread
+        (IsRunnable config.now (size_of 32 F.Value.SIZE) workers (length feeds.old.items))
+        (map S.remaining feeds.old.items) (map S.failures feeds.old.items) (map S.failures feeds.new.items) why) }
+{
+    let filled = match fill::<S, F, D, H, G, T>(
+        rt, alloc, feeds, workers, functions, config, device, gate, mode,
+    ) {
+        Ok(filled) => filled,
+        Err(refused) => return Err(refused),
+    };
+    let Filled { store, passes } = filled;
+    spilled(rt, alloc, store, passes, config, mode, workers)
 }

@@ -14,10 +14,11 @@ pub mod laws;
 pub(crate) mod listing;
 pub mod running;
 pub(crate) mod sharing;
+pub(crate) mod spilling;
 pub(crate) mod tabling;
 pub(crate) mod waiting;
 pub(crate) mod working;
 
-pub use blocks::run_blocks;
+pub use blocks::{run_blocks, spill_blocks};
 pub use fkv_feeds::{run_one, run_one_by};
 pub use running::{MOST_FEEDS, MOST_WORKERS, run_feeds, run_feeds_by};

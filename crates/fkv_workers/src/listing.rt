@@ -97,10 +97,10 @@ fn listings<'a, F: Mergeable, D: Disk>(
 }
 
 /// The runs that these results are, in order. Refused: as the first of them that is refused, and `NoMemory`.
-fn runs_of<V: Drop>(
+pub(crate) fn runs_of<R: Drop>(
     alloc: Global,
-    results: Vec<Result<Run<V>, Refused>>,
-) -> Result<Vec<Run<V>>, Refused>
+    results: Vec<Result<R, Refused>>,
+) -> Result<Vec<R>, Refused>
     ensures ok { IfOk result (λ runs. map Ok runs.items ≡ results.items) }
     ensures refused { IfErr result (λ why. (why ≡ Refused.NoMemory) ⊎ IsFirstRefusal results.items why) }
 {

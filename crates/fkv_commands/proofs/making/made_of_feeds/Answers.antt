@@ -1,4 +1,4 @@
-use Rattle.std.proofs.Common.{rules, ◌≡◌, ◌≤◌, refl}
+use Rattle.std.proofs.Common.{rules, ◌≤◌, refl}
 use Rattle.fkv_commands.proofs.MakingLemmas.{many-plan, one-plan}
 use Rattle.fkv_commands.proofs.OpeningLemmas.{agree-run}
 use Rattle.fkv_commands.proofs.making.made_of_feeds.Goals as goal

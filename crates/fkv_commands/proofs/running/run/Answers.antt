@@ -1,15 +1,15 @@
 use Rattle.std.proofs.Common.{⊎_elim, Err, refl, ap, map, string_bytes, inl, inr, ◌≡◌, ◌∙◌}
 use Rattle.fkv_requests.specs.Requests.{AsksReplay, AsksTable, MayAskHelp, MayAskVersion, MayBeMistaken}
-use Rattle.fkv_requests.proofs.SpillLemmas.{asked-alone}
+use Rattle.fkv_requests.proofs.SpillLemmas.{asked-unaudited}
 use Rattle.fkv_commands.proofs.TellingLemmas.{unwritable_or}
 use Rattle.fkv_commands.proofs.StatusLemmas.{done_is_no_fault, done_is_no_mistake, fault_is_no_mistake, uncounted}
 use Rattle.fkv_commands.proofs.running.run.Goals as goal
 
--- ---- a table that is spilled has one worker
-pub tabulate-requires-clause-alone : goal.tabulate-requires-clause-alone
-tabulate-requires-clause-alone g c κs within =
+-- ---- a table that is spilled keeps no histories
+pub tabulate-requires-clause-unaudited : goal.tabulate-requires-clause-unaudited
+tabulate-requires-clause-unaudited g c κs within =
     let asks : AsksTable (map string_bytes c.args.words.now) c.in-Ok-Table.table = rw c.in-Ok-Table.field-0-is at c.in-Ok-Table.ensures.ok in
-    asked-alone _ _ asks
+    asked-unaudited _ _ asks
 
 -- ---- what was asked for was done
 pub returns-in-Ok : goal.returns-in-Ok

@@ -14,19 +14,36 @@ unreachable-requires g c =
     let rest = into_iter_items c.loop-part.readers in
     let more = left_over (λ part. part.partition) (λ part. part.partition) (λ part. part.reader) c.loop-part.partitions.items c.loop-part.yielded rest c.args.readers.items
     c.loop-part.invariant.partitions (c.loop-part.invariant.readers ∙ c.into_iter-readers.ensures.rest) in
-    let low : 0 < c.loop-part.readers.rest.len = omega (arith, more, turn.0, c.requires, c.loop-part.readers.rest.ok.0) in
+    let low : 0 < c.loop-part.readers.rest.len = omega (arith, more, turn.0, c.requires.readers, c.loop-part.readers.rest.ok.0) in
     none_some c.next-in-loop-part.result c.in_default.is (c.next-in-loop-part.ensures.variant.1 low)
+
+pub unreachable-requires-in_default-next : goal.unreachable-requires-in_default-next
+unreachable-requires-in_default-next g c =
+    let gives = c.into_iter-part-iterator.ensures.into_iter_gives in
+    let road = YieldsList-from_vec c.args.parts.items gives.0 (gives.1 ∙ c.args.parts.ok.0) in
+    let turn = YieldsList-turn road c.loop-part.yielded c.loop-part.part-iterator c.loop-part.yielded_by c.next.result c.next.new.self c.in-Some.part c.in-Some.is c.next.ensures.steps in
+    let rest = into_iter_items c.loop-part.writers in
+    let more = left_over (λ part. part.partition) (λ part. part.partition) (λ part. part.writer) c.loop-part.partitions.items c.loop-part.yielded rest c.args.writers.items
+    c.loop-part.invariant.partitions (c.loop-part.invariant.writers ∙ c.into_iter-writers.ensures.rest) in
+    let low : 0 < c.loop-part.writers.rest.len = omega (arith, more, turn.0, c.requires.writers, c.loop-part.writers.rest.ok.0) in
+    none_some c.next-in-loop-part-2.result c.in_default-next.is (c.next-in-loop-part-2.ensures.variant.1 low)
 
 pub loop-part-preserved : goal.loop-part-preserved
 loop-part-preserved g c =
     let done = c.loop-part.partitions.items in
     let rest = into_iter_items c.next-in-loop-part.new.self in
+    let unused = into_iter_items c.next-in-loop-part-2.new.self in
     record {
       partitions =
           ap (map (λ part. part.partition)) c.in-Ok.ensures.items
           ∙ (map_push (λ part. part.partition) done _
           ∙ (ap (λ vs. vs ++ c.in-Some.part.partition ∷ []) c.loop-part.invariant.partitions
           ∙ sym (map_push (λ part. part.partition) c.loop-part.yielded c.in-Some.part)));
+      writers =
+          ap (λ ps. map (λ part. part.writer) ps ++ unused) c.in-Ok.ensures.items
+          ∙ (ap (λ ws. ws ++ unused) (map_push (λ part. part.writer) done _)
+          ∙ (append_assoc (map (λ part. part.writer) done) (c.in-Some-next-2.writer ∷ []) unused
+          ∙ (ap (λ ws. map (λ part. part.writer) done ++ ws) (sym c.in-Some-next-2.ensures.items) ∙ c.loop-part.invariant.writers)));
       readers =
           ap (λ ps. map (λ part. part.reader) ps ++ rest) c.in-Ok.ensures.items
           ∙ (ap (λ rs. rs ++ rest) (map_push (λ part. part.reader) done _)
@@ -55,7 +72,7 @@ returns-clause-readers g c =
     let long : length partitions ≡ length c.args.readers.items =
     sym (length-map partitions (λ part. part.partition))
     ∙ (ap length c.loop-part.invariant.partitions
-    ∙ (length-map c.loop-part.yielded (λ part. part.partition) ∙ (end.1 ∙ sym c.requires))) in
+    ∙ (length-map c.loop-part.yielded (λ part. part.partition) ∙ (end.1 ∙ sym c.requires.readers))) in
     none_behind (map (λ part. part.reader) partitions) (into_iter_items c.loop-part.readers) c.args.readers.items
     (c.loop-part.invariant.readers ∙ c.into_iter-readers.ensures.rest) (length-map partitions (λ part. part.reader) ∙ long)
 

@@ -1,7 +1,7 @@
 use Rattle.std.proofs.Common.{◌≡◌, None, refl}
 use Rattle.std.specs.BTreeMap.{get}
 use Rattle.fkv_store.proofs.ClosingLemmas.{scan}
-use Rattle.fkv_store.proofs.unlisted.Unlisted.list.Goals as goal
+use Rattle.fkv_store.proofs.unlisted.Unlisted.list_apart.Goals as goal
 
 pub returns-in-Ok-clause-list : goal.returns-in-Ok-clause-list
 returns-in-Ok-clause-list g c keeps k =
