@@ -1,5 +1,5 @@
 pub mod RunLemmas
 pub mod FeedsLemmas
-mod SpilledLemmas
+pub mod SpilledLemmas
 mod TableLemmas
 mod WritingLemmas

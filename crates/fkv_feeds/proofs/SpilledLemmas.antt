@@ -1,31 +1,15 @@
 -- Runs of a store's lists that are spilled, and why they are not.
-use Rattle.std.proofs.Common.{◌≡◌, ◌≢◌, ◌⊎◌, ◌+◌, ℕ, ℤ, Bool, inl, inr, List, [], ◌∷◌, ◌++◌, length, Option, refl, ◌∙◌, ap, IsTrue, arith}
-use Rattle.fkv_functions.specs.Names.{name_cmp, name_total}
-use Rattle.fkv_functions.specs.declared.names.Name.{Name}
+use Rattle.std.proofs.Common.{◌≡◌, ◌≢◌, ◌⊎◌, ℕ, Bool, inl, inr, List, Option, refl, IsTrue}
 use Rattle.fkv_functions.specs.declared.refusals.Refused.{Refused}
 use Rattle.fkv_functions.specs.declared.refusals.Refused.TheVariants.{NoMemory, Worn, Device, Damaged}
 use Rattle.fkv_device.specs.Failing.{FailsOnlyBy, ReadFailsBy}
 use Rattle.fkv_partition.specs.declared.limits.Config.{Config}
 use Rattle.fkv_local.specs.Causing.{IsCausedBy}
-use Rattle.fkv_runs.specs.Merging.{merged}
-use Rattle.fkv_runs.proofs.GroupLemmas.{merged-append}
-use Rattle.fkv_runs.proofs.LengthLemmas.{length-two}
 use Rattle.fkv_spills.specs.Reading.{IsUnreadable}
 use Rattle.fkv_feeds.specs.Faults.{IsDeviceFault}
 use Rattle.fkv_feeds.specs.Refusing.{TellsStopped, TellsWhyNone}
 use Rattle.fkv_feeds.specs.Spilling.{IsSpillFault}
 use Rattle.fkv_feeds.proofs.FeedsLemmas.{IsOfDevice, reads-by, devices-by, stopped-by, why_none}
-
--- ---- how many pairs there are, with a run more
-length-with : {V : Type 0} (xss : List (List (Name × V))) (xs : List (Name × V)) → length (merged name_cmp (xss ++ xs ∷ [])) ≡ length (merged name_cmp xss) + length xs
-length-with xss xs =
-    let all = ap length (merged-append name_cmp name_total xss (xs ∷ [])) ∙ length-two name_cmp (merged name_cmp xss) (merged name_cmp (xs ∷ [])) in
-    let one = length-two name_cmp xs [] in
-    all ∙ ap (λ n. length (merged name_cmp xss) + n) (one ∙ (omega arith))
-
-pub keys-more : {V : Type 0} (keys len more : ℕ) (xss : List (List (Name × V))) (xs : List (Name × V)) → more ≡ keys + len → keys ≡ length (merged name_cmp xss) → len ≡ length xs
-    → more ≡ length (merged name_cmp (xss ++ xs ∷ []))
-keys-more keys len more xss xs e k l = (let all = length-with xss xs in omega arith)
 
 -- ---- why a page of a run was not read
 pub unread-caused : (A B : Type 0) {known : Type 0} (old new : ℕ) (e : Refused) → IsUnreadable old new known e → (e ≢ NoMemory → B) → IsCausedBy A B e
@@ -47,7 +31,7 @@ stopped-weaker f g feeds old new (Damaged page) w t = (t.0, w t.1)
 stopped-weaker f g feeds old new other w t = t
 
 module _ {D W R : Type 0} (A B : Type 0) (keeps : Bool) (opens : D → ℕ) (writes : W → ℕ) (reads : R → ℕ) where
-  spills-by : (e : Refused) → IsSpillFault keeps opens writes reads A B e → IsOfDevice e
+  pub spills-by : (e : Refused) → IsSpillFault keeps opens writes reads A B e → IsOfDevice e
   spills-by e (IsSpillFault.unmade f) = devices-by keeps opens writes reads e f
   spills-by e (IsSpillFault.unwritten page old new f) = elim f [ inl a ↦ inl a.0 | inr b ↦ inr (inl (2, page, b.0)) ]
   spills-by e (IsSpillFault.unread before now f caused) = elim f.1 [ inl r ↦ reads-by f.0 (reads before) (reads now) e r | inr d ↦ inr (inr (f.0, d.0)) ]

@@ -23,7 +23,7 @@ use fkv_device::Disk;
 use fkv_functions::{Mergeable, Name, Refused};
 use fkv_local::Lists;
 use fkv_partition::Config;
-use fkv_spills::{ReadGroups, ReadMerge, Spilled, SpilledRest};
+use fkv_spills::{ReadMerge, Spilled, SpilledPart, SpilledParts, SpilledRest, SpilledTable};
 use fkv_streams::Source;
 use std::alloc::Global;
 use std::collections::BTreeMap;
@@ -37,20 +37,6 @@ pub struct SpilledRun<V, R, P> {
     pub keys: usize,
     pub counts: Counts,
     pub plan: Plan,
-}
-
-/// The run of a partition's list on its device, and how many pairs it has.
-#[derive(Drop)]
-struct SpilledPart<V, R, P> {
-    rest: SpilledRest<V, R, P>,
-    len: usize,
-}
-
-/// The runs of all partitions, merged, and how many pairs they have.
-#[derive(Drop)]
-struct SpilledTable<V, R, P> {
-    pairs: ReadMerge<ReadMerge<SpilledRest<V, R, P>>>,
-    keys: usize,
 }
 
 /// The run of a partition's list, in pages of so many bytes: the partition's place on the device begins anew, with the run alone. A key
@@ -150,25 +136,19 @@ fn spilled_table_of<F: Mergeable<Key = Name>, D: Disk>(
 {
     let mut lists = lists;
     lists.count();
-    let mut groups = ReadGroups::new(alloc);
-    let mut keys = 0usize;
+    let mut parts = SpilledParts::new(alloc);
     'lists: while lists.len() > 0 {
         let part = match next_part(alloc, &mut lists, device, page_size) {
             Ok(part) => part,
             Err(refused) => return Err(refused),
         };
-        let SpilledPart { rest, len } = part;
-        let Some(more) = keys.checked_add(len) else {
-            return Err(Refused::Worn);
-        };
-        keys = more;
-        match groups.add(rest) {
+        match parts.add(part) {
             Ok(()) => {}
             Err(refused) => return Err(refused),
         }
     }
-    match groups.merge() {
-        Ok(pairs) => Ok(SpilledTable { pairs, keys }),
+    match parts.merge() {
+        Ok(table) => Ok(table),
         Err(refused) => Err(refused),
     }
 }

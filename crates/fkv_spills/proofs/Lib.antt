@@ -1,3 +1,4 @@
 pub mod GroupedLemmas
 pub mod HeldLemmas
+pub mod PartLemmas
 pub mod SpillLemmas

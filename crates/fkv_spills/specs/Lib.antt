@@ -1,2 +1,3 @@
 pub mod Spilling
 pub mod Reading
+pub mod Parts

@@ -1,5 +1,3 @@
-use Rattle.std.proofs.Common.{◌∙◌, subst}
-use Rattle.fkv_spills.specs.Reading.{AreHeld}
 use Rattle.fkv_spills.proofs.GroupedLemmas.{grouped-close}
 use Rattle.fkv_spills.proofs.groups.ReadGroups.close.Goals as goal
 
