@@ -1,8 +1,7 @@
 //! One operation of one partition, driven to its end.
 ghost use Rattle.std.specs.Prelude.{◌≡◌, ◌≢◌, ◌<◌, ◌≤◌, ◌+◌, ◌-◌, ◌*◌, ◌^◌, ℕ, None, Ok, true, false, IsTrue, IfOk, IfErr, IfSome, OnOk, OnErr};
 ghost use Rattle.fkv_operations.specs.After.{key_of};
-ghost use Rattle.fkv_operations.specs.declared.operations.KeyedOp.TheVariants.{Read, Rmw};
-ghost use Rattle.fkv_operations.specs.declared.operations.Answer.TheVariants.{Value};
+ghost use Rattle.fkv_operations.specs.declared.operations.KeyedOp.TheVariants.{Read};
 ghost use Rattle.fkv_hybrid.specs.Views.{IsFull};
 ghost use Rattle.fkv_partition.specs.Views.{partition_of};
 ghost use Rattle.fkv_partition.specs.Events.{IsPassedOn};
@@ -23,7 +22,7 @@ use crate::parts::{Part, SLOT, Shard, Terms};
 use fkv_alone::run_alone;
 use fkv_device::{Disk, PageReader};
 use fkv_functions::{Mergeable, Refused};
-use fkv_operations::{Answer, Clock, KeyedOp, KeyedOpOf};
+use fkv_operations::{Answer, AnswerOf, Clock, KeyedOp, KeyedOpOf};
 use fkv_partition::{Progress, ProgressOf};
 
 /// An operation that waits is in its session's lowest context, where nothing else is open.
@@ -167,22 +166,21 @@ pub fn run_by_events<F: Mergeable, D: Disk, P: PageReader<Receipt = D::Receipt>>
     }
 }
 
-/// Makes an update in one call, where its key's last record may be changed in place. Answers what it shows, or `None`, and then
+/// Makes an operation in one call, where it writes where its key's last record stands. Answers `None` where it does not, and then
 /// nothing has changed. Refused: `Worn` where no moment is left.
-pub fn try_update_in_place<F: Mergeable, D: Disk>(
+pub fn try_write_in_place<F: Mergeable, D: Disk>(
     functions: &F,
     part: &mut Part<F, D>,
-    key: &F::Key,
-    input: &F::Input,
+    op: &KeyedOpOf<F>,
     clock: &mut Clock,
-) -> Result<Option<F::Output>, Refused>
+) -> Result<Option<AnswerOf<F>>, Refused>
     requires idle { IsIdle part.old.partition 0 }
     requires past { part.old.partition.moment ≤ clock.old }
     requires numbered { D.Writer.next part.old.writer ≤ clock.old }
     // on any device
-    ensures done { IfOk result (λ answer. IfSome answer (λ shown. Runs true F.Key.cmp F.meaning
-        part.old.partition part.new.partition (Rmw key.now input.now) (Ok (Value shown)))) }
-    ensures same { IfOk result (λ answer. answer ≡ None → part.new.partition ≡ part.old.partition) }
+    ensures done { IfOk result (λ told. IfSome told (λ answer. Runs true F.Key.cmp F.meaning
+        part.old.partition part.new.partition op.now (Ok answer))) }
+    ensures same { IfOk result (λ told. told ≡ None → part.new.partition ≡ part.old.partition) }
     ensures refused { OnErr result (part.new.partition ≡ part.old.partition) }
     ensures passed { IsPassed part.new.partition.moment clock.old clock.new }
     ensures numbered { D.Writer.next part.new.writer ≤ clock.new }
@@ -198,9 +196,9 @@ pub fn try_update_in_place<F: Mergeable, D: Disk>(
     part.partition.known();
     match part
         .partition
-        .try_update_in_place(SLOT, key, input, functions, issued, now)
+        .try_write_in_place(SLOT, op, functions, issued, now)
     {
-        Some(shown) => Ok(Some(shown)),
+        Some(answer) => Ok(Some(answer)),
         None => Ok(None),
     }
 }
@@ -278,6 +276,7 @@ fn tidy_where_grown<F: Mergeable, D: Disk>(
 
 /// Makes an operation in a session that has nothing open, to its end, after pages have moved on where they are due. Refused as
 /// [`LocalStore::run`](crate::LocalStore::run) is.
+#[inline(always)]
 pub fn operate<F: Mergeable, D: Disk>(
     terms: &Terms<F>,
     shard: &mut Shard<F, D>,
@@ -303,48 +302,15 @@ pub fn operate<F: Mergeable, D: Disk>(
 {
     match op {
         KeyedOp::Read(key, input) => read(terms, shard, &key, &input, clock),
-        KeyedOp::Rmw(key, input) => update(terms, shard, &key, &input, clock),
-        KeyedOp::Upsert(..) | KeyedOp::Delete(_) | KeyedOp::Merge(..) => {
-            operate_by_events(terms, shard, op, clock)
+        KeyedOp::Upsert(..) | KeyedOp::Rmw(..) | KeyedOp::Delete(_) | KeyedOp::Merge(..) => {
+            write(terms, shard, &op, clock)
         }
     }
 }
 
-/// Makes an operation as [`operate`] does, by the events of its partition.
-fn operate_by_events<F: Mergeable, D: Disk>(
-    terms: &Terms<F>,
-    shard: &mut Shard<F, D>,
-    op: KeyedOpOf<F>,
-    clock: &mut Clock,
-) -> Result<Answer<F::Output>, Refused>
-    requires idle { IsIdle shard.old.part.partition 0 }
-    requires own { partition_of shard.old.part.partition.count (F.code (key_of op)) ≡ shard.old.part.partition.number }
-    requires past { shard.old.part.partition.moment ≤ clock.old }
-    requires numbered { D.Writer.next shard.old.part.writer ≤ clock.old }
-    requires begun { 0 < clock.old }
-    ensures runs { Runs D.Receipt.keeps F.Key.cmp F.meaning shard.old.part.partition shard.new.part.partition op result }
-    ensures unread { may_load op ≡ false → IsTrue terms.now.keeps_log → shard.new.reader ≡ shard.old.reader }
-    ensures loads { IsTrue D.Receipt.keeps → IsTrue terms.now.keeps_log → D.Reader.reads shard.new.reader
-        ≤ D.Reader.reads shard.old.reader + 2 * records_of F.code shard.old.part.partition.records (key_of op) }
-    ensures passed { IsPassed shard.new.part.partition.moment clock.old clock.new }
-    ensures numbered { D.Writer.next shard.new.part.writer ≤ clock.new }
-    ensures caused { IsTrue D.Receipt.keeps → IfErr result
-        (IsCausedBy (CanFailToWrite D.Writer.next D.Writer.can_fail) (CanFailToRead D.Receipt.stands D.Reader.can_fail)) }
-    ensures told { IfErr result (IsRefusedBy D.Receipt.keeps F.MERGES terms.now.keeps_log
-        D.Writer.failures D.Reader.failures op shard.new.part.partition.records.log.tail clock.new
-        shard.old.part.writer shard.old.reader shard.new.part.writer shard.new.reader) }
-{
-    let tidied = tidy_at_times(terms, shard, clock);
-    match tidied {
-        Ok(()) => {}
-        Err(refused) => return Err(refused),
-    }
-    run_by_events(terms, &mut shard.part, &mut shard.reader, op, clock)
-}
-
 /// Makes a read as [`operate`] does, in one call where no page has to be read for it: then it takes no moment.
 #[inline(always)]
-pub fn read<F: Mergeable, D: Disk>(
+fn read<F: Mergeable, D: Disk>(
     terms: &Terms<F>,
     shard: &mut Shard<F, D>,
     key: &F::Key,
@@ -386,42 +352,38 @@ pub fn read<F: Mergeable, D: Disk>(
     }
 }
 
-/// Makes an update as [`operate`] does, in one call where the key's last record may be changed in place.
+/// Makes an operation as [`operate`] does, in one call where it writes where the key's last record stands.
 #[inline(always)]
-pub fn update<F: Mergeable, D: Disk>(
+fn write<F: Mergeable, D: Disk>(
     terms: &Terms<F>,
     shard: &mut Shard<F, D>,
-    key: &F::Key,
-    input: &F::Input,
+    op: &KeyedOpOf<F>,
     clock: &mut Clock,
 ) -> Result<Answer<F::Output>, Refused>
     requires idle { IsIdle shard.old.part.partition 0 }
-    requires own { partition_of shard.old.part.partition.count (F.code key.now) ≡ shard.old.part.partition.number }
+    requires own { partition_of shard.old.part.partition.count (F.code (key_of op.now)) ≡ shard.old.part.partition.number }
     requires past { shard.old.part.partition.moment ≤ clock.old }
     requires numbered { D.Writer.next shard.old.part.writer ≤ clock.old }
     requires begun { 0 < clock.old }
-    ensures runs { Runs D.Receipt.keeps F.Key.cmp F.meaning shard.old.part.partition shard.new.part.partition
-        (Rmw key.now input.now) result }
+    ensures runs { Runs D.Receipt.keeps F.Key.cmp F.meaning shard.old.part.partition shard.new.part.partition op.now result }
+    ensures unread { may_load op.now ≡ false → IsTrue terms.now.keeps_log → shard.new.reader ≡ shard.old.reader }
     ensures loads { IsTrue D.Receipt.keeps → IsTrue terms.now.keeps_log → D.Reader.reads shard.new.reader
-        ≤ D.Reader.reads shard.old.reader + 2 * records_of F.code shard.old.part.partition.records key.now }
+        ≤ D.Reader.reads shard.old.reader + 2 * records_of F.code shard.old.part.partition.records (key_of op.now) }
     ensures passed { IsPassed shard.new.part.partition.moment clock.old clock.new }
     ensures numbered { D.Writer.next shard.new.part.writer ≤ clock.new }
     ensures caused { IsTrue D.Receipt.keeps → IfErr result
         (IsCausedBy (CanFailToWrite D.Writer.next D.Writer.can_fail) (CanFailToRead D.Receipt.stands D.Reader.can_fail)) }
-    ensures told { IfErr result (IsRefusedBy {V = F.Value} D.Receipt.keeps F.MERGES terms.now.keeps_log
-        D.Writer.failures D.Reader.failures (Rmw key.now input.now) shard.new.part.partition.records.log.tail clock.new
+    ensures told { IfErr result (IsRefusedBy D.Receipt.keeps F.MERGES terms.now.keeps_log
+        D.Writer.failures D.Reader.failures op.now shard.new.part.partition.records.log.tail clock.new
         shard.old.part.writer shard.old.reader shard.new.part.writer shard.new.reader) }
 {
     match tidy_at_times(terms, shard, clock) {
         Ok(()) => {}
         Err(refused) => return Err(refused),
     }
-    match try_update_in_place(&terms.functions, &mut shard.part, key, input, clock) {
-        Ok(Some(shown)) => Ok(Answer::Value(shown)),
-        Ok(None) => {
-            let rmw = KeyedOp::Rmw(*key, *input);
-            run_by_events(terms, &mut shard.part, &mut shard.reader, rmw, clock)
-        }
+    match try_write_in_place(&terms.functions, &mut shard.part, op, clock) {
+        Ok(Some(answer)) => Ok(answer),
+        Ok(None) => run_by_events(terms, &mut shard.part, &mut shard.reader, *op, clock),
         Err(refused) => Err(refused),
     }
 }

@@ -11,7 +11,7 @@ ghost use Rattle.fkv_local.specs.Storing.{Runs, Updates};
 ghost use Rattle.fkv_local.specs.Refusing.{IsStopped, IsRefusedBy};
 
 use crate::barring::NoPages;
-use crate::driving::{run_by_events, tidy_at_times, try_update_in_place};
+use crate::driving::{run_by_events, tidy_at_times, try_write_in_place};
 use crate::parts::{Part, SLOT, Shard, Terms};
 use fkv_device::Disk;
 use fkv_functions::{Mergeable, Refused};
@@ -131,15 +131,15 @@ pub fn update_or_merge<F: Mergeable, D: Disk>(
         Ok(()) => {}
         Err(refused) => return Err(refused),
     }
-    match try_update_in_place(&terms.functions, &mut shard.part, key, input, clock) {
-        Ok(Some(shown)) => return Ok(Answer::Value(shown)),
+    let rmw = KeyedOp::Rmw(*key, *input);
+    match try_write_in_place(&terms.functions, &mut shard.part, &rmw, clock) {
+        Ok(Some(answer)) => return Ok(answer),
         Ok(None) => {}
         Err(refused) => return Err(refused),
     }
     if F::MERGES {
         merge_for_page(terms, &mut shard.part, key, input, clock)
     } else {
-        let rmw = KeyedOp::Rmw(*key, *input);
         run_by_events(terms, &mut shard.part, &mut shard.reader, rmw, clock)
     }
 }

@@ -17,7 +17,7 @@ use crate::parts::{Part, SLOT};
 use fkv_device::{Disk, Receipt, Written};
 use fkv_functions::{Mergeable, Refused};
 use fkv_operations::Clock;
-use fkv_partition::{Partition, kept_page};
+use fkv_partition::{Partition, kept_page, read_only_page};
 use fkv_records::Address;
 use std::alloc::Global;
 
@@ -176,15 +176,6 @@ fn flush_all<F: Mergeable, D: Disk>(
     }
     // each of them took two moments
     Err(Refused::Worn)
-}
-
-/// The page below which a log of so many frames is to be read only, while its tail stands in this page: an eighth of the frames, and
-/// one, hold records that are read only, and in all others they change in place. Nobody waits for a page to be written here, so the
-/// read-only pages only give a record that is often updated a time to be copied to the tail before it leaves memory.
-fn read_only_page(frames: u64, tail: u64) -> u64
-    ensures { result ≡ tail - (frames - 3 - frames / 8) }
-{
-    tail.saturating_sub(frames.saturating_sub(3).saturating_sub(frames / 8))
 }
 
 /// The page of an address of a partition's log.

@@ -19,7 +19,7 @@ ghost use Rattle.fkv_local.specs.Listing.{IsUnlisted, lists_of, left};
 
 use crate::compacting::{Effort, compact};
 use crate::counting::{Counts, appended_records, held_bytes};
-use crate::driving::{operate, read, update};
+use crate::driving::operate;
 use crate::gathering::gather;
 use crate::listing::Lists;
 use crate::merging::update_or_merge;
@@ -128,6 +128,7 @@ impl<F: Mergeable, D: Disk> LocalStore<F, D> {
     /// `NoMemory`; `NoMerge` of a merge, where the functions don't merge; `Device` with code 2 or 3 where a page can't be written
     /// or read; `Damaged` where a page came back with other bytes, or spells no record; `Worn` where no address or no two moments
     /// are left. It is never `Stalled`: where there is no room for a record pages move on, and then there is.
+    #[inline(always)]
     pub fn run(&mut self, op: KeyedOpOf<F>) -> Result<Answer<F::Output>, Refused>
         ensures runs { IsTrue D.Receipt.keeps → IsRun F.Key.cmp F.meaning (plain F.Key.cmp F.code self.old) (plain F.Key.cmp F.code self.new) op result }
         ensures told { IfErr result (IsRefusal D.Receipt.keeps F.MERGES
@@ -159,9 +160,7 @@ impl<F: Mergeable, D: Disk> LocalStore<F, D> {
             → ReadsFew {V = F.Value} F.code D.Reader.reads self.old self.new (Rmw key.now input.now) }
         ensures same_terms { SameTerms self.old self.new }
     {
-        let home = self.home(key);
-        let shard = &mut self.shards[home];
-        update(&self.terms, shard, key, input, &mut self.clock)
+        self.run(KeyedOp::Rmw(*key, *input))
     }
 
     /// Changes a key's value as [`LocalStore::rmw`] does, and reads no page for it: where one would have to be read, and the functions
@@ -203,9 +202,7 @@ impl<F: Mergeable, D: Disk> LocalStore<F, D> {
             → ReadsFew {V = F.Value} F.code D.Reader.reads self.old self.new (Read key.now input.now) }
         ensures same_terms { SameTerms self.old self.new }
     {
-        let home = self.home(key);
-        let shard = &mut self.shards[home];
-        read(&self.terms, shard, key, input, &mut self.clock)
+        self.run(KeyedOp::Read(*key, *input))
     }
 
     /// Sets a key's value, whatever it was.

@@ -1,8 +1,7 @@
 //! Operations of callers that are issued and finished in one call: most updates of a feed are such, and most reads.
 ghost use Rattle.std.specs.Prelude.{◌≡◌, ◌+◌, ◌-◌, ◌^◌, ◌<◌, ◌≤◌, ◌↔◌, true, None, Ok, IsTrue, IfOk, IfErr, IfSome, OnOk, OnErr};
 ghost use Rattle.fkv_operations.specs.declared.operations.Answer.{Answer};
-ghost use Rattle.fkv_operations.specs.declared.operations.Answer.TheVariants.{Value};
-ghost use Rattle.fkv_operations.specs.declared.operations.KeyedOp.TheVariants.{Read, Rmw};
+ghost use Rattle.fkv_operations.specs.declared.operations.KeyedOp.TheVariants.{Read};
 ghost use Rattle.fkv_partition.specs.AtOnce.{IsAtHand, IsDoneAtOnce, IsReadAtOnce};
 ghost use Rattle.fkv_partition.specs.KeyAtOnce.{AsksForPage};
 ghost use Rattle.fkv_partition.specs.KeyBeginning.{IsEntered};
@@ -15,7 +14,7 @@ use crate::open_operations::SessionId;
 use fkv_device::Receipt;
 use fkv_functions::{Mergeable, Refused, What};
 use fkv_histories::{Entry, Recorder};
-use fkv_operations::{Answer, Clock, KeyedOp};
+use fkv_operations::{Clock, KeyedOp, KeyedOpOf};
 use fkv_partition::pendings_stay;
 
 /// How many updates stand where an operation is issued and finished at once, and the second of its two moments.
@@ -65,30 +64,26 @@ fn make_ready_at_once<F: Mergeable, H: Recorder<F>>(
 }
 
 impl<F: Mergeable, R: Receipt, H: Recorder<F>> Locked<F, R, H> {
-    /// Issues an update of a key in a session of a caller, which was told of so many updates, and finishes it, where the last
-    /// record of its key may be changed in place and the functions do not decline it: what [`Locked::issue`] and
-    /// [`Locked::go`] do then, at two moments, but no context is written and read again, and no mark. Answers its entry, which is
-    /// noted, or `None` where it can't be issued or would not be finished so, and then nothing changes. Refused, in this order,
-    /// and then nothing changes: `Stranger` where fewer updates stand there; `Worn` where the updates or the book have no next
-    /// number, or the clock has no two; `NoMemory`.
-    pub fn try_update_in_place(
+    /// Issues an operation in a session of a caller, which was told of so many updates, and finishes it, where it writes where the
+    /// last record of its key stands: what [`Locked::issue`] and [`Locked::go`] do then, at two moments, but no context is written
+    /// and read again, and no mark. Answers its entry, which is noted, or `None` where it is a read or a merge, can't be issued or
+    /// would not be finished so, and then nothing changes. Refused, in this order, and then nothing changes: `Stranger` where fewer
+    /// updates stand there; `Worn` where the updates or the book have no next number, or the clock has no two; `NoMemory`.
+    pub fn try_write_in_place(
         &mut self,
         session: SessionId,
-        key: &F::Key,
-        input: &F::Input,
+        op: &KeyedOpOf<F>,
         told: u64,
         functions: &F,
     ) -> Result<Option<FinishedOf<F>>, Refused>
-        ensures done { IfOk result (λ done. IfSome done (λ e. (shown : F.Output)
-            × (e ≡ entry_at_once self.old session (Rmw key.now input.now) (Value shown))
+        ensures done { IfOk result (λ done. IfSome done (λ e. (answer : Answer F.Output)
+            × (e ≡ entry_at_once self.old session op.now answer)
             × IsDoneAtOnce R.stands F.Key.cmp F.parts.joined F.meaning F.code
-            self.old.partition self.new.partition session.slot key.now
-            input.now (self.old.clock + 1) (self.old.clock + 2) shown)) }
+            self.old.partition self.new.partition session.slot op.now (self.old.clock + 1) (self.old.clock + 2) answer)) }
         ensures after { IfOk result (λ done. IfSome done (IsNoted H.keeps self.old self.new)) }
         ensures fresh { IfOk result (λ done. IfSome done (λ e. (told ≤ e.at) × (e.at < 2 ^ 64 - 1))) }
-        ensures left { result ≡ Ok None → (held : F.Value)
-            → IsAtHand F.Key.cmp F.parts.joined F.code self.old.partition session.slot key.now held
-            → F.meaning.next key.now held input.now ≡ None }
+        ensures left { result ≡ Ok None
+            → ¬ (IsAtHand F.Key.cmp F.parts.joined F.meaning F.code self.old.partition session.slot op.now) }
         ensures none { result ≡ Ok None → self.new ≡ self.old }
         ensures refused { IfErr result (IsUnfit self.old.count self.old.book self.old.clock told) }
         ensures unchanged { OnErr result (self.new ≡ self.old) }
@@ -108,22 +103,16 @@ impl<F: Mergeable, R: Receipt, H: Recorder<F>> Locked<F, R, H> {
         partition.known();
         let AtOnce { at, now } = ready;
         let issued = now - 1;
-        let Some(shown) = partition.try_update_in_place(
-            session.slot,
-            key,
-            input,
-            functions,
-            issued,
-            now,
-        ) else {
+        let Some(answer) = partition.try_write_in_place(session.slot, op, functions, issued, now)
+        else {
             return Ok(None);
         };
         *clock = Clock::starting(now);
         let entry = Entry {
             session: session.number,
             number: issued,
-            op: KeyedOp::Rmw(*key, *input),
-            answer: Answer::Value(shown),
+            op: *op,
+            answer,
             low: at,
             at,
             high: at,
@@ -142,7 +131,7 @@ impl<F: Mergeable, R: Receipt, H: Recorder<F>> Locked<F, R, H> {
     /// Issues a read of a key in a session of a caller, which was told of so many updates, and finishes it, where no page has to
     /// be read for it: what [`Locked::issue`] and [`Locked::go`] answer then, at two moments, but the partition is left as it is,
     /// and no mark changes. Answers its entry, which is noted, or `None` where the slot is that of no session, the key belongs to
-    /// another partition, or the read would ask for a page, and then nothing changes. Refused as [`Locked::try_update_in_place`] is,
+    /// another partition, or the read would ask for a page, and then nothing changes. Refused as [`Locked::try_write_in_place`] is,
     /// and then nothing changes.
     pub fn try_read_in_memory(
         &mut self,

@@ -1,11 +1,11 @@
--- An update that is issued and done in one call, and a read that changes nothing.
+-- An operation that is issued and done in one call, and a read that changes nothing.
 use Rattle.std.specs.Prelude.{ℕ, Some, Ok}
 use Rattle.std.specs.declared.cmp.Ordering.{Ordering}
 use Rattle.fkv_functions.specs.Meanings.{Meanings}
 use Rattle.fkv_device.specs.Standing.{Standing}
-use Rattle.fkv_operations.specs.declared.operations.Op.TheVariants.{Rmw}
+use Rattle.fkv_operations.specs.Operations.{op_of}
+use Rattle.fkv_operations.specs.declared.operations.KeyedOp.{KeyedOp}
 use Rattle.fkv_operations.specs.declared.operations.Answer.{Answer}
-use Rattle.fkv_operations.specs.declared.operations.Answer.TheVariants.{Value}
 use Rattle.fkv_partition.specs.declared.contexts.Progress.TheVariants.{Done}
 use Rattle.fkv_partition.specs.KeyAtOnce as on_key
 use Rattle.fkv_partition.specs.KeyBeginning.{IsEntered}
@@ -14,25 +14,25 @@ use Rattle.fkv_partition.specs.Beginning.{IsFirstFree}
 use Rattle.fkv_partition.specs.Events.{Issues, Goes}
 use Rattle.fkv_partition.specs.Effect.{IsIssue, IsEvent}
 
--- an operation of this key would be issued here, and would meet this value where it may be changed in place
-pub record IsAtHand {K V I : Type 0} (cmp : K → K → Ordering) (join : V → V → V) (code : K → ℕ) (v : PartitionView K V I) (slot : ℕ)
-    (key : K) (held : V) : Type 0 where
+-- an operation would be issued here, and would write where a record stands
+pub record IsAtHand {K V I O : Type 0} (cmp : K → K → Ordering) (join : V → V → V) (f : Meanings K V I O) (code : K → ℕ)
+    (v : PartitionView K V I) (slot : ℕ) (op : KeyedOp K V I) : Type 0 where
   pub entered : IsEntered v slot
   pub context : ℕ
   pub free : IsFirstFree v slot (Some context)
-  pub hand : on_key.IsAtHand cmp join code v slot key held
+  pub hand : on_key.IsAtHand cmp join f code v slot op
 
--- the update is issued at one moment, and done with this answer when it goes on at another: what stands between them is
+-- the operation is issued at one moment, and done with this answer when it goes on at another: what stands between them is
 -- what the issue makes
 pub record IsDoneAtOnce {K V I O R : Type 0} (stands : R → Standing) (cmp : K → K → Ordering) (join : V → V → V) (f : Meanings K V I O)
-    (code : K → ℕ) (old new : PartitionView K V I) (slot : ℕ) (key : K) (input : I) (issued now : ℕ) (shown : O)
+    (code : K → ℕ) (old new : PartitionView K V I) (slot : ℕ) (op : KeyedOp K V I) (issued now : ℕ) (answer : Answer O)
     : Type 0 where
   pub context : ℕ
   pub between : PartitionView K V I
-  pub issues : Issues code old between slot (Rmw key input) issued (Ok context)
-  pub issue : IsIssue code old between slot context (Rmw key input) issued
-  pub goes : Goes stands cmp join f code between new slot context now (Ok (Done (Value shown) now))
-  pub event : IsEvent {R = R} cmp f between new slot context now (Done (Value shown) now)
+  pub issues : Issues code old between slot (op_of op) issued (Ok context)
+  pub issue : IsIssue code old between slot context (op_of op) issued
+  pub goes : Goes stands cmp join f code between new slot context now (Ok (Done answer now))
+  pub event : IsEvent {R = R} cmp f between new slot context now (Done answer now)
 
 -- a read of a key in a session is done by what this meets, and this answer shows what the key has
 pub record IsReadAtOnce {K V I O : Type 0} (cmp : K → K → Ordering) (join : V → V → V) (f : Meanings K V I O) (code : K → ℕ)

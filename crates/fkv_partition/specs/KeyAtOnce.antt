@@ -1,12 +1,12 @@
--- An update that is issued and done in one call, and a read that changes nothing.
-use Rattle.std.specs.Prelude.{◌≡◌, ℕ, Option, Ok}
+-- An operation that is issued and done in one call, and a read that changes nothing.
+use Rattle.std.specs.Prelude.{◌≡◌, ℕ, true, Option, Ok}
 use Rattle.std.specs.declared.cmp.Ordering.{Ordering}
 use Rattle.fkv_functions.specs.Meanings.{Meanings}
 use Rattle.fkv_device.specs.Standing.{Standing}
-use Rattle.fkv_operations.specs.After.{shown_of}
-use Rattle.fkv_operations.specs.declared.operations.KeyedOp.TheVariants.{Read, Rmw}
+use Rattle.fkv_operations.specs.After.{key_of, is_merge, shown_of}
+use Rattle.fkv_operations.specs.declared.operations.KeyedOp.{KeyedOp}
+use Rattle.fkv_operations.specs.declared.operations.KeyedOp.TheVariants.{Read}
 use Rattle.fkv_operations.specs.declared.operations.Answer.{Answer}
-use Rattle.fkv_operations.specs.declared.operations.Answer.TheVariants.{Value}
 use Rattle.fkv_lookups.specs.declared.decisions.LookupResult.TheVariants.{Mutable}
 use Rattle.fkv_lookups.specs.declared.decisions.Decision.TheVariants as decided
 use Rattle.fkv_lookups.specs.Decisions.{decision}
@@ -16,22 +16,27 @@ use Rattle.fkv_partition.specs.KeyBeginning.{Issues}
 use Rattle.fkv_partition.specs.KeyGoing.{Goes}
 use Rattle.fkv_partition.specs.KeyEffect.{IsIssue, IsEvent}
 
--- a key belongs here, and a look-up of it meets this value where it may be changed in place
-pub record IsAtHand {K V I : Type 0} (cmp : K → K → Ordering) (join : V → V → V) (code : K → ℕ) (v : PartitionView K V I) (slot : ℕ)
-    (key : K) (held : V) : Type 0 where
-  pub own : partition_of v.count (code key) ≡ v.number
-  pub met : met_at cmp join code v slot key ≡ Mutable held
+-- an operation has its key here, and writes this value, or a tombstone, where the record that a look-up of the key meets stands
+pub record IsAtHand {K V I O : Type 0} (cmp : K → K → Ordering) (join : V → V → V) (f : Meanings K V I O) (code : K → ℕ)
+    (v : PartitionView K V I) (slot : ℕ) (op : KeyedOp K V I) : Type 0 where
+  pub own : partition_of v.count (code (key_of op)) ≡ v.number
+  pub merging : is_merge op ≡ true → v.merges ≡ true
+  pub held : V
+  pub met : met_at cmp join code v slot (key_of op) ≡ Mutable held
+  pub value : Option V
+  pub answer : Answer O
+  pub writes : decision f op (Mutable held) ≡ decided.Replace value answer
 
--- the update is issued in a context at one moment, and done with this answer when it goes on at another: what stands
+-- the operation is issued in a context at one moment, and done with this answer when it goes on at another: what stands
 -- between them is what the issue makes
 pub record IsDoneAtOnce {K V I O R : Type 0} (stands : R → Standing) (cmp : K → K → Ordering) (join : V → V → V) (f : Meanings K V I O)
-    (code : K → ℕ) (old new : PartitionView K V I) (slot c : ℕ) (key : K) (input : I) (issued now : ℕ) (shown : O)
+    (code : K → ℕ) (old new : PartitionView K V I) (slot c : ℕ) (op : KeyedOp K V I) (issued now : ℕ) (answer : Answer O)
     : Type 0 where
   pub between : PartitionView K V I
-  pub issues : Issues code old between slot c (Rmw key input) issued
-  pub issue : IsIssue code old between slot c (Rmw key input) issued
-  pub goes : Goes stands cmp join f code between new slot c now (Ok (Done (Value shown) now))
-  pub event : IsEvent {R = R} cmp f between new slot c now (Done (Value shown) now)
+  pub issues : Issues code old between slot c op issued
+  pub issue : IsIssue code old between slot c op issued
+  pub goes : Goes stands cmp join f code between new slot c now (Ok (Done answer now))
+  pub event : IsEvent {R = R} cmp f between new slot c now (Done answer now)
 
 -- a read of a key that belongs here is done by what the session meets, and this answer shows what the key has
 pub record IsReadAtOnce {K V I O : Type 0} (cmp : K → K → Ordering) (join : V → V → V) (f : Meanings K V I O) (code : K → ℕ)

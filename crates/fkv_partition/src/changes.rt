@@ -187,16 +187,17 @@ impl<F: Mergeable, R: Receipt> Partition<F, R> {
         set_context(&mut self.contexts, slot, context, None);
     }
 
-    /// Gives the last record of its key, which has a value, another one where it stands. No context changes.
-    pub(crate) fn revalue(&mut self, address: Address, value: F::Value, now: u64)
+    /// Gives the last record of its key, which has a value, another one where it stands, or makes it a tombstone. No context
+    /// changes.
+    pub(crate) fn revalue(&mut self, address: Address, value: Option<F::Value>, now: u64)
         requires last { IsReplaceable F.Key.cmp self.old.records address }
         requires mutable { self.old.records.log.regions.offsets.safe_read_only ≤ address }
-        ensures { self.new ≡ record self.old { records = with_value self.old.records address (Some value); moment = now } }
+        ensures { self.new ≡ record self.old { records = with_value self.old.records address value; moment = now } }
     {
         records_change::<F::Key, F::Value>();
         cleared_stay::<F::Key, F::Value>();
         self.records.known();
-        self.records.replace(address, Some(value));
+        self.records.replace(address, value);
         self.records.known();
         self.moment = now;
     }

@@ -14,6 +14,7 @@
 #![tactic(auto)]
 
 mod asking;
+pub mod at_once;
 mod changes;
 mod checking;
 pub mod contexts;
@@ -39,8 +40,7 @@ mod regions;
 mod relocating;
 pub mod relocations;
 pub mod sessions;
-pub mod updating;
-mod updating_at_once;
+mod writing_at_once;
 
 pub use contexts::{Progress, ProgressOf, Wait};
 pub use limits::{Config, kept_page, read_only_page};

@@ -67,12 +67,13 @@ impl Config {
     }
 }
 
-/// The page below which a log of so many frames is to be read only, while its tail stands in this page: half of the frames change in
-/// place, one at least, and the tail's is the last of them.
+/// The page below which a log of so many frames is to be read only, while its tail stands in this page: an eighth of the frames, and
+/// one, hold records that are read only, and in all others they change in place. The read-only pages give who writes them a time to do
+/// it, and a record that is often updated one to be copied to the tail before it leaves memory.
 pub fn read_only_page(frames: u64, tail: u64) -> u64
-    ensures { result ≡ tail - (frames / 2 - 1) }
+    ensures { result ≡ tail - (frames - 3 - frames / 8) }
 {
-    tail.saturating_sub((frames / 2).saturating_sub(1))
+    tail.saturating_sub(frames.saturating_sub(3).saturating_sub(frames / 8))
 }
 
 /// The page below which pages are to leave memory, while the tail of a log of so many frames stands in this page: so that the page

@@ -7,17 +7,13 @@ use Rattle.fkv_functions.specs.Meanings.{Meanings}
 use Rattle.fkv_functions.specs.declared.refusals.Refused.{Refused}
 use Rattle.fkv_functions.specs.declared.refusals.Refused.TheVariants.{Stalled}
 use Rattle.fkv_device.specs.Standing.{Standing}
-use Rattle.fkv_operations.specs.After.{is_merge}
+use Rattle.fkv_operations.specs.After.{is_merge, key_of}
 use Rattle.fkv_operations.specs.declared.operations.KeyedOp.{KeyedOp}
 use Rattle.fkv_operations.specs.declared.operations.KeyedOp.TheVariants.{Rmw}
 use Rattle.fkv_operations.specs.declared.operations.Answer.{Answer}
-use Rattle.fkv_operations.specs.declared.operations.Answer.TheVariants.{Value}
-use Rattle.fkv_histories.specs.declared.entries.Entry.{Entry}
-use Rattle.fkv_locked.specs.AtOnce.{entry_at_once}
-use Rattle.fkv_locked.specs.Locks.{LockedView}
-use Rattle.fkv_locked.specs.declared.open_operations.SessionId.{SessionId}
 use Rattle.fkv_partition.specs.AtOnce.{IsDoneAtOnce}
-use Rattle.fkv_partition.specs.Views.{partition_of}
+use Rattle.fkv_partition.specs.Views.{PartitionView, partition_of}
+use Rattle.fkv_partition.proofs.AskedLemmas.{keyed-op}
 use Rattle.fkv_store.specs.declared.running.Loads.{Loads}
 use Rattle.fkv_store.specs.Stores.{StoreView, IsStopped, IsUnrun}
 use Rattle.fkv_store.specs.AtOnce.{IsDone}
@@ -90,11 +86,12 @@ module _ {K V I O : Type 0} (keeps : Bool) (code : K → ℕ) (how : Loads) (s :
     steady = rw done.reads (none-steady (partition_of s.count (code row.0)) old.reads new.missed done.missed);
   }
 
--- an update that is done at once is of a key that belongs there
+-- an operation that is done at once is of a key that belongs there, and the partition keeps its number
 module _ {K V I O R : Type 0} (stands : R → Standing) (cmp : K → K → Ordering) (join : V → V → V) (f : Meanings K V I O) (code : K → ℕ)
-    (old new : LockedView K V I O) (session : SessionId) (key : K) (input : I) (e : Entry K V I O) where
-  pub done-here :
-      ((shown : O) × (e ≡ entry_at_once old session (Rmw key input) (Value shown))
-      × IsDoneAtOnce stands cmp join f code old.partition new.partition session.slot key input (old.clock + 1) (old.clock + 2) shown)
-      → (e.op ≡ Rmw key input) × (partition_of old.partition.count (code key) ≡ old.partition.number)
-  done-here done = (ap (λ (x : Entry K V I O). x.op) done.1, done.2.issue.own (Rmw key input) refl)
+    (old new : PartitionView K V I) (slot : ℕ) (op : KeyedOp K V I) (issued now : ℕ) (answer : Answer O)
+    (done : IsDoneAtOnce stands cmp join f code old new slot op issued now answer) where
+  pub done-home : partition_of old.count (code (key_of op)) ≡ old.number
+  done-home = done.issue.own op (keyed-op op)
+
+  pub done-number : (new.number ≡ old.number) × (new.count ≡ old.count)
+  done-number = (done.event.frame.number ∙ done.issue.frame.number, done.event.frame.count ∙ done.issue.frame.count)

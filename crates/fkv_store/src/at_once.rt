@@ -1,7 +1,7 @@
-//! Operations of a pass that are done in one hold of a lock: updates in place, and reads in memory. Most operations are such.
-ghost use Rattle.std.specs.Prelude.{◌≡◌, ◌<◌, false, None, IfSome};
+//! Operations of a pass that are done in one hold of a lock: writes where a key's last record stands, and reads in memory. Most operations
+//! are such.
+ghost use Rattle.std.specs.Prelude.{◌≡◌, ◌-◌, ◌^◌, ◌<◌, ◌≤◌, true, None, IfOk, IfSome};
 ghost use Rattle.fkv_operations.specs.After.{key_of, is_merge};
-ghost use Rattle.fkv_operations.specs.declared.operations.KeyedOp.TheVariants.{Read, Rmw};
 ghost use Rattle.fkv_partition.specs.Views.{partition_of};
 ghost use Rattle.fkv_store.specs.AtOnce.{IsDone};
 ghost use Rattle.fkv_store.specs.Passes.{IsPassOf};
@@ -10,16 +10,41 @@ use crate::gates::{Gate, Place};
 use crate::holds::{At, Turned};
 use crate::passes::{Pass, has_session, is_fresh};
 use crate::stores::Store;
-use fkv_device::Disk;
-use fkv_functions::Mergeable;
+use fkv_device::{Disk, Receipt};
+use fkv_functions::{Mergeable, Refused};
 use fkv_histories::Recorder;
-use fkv_locked::{Locked, SessionId};
+use fkv_locked::{FinishedOf, Locked, SessionId};
 use fkv_operations::{AnswerOf, KeyedOp, KeyedOpOf};
 use std::sync::Wait;
 
+/// Issues an operation with the lock of its partition held, and finishes it, where it is done at once. Answers `None`, and nothing
+/// changes, where it is not.
+#[inline(always)]
+fn try_in_hold<F: Mergeable, R: Receipt, H: Recorder<F>>(
+    held: &mut Locked<F, R, H>,
+    session: SessionId,
+    op: &KeyedOpOf<F>,
+    told: u64,
+    functions: &F,
+) -> Result<Option<FinishedOf<F>>, Refused>
+    ensures op_is { IfOk result (λ done. IfSome done (λ e. e.op ≡ op.now)) }
+    ensures fresh { IfOk result (λ done. IfSome done (λ e. (told ≤ e.at) × (e.at < 2 ^ 64 - 1))) }
+    ensures home { IfOk result (λ done. IfSome done (λ _. partition_of held.old.partition.count (F.code (key_of op.now))
+        ≡ held.old.partition.number)) }
+    ensures number { (held.new.partition.number ≡ held.old.partition.number)
+        × (held.new.partition.count ≡ held.old.partition.count) }
+{
+    match op {
+        KeyedOp::Read(key, input) => held.try_read_in_memory(session, key, input, told, functions),
+        KeyedOp::Upsert(..) | KeyedOp::Rmw(..) | KeyedOp::Delete(_) | KeyedOp::Merge(..) => {
+            held.try_write_in_place(session, op, told, functions)
+        }
+    }
+}
+
 impl<F: Mergeable, D: Disk, H: Recorder<F>> Pass<F, D, H> {
-    /// Makes an operation in one hold of its partition's lock, where it is done at once: an update in place, or a read in memory. Else
-    /// nothing changes: what stands in its way is told where it runs by its events.
+    /// Makes an operation in one hold of its partition's lock, where it is done at once: it writes where its key's last record stands,
+    /// or reads in memory. Else nothing changes: what stands in its way is told where it runs by its events.
     #[inline(always)]
     pub(crate) fn try_at_once<G: Gate>(
         &mut self,
@@ -31,10 +56,10 @@ impl<F: Mergeable, D: Disk, H: Recorder<F>> Pass<F, D, H> {
         requires own { IsPassOf store.now self.old }
         ensures done { IfSome result
             (IsDone H.keeps self.old (partition_of store.now.count (F.code (key_of op.now))) op.now self.new) }
-        ensures plain { IfSome result (λ _. is_merge op.now ≡ false) }
+        ensures merging { IfSome result (λ _. is_merge op.now ≡ true → F.MERGES ≡ true) }
         ensures none { result ≡ None → self.new ≡ self.old }
     {
-        if !matches!(op, KeyedOp::Rmw(..) | KeyedOp::Read(..)) {
+        if op.is_merge() && !F::MERGES {
             return None;
         }
         let partition = store.home(&op.key());
@@ -68,7 +93,7 @@ impl<F: Mergeable, D: Disk, H: Recorder<F>> Pass<F, D, H> {
         Some(answer)
     }
 
-    /// Makes an operation on a key of this partition in one hold, where it is done at once. Else nothing changes.
+    /// Makes an operation on a key of this partition in one hold of its lock, where it is done at once. Else nothing changes.
     #[inline(always)]
     fn make_in_one<G: Gate>(
         &mut self,
@@ -82,77 +107,27 @@ impl<F: Mergeable, D: Disk, H: Recorder<F>> Pass<F, D, H> {
         requires here { at.partition < store.now.count }
         requires own { IsPassOf store.now self.old }
         ensures done { IfSome result (IsDone H.keeps self.old at.partition op.now self.new) }
-        ensures plain { IfSome result (λ _. is_merge op.now ≡ false) }
-        ensures none { result ≡ None → self.new ≡ self.old }
-    {
-        match op {
-            KeyedOp::Rmw(key, input) => self.update_in_one(
-                rt, store, at, session, key, input, gate,
-            ),
-            KeyedOp::Read(key, input) => self.read_in_one(rt, store, at, session, key, input, gate),
-            KeyedOp::Upsert(..) | KeyedOp::Delete(_) | KeyedOp::Merge(..) => None,
-        }
-    }
-
-    /// Makes an update of a key of this partition in one hold, where it is done at once. Else nothing changes.
-    #[inline(always)]
-    fn update_in_one<G: Gate>(
-        &mut self,
-        rt: &impl Wait,
-        store: &Store<F, D, H>,
-        at: At,
-        session: SessionId,
-        key: &F::Key,
-        input: &F::Input,
-        gate: &G,
-    ) -> Option<AnswerOf<F>>
-        requires here { at.partition < store.now.count }
-        requires own { IsPassOf store.now self.old }
-        ensures done { IfSome result (IsDone H.keeps self.old at.partition (Rmw key.now input.now) self.new) }
         ensures none { result ≡ None → self.new ≡ self.old }
     {
         let mut held = store.locks[at.partition].lock(rt);
         gate.pass(at.worker, at.locked());
-        self.update_one(store, &mut *held, at.partition, session, key, input)
+        self.make_one(store, &mut *held, at.partition, session, op)
     }
 
-    /// Makes a read of a key of this partition in one hold, where it is done at once. Else nothing changes.
+    /// Makes an operation on a key with the lock of its partition held, where it is done at once. Else nothing changes.
     #[inline(always)]
-    fn read_in_one<G: Gate>(
-        &mut self,
-        rt: &impl Wait,
-        store: &Store<F, D, H>,
-        at: At,
-        session: SessionId,
-        key: &F::Key,
-        input: &F::Input,
-        gate: &G,
-    ) -> Option<AnswerOf<F>>
-        requires here { at.partition < store.now.count }
-        requires own { IsPassOf store.now self.old }
-        ensures done { IfSome result (IsDone H.keeps self.old at.partition (Read key.now input.now) self.new) }
-        ensures none { result ≡ None → self.new ≡ self.old }
-    {
-        let mut held = store.locks[at.partition].lock(rt);
-        gate.pass(at.worker, at.locked());
-        self.read_one(store, &mut *held, at.partition, session, key, input)
-    }
-
-    /// Makes an update of a key with the lock of its partition held, where it is done at once. Else nothing changes.
-    #[inline(always)]
-    pub(crate) fn update_one(
+    pub(crate) fn make_one(
         &mut self,
         store: &Store<F, D, H>,
         held: &mut Locked<F, D::Receipt, H>,
         partition: usize,
         session: SessionId,
-        key: &F::Key,
-        input: &F::Input,
+        op: &KeyedOpOf<F>,
     ) -> Option<AnswerOf<F>>
         requires here { partition < store.now.count }
         requires own { IsPassOf store.now self.old }
-        ensures done { IfSome result (IsDone H.keeps self.old partition (Rmw key.now input.now) self.new) }
-        ensures home { IfSome result (λ _. partition_of held.old.partition.count (F.code key.now)
+        ensures done { IfSome result (IsDone H.keeps self.old partition op.now self.new) }
+        ensures home { IfSome result (λ _. partition_of held.old.partition.count (F.code (key_of op.now))
             ≡ held.old.partition.number) }
         ensures number { (held.new.partition.number ≡ held.old.partition.number)
             × (held.new.partition.count ≡ held.old.partition.count) }
@@ -164,40 +139,7 @@ impl<F: Mergeable, D: Disk, H: Recorder<F>> Pass<F, D, H> {
             Err(_refused) => return None,
         }
         let known = self.told[partition];
-        match held.try_update_in_place(session, key, input, known, &store.functions) {
-            Ok(Some(finished)) => {
-                let answer = self.owns.take(partition, finished);
-                self.told[partition] = self.owns.told_at(partition);
-                self.turned = Turned::none();
-                Some(answer)
-            }
-            Ok(None) => None,
-            Err(_refused) => None,
-        }
-    }
-
-    /// Makes a read of a key with the lock of its partition held, where it is done at once. Else nothing changes.
-    #[inline(always)]
-    fn read_one(
-        &mut self,
-        store: &Store<F, D, H>,
-        held: &mut Locked<F, D::Receipt, H>,
-        partition: usize,
-        session: SessionId,
-        key: &F::Key,
-        input: &F::Input,
-    ) -> Option<AnswerOf<F>>
-        requires here { partition < store.now.count }
-        requires own { IsPassOf store.now self.old }
-        ensures done { IfSome result (IsDone H.keeps self.old partition (Read key.now input.now) self.new) }
-        ensures none { result ≡ None → self.new ≡ self.old }
-    {
-        match self.owns.make_room(partition) {
-            Ok(()) => {}
-            Err(_refused) => return None,
-        }
-        let known = self.told[partition];
-        match held.try_read_in_memory(session, key, input, known, &store.functions) {
+        match try_in_hold(held, session, op, known, &store.functions) {
             Ok(Some(finished)) => {
                 let answer = self.owns.take(partition, finished);
                 self.told[partition] = self.owns.told_at(partition);

@@ -57,9 +57,9 @@ impl<F: Mergeable, D: Disk> Unlisted<F, D> {
     pub fn list(self, alloc: Global, functions: &F) -> Result<BTreeMap<F::Key, F::Value>, Refused>
         ensures list { IsTrue D.Receipt.keeps → IfOk result (λ list.
             Same (get F.Key.cmp list) (live_of F.Key.cmp self.partition)) }
-        ensures refused { IfErr result (λ why. (failures : ℕ) × IsScanRefusal D.Receipt.keeps
+        ensures refused { IfErr result (λ why. (reader : D.Reader) × IsScanRefusal D.Receipt.keeps
             (page_at self.partition.records.log.bits self.partition.records.log.begin)
-            (length self.partition.records.log.receipts) (D.Reader.failures self.reader) failures why) }
+            (length self.partition.records.log.receipts) (D.Reader.failures self.reader) (D.Reader.failures reader) why) }
         ensures caused { IsTrue D.Receipt.keeps → IfErr result (λ why. why ≢ Refused.NoMemory → (page : ℕ)
             × MayFail D.Receipt.stands D.Reader.can_fail self.partition.records.log.receipts
             self.partition.records.log.bits page) }
@@ -81,9 +81,10 @@ impl<F: Mergeable, D: Disk> Unlisted<F, D> {
         ensures list { IsTrue D.Receipt.keeps → IfOk result (λ listed.
             Same (get F.Key.cmp listed.map) (live_of F.Key.cmp self.partition)) }
         ensures behind { IfOk result (λ listed. listed.behind ≡ length self.partition.records.log.receipts) }
-        ensures refused { IfErr result (λ why. (failures : ℕ) × IsScanRefusal D.Receipt.keeps
+        ensures steady { IfOk result (λ listed. D.Reader.failures listed.reader ≡ D.Reader.failures self.reader) }
+        ensures refused { IfErr result (λ why. (reader : D.Reader) × IsScanRefusal D.Receipt.keeps
             (page_at self.partition.records.log.bits self.partition.records.log.begin)
-            (length self.partition.records.log.receipts) (D.Reader.failures self.reader) failures why) }
+            (length self.partition.records.log.receipts) (D.Reader.failures self.reader) (D.Reader.failures reader) why) }
         ensures caused { IsTrue D.Receipt.keeps → IfErr result (λ why. why ≢ Refused.NoMemory → (page : ℕ)
             × MayFail D.Receipt.stands D.Reader.can_fail self.partition.records.log.receipts
             self.partition.records.log.bits page) }

@@ -200,7 +200,8 @@ impl<F: Mergeable, D: Disk, H: Recorder<F>> Pass<F, D, H> {
     {
         for place in made..until {
             let row = &rows[place];
-            match self.update_one(store, held, partition, session, &row.0, &row.1) {
+            let op = KeyedOp::Rmw(row.0, row.1);
+            match self.make_one(store, held, partition, session, &op) {
                 Some(_answer) => {}
                 None => return place,
             }

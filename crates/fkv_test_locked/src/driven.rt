@@ -30,8 +30,11 @@ pub enum Call {
     Upsert(u8, i128),
     Add(u8, i64),
     Read(u8),
-    /// An update, in one call; where it is not finished so it tells no more than that.
+    /// An operation that writes in place, in one call; where it is not finished so it tells no more than that.
     AddAtOnce(u8, i64),
+    UpsertAtOnce(u8, i128),
+    MergeAtOnce(u8, i64),
+    DeleteAtOnce(u8),
     /// A read, in one call; where a page has to be read for it, it tells no more than that.
     ReadAtOnce(u8),
     /// The read-only offset moves to a page, or Head does; the caller's session is refreshed; the lowest page is flushed.
@@ -146,14 +149,13 @@ impl<H: Recorder<SumFns>> Driven<H> {
         Ok(Told::Done(self.owns.take(0, finished)))
     }
 
-    /// An update of the caller, in one call.
-    fn done_at_once(&mut self, letter: u8, amount: i64) -> Result<Told, Refused> {
-        let key = key(letter)?;
+    /// An operation of the caller that writes in place, in one call.
+    fn done_at_once(&mut self, op: KeyedOpOf<SumFns>) -> Result<Told, Refused> {
         self.owns.make_room(0)?;
         let told = self.owns.told_at(0);
         match self
             .locked
-            .try_update_in_place(self.session, &key, &amount, told, &SumFns)?
+            .try_write_in_place(self.session, &op, told, &SumFns)?
         {
             Some(finished) => Ok(Told::Done(self.owns.take(0, finished))),
             None => Ok(Told::Ok),
@@ -205,7 +207,17 @@ impl<H: Recorder<SumFns>> Driven<H> {
             Call::Upsert(letter, value) => self.done(KeyedOp::Upsert(key(letter)?, value)),
             Call::Add(letter, amount) => self.done(KeyedOp::Rmw(key(letter)?, amount)),
             Call::Read(letter) => self.done(KeyedOp::Read(key(letter)?, 0)),
-            Call::AddAtOnce(letter, amount) => self.done_at_once(letter, amount),
+            Call::AddAtOnce(letter, amount) => self.done_at_once(KeyedOp::Rmw(
+                key(letter)?,
+                amount,
+            )),
+            Call::UpsertAtOnce(letter, value) => {
+                self.done_at_once(KeyedOp::Upsert(key(letter)?, value))
+            }
+            Call::MergeAtOnce(letter, amount) => {
+                self.done_at_once(KeyedOp::Merge(key(letter)?, amount))
+            }
+            Call::DeleteAtOnce(letter) => self.done_at_once(KeyedOp::Delete(key(letter)?)),
             Call::ReadAtOnce(letter) => self.try_read_in_memory(letter),
             Call::ReadOnly(page) => {
                 self.locked.shift_read_only(page)?;

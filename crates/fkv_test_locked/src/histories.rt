@@ -6,7 +6,7 @@ use fkv_histories::{Audited, EntryOf, Plain};
 use fkv_operations::{Answer, KeyedOp};
 use std::test::Fail;
 
-const ROWS: [Row; 40] = [
+const ROWS: [Row; 46] = [
     (Call::Upsert(b'a', 10), Told::Done(Answer::Stored)),
     (Call::Add(b'a', 5), Told::Done(Answer::Value(15))),
     (Call::Read(b'a'), Told::Done(Answer::Value(15))),
@@ -42,9 +42,16 @@ const ROWS: [Row; 40] = [
     (Call::Read(b'c'), Told::Done(Answer::Value(3))),
     (Call::Read(b'd'), Told::Done(Answer::Absent)),
     (Call::ReadAtOnce(b'd'), Told::Done(Answer::Absent)),
-    // in one call where the last record may be changed in place: of d there is none, and that of c is frozen in the end
+    // in one call where the last record may be changed in place: of d there is none, and that of c is a tombstone for a time,
+    // and frozen in the end
     (Call::AddAtOnce(b'd', 1), Told::Ok),
     (Call::AddAtOnce(b'c', 4), Told::Done(Answer::Value(7))),
+    (Call::UpsertAtOnce(b'c', 9), Told::Done(Answer::Stored)),
+    (Call::MergeAtOnce(b'c', 1), Told::Done(Answer::Stored)),
+    (Call::ReadAtOnce(b'c'), Told::Done(Answer::Value(10))),
+    (Call::DeleteAtOnce(b'c'), Told::Done(Answer::Deleted)),
+    (Call::UpsertAtOnce(b'c', 7), Told::Ok),
+    (Call::Upsert(b'c', 7), Told::Done(Answer::Stored)),
     (Call::Upsert(b'd', 1), Told::Done(Answer::Stored)),
     (Call::ReadOnly(2), Told::Ok),
     (Call::Refresh, Told::Ok),
@@ -54,7 +61,7 @@ const ROWS: [Row; 40] = [
 ];
 
 /// What each operation is answered, and how many updates stand before it.
-const ENTRIES: [(Answer<i128>, u64); 17] = [
+const ENTRIES: [(Answer<i128>, u64); 22] = [
     (Answer::Stored, 0),
     (Answer::Value(15), 1),
     (Answer::Value(15), 2),
@@ -70,8 +77,13 @@ const ENTRIES: [(Answer<i128>, u64); 17] = [
     (Answer::Absent, 5),
     (Answer::Value(7), 5),
     (Answer::Stored, 6),
-    (Answer::Value(7), 7),
-    (Answer::Value(7), 7),
+    (Answer::Stored, 7),
+    (Answer::Value(10), 8),
+    (Answer::Deleted, 8),
+    (Answer::Stored, 9),
+    (Answer::Stored, 10),
+    (Answer::Value(7), 11),
+    (Answer::Value(7), 11),
 ];
 
 /// The number of the first entry that is another.
@@ -90,7 +102,7 @@ fn one_caller_audited(rt: HostRuntime) -> Result<(), Fail> {
     let part = driven.end(alloc);
     let wrong = first_other_entry(&part.history);
     assert!(rt; wrong == None, "entry {wrong:?}");
-    assert!(rt; part.history.len() == 17 && part.book == 17);
+    assert!(rt; part.history.len() == 22 && part.book == 22);
     Ok(())
 }
 
@@ -101,7 +113,7 @@ fn one_caller_plain(rt: HostRuntime) -> Result<(), Fail> {
     let wrong = driven.first_other(alloc, &ROWS);
     assert!(rt; wrong == None, "row {wrong:?}");
     let part = driven.end(alloc);
-    assert!(rt; part.history.is_empty() && part.book == 17);
+    assert!(rt; part.history.is_empty() && part.book == 22);
     Ok(())
 }
 

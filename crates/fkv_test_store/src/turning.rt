@@ -35,14 +35,14 @@ fn holds_of_a_stall<H: Recorder<SumFns>>(
     Ok(called.holds().checked_sub(before))
 }
 
-/// The issue; a turn's event each, of which two claim an entry of the index; for each other one, which waits, two refreshes of
-/// the pass's session; and the end without effect.
+/// The hold in which it is not done at once; the issue; a turn's event each, of which two claim an entry of the index; for each
+/// other one, which waits, two refreshes of the pass's session; and the end without effect.
 #[test]
 fn stalled_after_its_turns(rt: HostRuntime) -> Result<(), Fail> {
     let alloc = rt.alloc();
-    assert!(rt; holds_of_a_stall::<Audited<SumFns>>(&rt, alloc, 10)? == Some(28));
-    assert!(rt; holds_of_a_stall::<Plain>(&rt, alloc, 10)? == Some(28));
-    assert!(rt; holds_of_a_stall::<Plain>(&rt, alloc, 25)? == Some(73));
+    assert!(rt; holds_of_a_stall::<Audited<SumFns>>(&rt, alloc, 10)? == Some(29));
+    assert!(rt; holds_of_a_stall::<Plain>(&rt, alloc, 10)? == Some(29));
+    assert!(rt; holds_of_a_stall::<Plain>(&rt, alloc, 25)? == Some(74));
     Ok(())
 }
 

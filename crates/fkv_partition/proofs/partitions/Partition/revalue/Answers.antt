@@ -1,4 +1,4 @@
-use Rattle.std.proofs.Common.{Some, refl}
+use Rattle.std.proofs.Common.{refl}
 use Rattle.fkv_partition.proofs.SoundLemmas.{sound-revalued}
 use Rattle.fkv_partition.proofs.WholeLemmas.{whole-records}
 use Rattle.fkv_partition.proofs.PreservedLemmas.{borne-value, live-high}
@@ -14,7 +14,7 @@ invariant_of-self g c =
     let join = g.F.Mergeable.parts.joined in
     let code = g.F.Functions.code in
     let sound = c.self.invariant.sound in
-    let value = Some c.args.value in
+    let value = c.args.value in
     let last = rw (← c.self.view_is) at c.requires.last in
     let high = rw (← c.self.view_is) at c.requires.mutable in
     rw c.replace.ensures

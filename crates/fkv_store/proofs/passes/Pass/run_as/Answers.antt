@@ -2,14 +2,14 @@ use Rattle.std.proofs.Common.{◌≡◌, refl, arith}
 use Rattle.fkv_operations.specs.After.{key_of}
 use Rattle.fkv_partition.specs.Views.{partition_of}
 use Rattle.fkv_store.proofs.CountLemmas.{none-steady}
-use Rattle.fkv_store.proofs.RunLemmas.{runs-itself, not-both}
+use Rattle.fkv_store.proofs.RunLemmas.{runs-itself}
 use Rattle.fkv_store.proofs.passes.Pass.run_as.Goals as goal
 
 pub returns-in-Some-clause-ok : goal.returns-in-Some-clause-ok
 returns-in-Some-clause-ok g c = (c.args.op, runs-itself c.args.loads c.args.op c.args.op refl, c.in-Some.ensures.done.runs)
 
 pub returns-in-Some-clause-merging : goal.returns-in-Some-clause-merging
-returns-in-Some-clause-merging g c = λ is. not-both _ c.in-Some.ensures.plain is
+returns-in-Some-clause-merging g c = c.in-Some.ensures.merging
 
 pub returns-in-Some-clause-within : goal.returns-in-Some-clause-within
 returns-in-Some-clause-within g c = omega (arith, c.in-Some.ensures.done.turned)

@@ -15,8 +15,8 @@ loop-place-preserved g c =
     let home : c.args.partition ≡ partition_of store.count (code row.0) =
     sym was.0 ∙ sym c.in-Some.ensures.home ∙ ap (λ n. partition_of n (code row.0)) was.1 in
     record {
-      number = (c.update_one.ensures.number.0 ∙ was.0, c.update_one.ensures.number.1 ∙ was.1);
-      own = c.update_one.ensures.own;
-      made = λ how first h. made-until keeps code how store first c.loop-place.self c.update_one.new.self rows c.loop-place.place within row row c.index-rows-place.is
-          (c.loop-place.invariant.made how first h) (done-made keeps code how store c.loop-place.self c.update_one.new.self row c.args.partition c.in-Some._answer home c.in-Some.ensures.done);
+      number = (c.make_one.ensures.number.0 ∙ was.0, c.make_one.ensures.number.1 ∙ was.1);
+      own = c.make_one.ensures.own;
+      made = λ how first h. made-until keeps code how store first c.loop-place.self c.make_one.new.self rows c.loop-place.place within row row c.index-rows-place.is
+          (c.loop-place.invariant.made how first h) (done-made keeps code how store c.loop-place.self c.make_one.new.self row c.args.partition c.in-Some._answer home c.in-Some.ensures.done);
     }
