@@ -1,5 +1,5 @@
 -- Workers that share the blocks of feeds.
-use Rattle.std.proofs.Common.{◌≡◌, ◌⊎◌, inl, inr, ℕ, ℤ, Bool, true, List, [], ◌∷◌, ◌<◌, get_or, map, flat_map, Option, Some, None, Result, Ok, Err, refl, sym, ap, subst, ◌∙◌, length}
+use Rattle.std.proofs.Common.{◌≡◌, ◌⊎◌, inl, inr, ℕ, ℤ, Bool, true, List, [], ◌∷◌, ◌<◌, get_or, map, flat_map, Option, Some, None, Result, Ok, Err, refl, sym, subst, length}
 use Rattle.std.specs.Prelude.{IfNone, IfSome, IfOk, IfErr, OnOk}
 use Rattle.std.specs.List.{All, AllZip}
 use Rattle.std.proofs.lemmas.List.Elements.{All-nil, All-cons, All-head, All-tail}

@@ -1,5 +1,5 @@
 -- The rows of feeds, of which workers have pieces.
-use Rattle.std.proofs.Common.{◌≡◌, ◌+◌, ◌<◌, ◌≤◌, ◌==◌, inl, ℕ, ℤ, zero, suc, true, List, [], ◌∷◌, ◌++◌, length, flat_map, filter, fold, get_or, take, Option, None, refl, sym, ap, subst, ◌∙◌, arith}
+use Rattle.std.proofs.Common.{◌≡◌, ◌+◌, ◌<◌, ◌≤◌, ◌==◌, ℕ, ℤ, zero, suc, true, List, [], ◌∷◌, ◌++◌, length, filter, fold, get_or, take, Option, None, refl, sym, ap, subst, ◌∙◌, arith}
 use Rattle.std.proofs.lemmas.Bool.{lt-ltb}
 use Rattle.std.proofs.lemmas.List.{take_all, take_more}
 use Rattle.std.proofs.lemmas.List.Concat.{flat_map-append}

@@ -18,7 +18,7 @@ use Rattle.fkv_partition.specs.Unions.{live_at, union_of}
 use Rattle.fkv_closing.specs.Closing.{AreNumbered}
 use Rattle.fkv_runs.specs.Merging.{merged, AreHomed}
 use Rattle.fkv_runs.proofs.MadeLemmas.{nat_eq-refl, nat_eq-is, those-homed, those-rise, those-lookup, AreRuns, AreOf, runs-rise, of-all}
-use Rattle.fkv_workers.specs.Listing.{IsRunOf, IsRunless, IsFirstRefusal}
+use Rattle.fkv_workers.specs.Listing.{IsRunOf, IsOfOne, IsFirstRefusal}
 
 order : IsKeyOrder name_cmp
 order = key_order same_names name_cmp name_ties name_exact name_total
@@ -104,11 +104,26 @@ module _ {V I : Type 0} (keeps : Bool) (code : Name → ℕ) where
       (are_runs (v ∷ views) runs places all) (are_of (v ∷ views) runs places all kept) k
       (subst (λ n. home code (length (v ∷ views)) k < n) (sym (AllZip-long (IsRunOf keeps code) (v ∷ views) runs all)) (mod-lt (code k) (let z : 0 < length (v ∷ views) = omega arith in z)))
 
+-- ---- what jobs were refused first, each of which has a part: that is why one of the parts is
+pub refused_of : {J X A : Type 0} (gives : J → Result A Refused → Type 0) (part : J → X) (refuses : X → Refused → Type 0)
+    → ((j : J) (why : Refused) → gives j (Err why) → refuses (part j) why)
+    → (jobs : List J) (before : List A) (after : List (Result A Refused)) (why : Refused)
+    → AllZip gives jobs (map Ok before ++ Err why ∷ after) → IsOfOne refuses (map part jobs) why
+refused_of gives part refuses by [] [] after why all = absurd all
+refused_of gives part refuses by [] (a ∷ before) after why all = absurd all
+refused_of gives part refuses by (j ∷ jobs) [] after why all = (0, part j, refl, by j why all.0)
+refused_of gives part refuses by (j ∷ jobs) (a ∷ before) after why all =
+    let rest = refused_of gives part refuses by jobs before after why all.1 in
+    (suc rest.0, rest.1, rest.2, rest.3)
+
 -- ---- what jobs give, each of which lists a part
-module _ {J X V I : Type 0} (keeps : Bool) (code : Name → ℕ) (part : J → X) (view : X → PartitionView Name V I) (failures : X → ℕ) (only : Refused → Type 0) where
+module _ {J X V I : Type 0} (keeps : Bool) (code : Name → ℕ) (part : J → X) (view : X → PartitionView Name V I) (runless : X → Refused → Type 0) (only : Refused → Type 0) where
+  abbrev Why : X → Refused → Type 0
+  Why x why = (why ≡ NoMemory) ⊎ runless x why
+
   abbrev Gives : J → Result (List (Name × V)) Refused → Type 0
   Gives j result = IfOk result (IsRunOf keeps code (view (part j)))
-      × IfErr result (λ why. (why ≡ NoMemory) ⊎ IsRunless keeps view failures (part j ∷ []) why)
+      × IfErr result (Why (part j))
       × IfErr result only
 
   runs_given : (jobs : List J) (runs : List (List (Name × V))) → AllZip Gives jobs (map Ok runs) → AllZip (IsRunOf keeps code) (map view (map part jobs)) runs
@@ -117,33 +132,16 @@ module _ {J X V I : Type 0} (keeps : Bool) (code : Name → ℕ) (part : J → X
   runs_given (j ∷ jobs) [] all = absurd all
   runs_given (j ∷ jobs) (r ∷ runs) all = (all.0.0, runs_given jobs runs all.1)
 
-  abbrev Why : List X → Refused → Type 0
-  Why xs why = ((why ≡ NoMemory) ⊎ IsRunless keeps view failures xs why) × only why
-
-  of_first : (x : X) (xs : List X) (why : Refused) → (why ≡ NoMemory) ⊎ IsRunless keeps view failures (x ∷ []) why → (why ≡ NoMemory) ⊎ IsRunless keeps view failures (x ∷ xs) why
-  of_first x xs why (inl memory) = inl memory
-  of_first x xs why (inr h) = by h.place h.here
-    where
-      by : (p : ℕ) → slice_get (x ∷ []) p ≡ Some h.part → (why ≡ NoMemory) ⊎ IsRunless keeps view failures (x ∷ xs) why
-      by zero is = inr (record { place = 0; part = h.part; here = is; now = h.now; scan = h.scan })
-      by (suc p) is = absurd (cc)
-
-  of_later : (x : X) (xs : List X) (why : Refused) → (why ≡ NoMemory) ⊎ IsRunless keeps view failures xs why → (why ≡ NoMemory) ⊎ IsRunless keeps view failures (x ∷ xs) why
-  of_later x xs why (inl memory) = inl memory
-  of_later x xs why (inr h) = inr (record { place = suc h.place; part = h.part; here = h.here; now = h.now; scan = h.scan })
-
-  refused_first : (jobs : List J) (before : List (List (Name × V))) (after : List (Result (List (Name × V)) Refused)) (why : Refused)
-      → AllZip Gives jobs (map Ok before ++ Err why ∷ after) → Why (map part jobs) why
-  refused_first [] [] after why all = absurd all
-  refused_first [] (r ∷ before) after why all = absurd all
-  refused_first (j ∷ jobs) [] after why all = (of_first (part j) (map part jobs) why all.0.1, all.0.2)
-  refused_first (j ∷ jobs) (r ∷ before) after why all =
-      let rest = refused_first jobs before after why all.1 in
-      (of_later (part j) (map part jobs) why rest.0, rest.1)
-
   module _ (jobs : List J) (items : List X) (results : List (Result (List (Name × V)) Refused)) (parts : map part jobs ≡ items) (all : AllZip Gives jobs results) where
     pub runs_listed : (runs : List (List (Name × V))) → map Ok runs ≡ results → AllZip (IsRunOf keeps code) (map view items) runs
     runs_listed runs is = subst (λ xs. AllZip (IsRunOf keeps code) (map view xs) runs) parts (runs_given jobs runs (subst (AllZip Gives jobs) (sym is) all))
 
-    pub first_refused : (why : Refused) → IsFirstRefusal results why → Why items why
-    first_refused why first = subst (λ xs. Why xs why) parts (refused_first jobs first.before first.after why (subst (AllZip Gives jobs) first.is all))
+    first_of : (why : Refused) → IsFirstRefusal results why → IsOfOne (λ x e. Why x e × only e) items why
+    first_of why first =
+        subst (λ xs. IsOfOne (λ x e. Why x e × only e) xs why) parts
+        (refused_of Gives part (λ x e. Why x e × only e) (λ j e given. (given.1, given.2)) jobs first.before first.after why (subst (AllZip Gives jobs) first.is all))
+
+    pub first_refused : (why : Refused) → IsFirstRefusal results why → ((why ≡ NoMemory) ⊎ IsOfOne runless items why) × only why
+    first_refused why first =
+        let one = first_of why first in
+        (elim one.3.0 [ inl memory ↦ inl memory | inr of ↦ inr (one.0, one.1, one.2, of) ], one.3.1)

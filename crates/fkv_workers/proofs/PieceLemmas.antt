@@ -1,5 +1,5 @@
 -- Pieces of several texts, shared out among workers: a fold whose steps commute, over the texts and over the workers.
-use Rattle.std.proofs.Common.{◌≡◌, ◌<◌, ◌⊎◌, inl, inr, ℕ, zero, suc, true, List, [], ◌∷◌, ◌++◌, fold, refl, sym, ap, subst, ◌∙◌, arith}
+use Rattle.std.proofs.Common.{◌≡◌, ◌<◌, ◌⊎◌, inl, inr, ℕ, zero, suc, true, List, [], ◌++◌, fold, refl, sym, ap, subst, ◌∙◌, arith}
 use Rattle.std.proofs.lemmas.List.Sums.{fold-append}
 use Rattle.std.proofs.Math.Dec.{ltb}
 use Rattle.fkv_workers.proofs.FoldLemmas.{AllR, AllR-append, by_owner, filter-all, folds_stay, joined, joined_same, joined_stays, joined_swap, owned}

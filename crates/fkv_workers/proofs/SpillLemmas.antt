@@ -1,23 +1,27 @@
 -- Runs of partitions in pages, as jobs give them, and what they are as one.
-use Rattle.std.proofs.Common.{◌≡◌, ◌++◌, ◌∷◌, [], ◌+◌, ℕ, Bool, List, length, map, Result, Ok, Err, IsTrue, IfOk, inl, inr, refl, sym, ap, subst, ◌∙◌, arith}
-use Rattle.std.specs.Prelude.{IfErr}
+use Rattle.std.proofs.Common.{◌≡◌, ◌++◌, ◌∷◌, [], ℕ, Bool, List, length, map, Option, Result, Ok, IsTrue, IfOk, inl, inr, refl, sym, subst, arith}
+use Rattle.std.specs.Prelude.{◌≢◌, IfErr}
 use Rattle.std.specs.List.{AllZip}
 use Rattle.fkv_functions.specs.Codecs.{Codec}
-use Rattle.fkv_functions.specs.Names.{name_cmp, name_total}
 use Rattle.fkv_functions.specs.declared.names.Name.{Name}
 use Rattle.fkv_functions.specs.declared.refusals.Refused.{Refused}
-use Rattle.fkv_functions.specs.declared.refusals.Refused.TheVariants.{NoMemory, Device, Damaged}
-use Rattle.fkv_device.specs.Failing.{FailsOnlyBy}
+use Rattle.fkv_functions.specs.declared.refusals.Refused.TheVariants.{NoMemory, Worn, Device, Mismatch}
+use Rattle.fkv_alone.specs.Causes.{CanFailToRead}
 use Rattle.fkv_device.specs.Standing.{Standing}
+use Rattle.fkv_feeds.specs.Faults.{IsDeviceFault}
+use Rattle.fkv_feeds.specs.Spilling.{IsSpillFault}
+use Rattle.fkv_feeds.proofs.FeedsLemmas.{IsOfDevice}
+use Rattle.fkv_feeds.proofs.SpilledLemmas.{spills-by, unread-caused}
+use Rattle.fkv_hybrid.specs.Scans.{IsScanRefusal, MayFail}
+use Rattle.fkv_local.specs.Causing.{IsCausedBy}
 use Rattle.fkv_partition.specs.Views.{PartitionView}
-use Rattle.fkv_runs.specs.Merging.{merged}
-use Rattle.fkv_runs.proofs.GroupLemmas.{merged-append}
-use Rattle.fkv_runs.proofs.LengthLemmas.{length-two}
-use Rattle.fkv_spills.specs.Reading.{AreHeld, IsUnreadable}
-use Rattle.fkv_store.specs.Stores.{IsUnlisted}
-use Rattle.fkv_workers.specs.Listing.{IsRunOf, IsFirstRefusal}
-use Rattle.fkv_workers.specs.Spilling.{HasPairs, IsSpilledOf, IsUnspilled}
-use Rattle.fkv_workers.specs.declared.spilling.SpilledPart.{SpilledPart}
+use Rattle.fkv_spills.specs.Parts.{HasPairs}
+use Rattle.fkv_spills.specs.Reading.{AreHeld}
+use Rattle.fkv_spills.specs.declared.parts.SpilledPart.{SpilledPart}
+use Rattle.fkv_store.specs.Stores.{IsEnding}
+use Rattle.fkv_workers.specs.Listing.{IsRunOf, IsOfOne, IsFirstRefusal}
+use Rattle.fkv_workers.specs.Spilling.{IsSpillEnding, IsSpilledOf, IsUnspilled}
+use Rattle.fkv_workers.proofs.ListingLemmas.{refused_of}
 
 -- ---- what the first of several has, and the others
 pub record IsSplit {A B : Type 0} (holds : A → B → Type 0) (a : A) (more : List A) (bs : List B) : Type 0 where
@@ -39,30 +43,19 @@ pub none_left : {A : Type 0} (xs : List A) → length xs ≡ 0 → xs ≡ []
 none_left [] none = refl
 none_left (x ∷ xs) none = absurd (omega (arith, none))
 
--- ---- how many pairs there are, with a run more
-length_with : {V : Type 0} (xss : List (List (Name × V))) (xs : List (Name × V)) → length (merged name_cmp (xss ++ xs ∷ [])) ≡ length (merged name_cmp xss) + length xs
-length_with xss xs =
-    let all = ap length (merged-append name_cmp name_total xss (xs ∷ [])) ∙ length-two name_cmp (merged name_cmp xss) (merged name_cmp (xs ∷ [])) in
-    let one = length-two name_cmp xs [] in
-    all ∙ ap (λ n. length (merged name_cmp xss) + n) (one ∙ (omega arith))
-
-pub keys_more : {V : Type 0} (keys len more : ℕ) (xss : List (List (Name × V))) (xs : List (Name × V)) → more ≡ keys + len → keys ≡ length (merged name_cmp xss) → len ≡ length xs
-    → more ≡ length (merged name_cmp (xss ++ xs ∷ []))
-keys_more keys len more xss xs e k l = (let all = length_with xss xs in omega arith)
-
 -- ---- what jobs give, each of which spills a part
 module _ {J X V I R P : Type 0} {vsize : ℕ} (value : Codec V vsize) (keeps : Bool) (stands : R → Standing) (code : Name → ℕ) (part : J → X) (view : X → PartitionView Name V I)
-    (only : Refused → Type 0) where
+    (refuses : X → Refused → Type 0) where
   abbrev Gives : J → Result (SpilledPart V R P) Refused → Type 0
-  Gives j result = (IsTrue keeps → IfOk result (IsSpilledOf value keeps stands code (view (part j)))) × IfErr result only
+  Gives j result = (IsTrue keeps → IfOk result (IsSpilledOf value keeps stands code (view (part j)))) × IfErr result (refuses (part j))
 
   -- the runs that parts have, each of its partition
-  pub record HaveRuns (views : List (PartitionView Name V I)) (parts : List (SpilledPart V R P)) : Type 0 where
+  pub record HaveSpilled (views : List (PartitionView Name V I)) (parts : List (SpilledPart V R P)) : Type 0 where
     pub lists : List (List (Name × V))
     pub held : AreHeld (HasPairs value keeps stands) parts lists
     pub runs : AllZip (IsRunOf keeps code) views lists
 
-  given : (jobs : List J) (parts : List (SpilledPart V R P)) → AllZip Gives jobs (map Ok parts) → IsTrue keeps → HaveRuns (map view (map part jobs)) parts
+  given : (jobs : List J) (parts : List (SpilledPart V R P)) → AllZip Gives jobs (map Ok parts) → IsTrue keeps → HaveSpilled (map view (map part jobs)) parts
   given [] [] all kept = record { lists = []; held = tt; runs = tt }
   given [] (p ∷ parts) all kept = absurd all
   given (j ∷ jobs) [] all kept = absurd all
@@ -71,45 +64,61 @@ module _ {J X V I R P : Type 0} {vsize : ℕ} (value : Codec V vsize) (keeps : B
       let rest = given jobs parts all.1 kept in
       record { lists = one.pairs ∷ rest.lists; held = (one.has, rest.held); runs = (one.run, rest.runs) }
 
-  refused_first : (jobs : List J) (before : List (SpilledPart V R P)) (after : List (Result (SpilledPart V R P) Refused)) (why : Refused)
-      → AllZip Gives jobs (map Ok before ++ Err why ∷ after) → only why
-  refused_first [] [] after why all = absurd all
-  refused_first [] (p ∷ before) after why all = absurd all
-  refused_first (j ∷ jobs) [] after why all = all.0.1
-  refused_first (j ∷ jobs) (p ∷ before) after why all = refused_first jobs before after why all.1
-
   module _ (jobs : List J) (items : List X) (results : List (Result (SpilledPart V R P) Refused)) (parts : map part jobs ≡ items) (all : AllZip Gives jobs results) where
-    pub runs_spilled : (spilled : List (SpilledPart V R P)) → map Ok spilled ≡ results → IsTrue keeps → HaveRuns (map view items) spilled
-    runs_spilled spilled is kept = subst (λ xs. HaveRuns (map view xs) spilled) parts (given jobs spilled (subst (AllZip Gives jobs) (sym is) all) kept)
+    pub runs_spilled : (spilled : List (SpilledPart V R P)) → map Ok spilled ≡ results → IsTrue keeps → HaveSpilled (map view items) spilled
+    runs_spilled spilled is kept = subst (λ xs. HaveSpilled (map view xs) spilled) parts (given jobs spilled (subst (AllZip Gives jobs) (sym is) all) kept)
 
-    pub first_unspilled : (why : Refused) → IsFirstRefusal results why → only why
-    first_unspilled why first = refused_first jobs first.before first.after why (subst (AllZip Gives jobs) first.is all)
+    pub first_unspilled : (why : Refused) → IsFirstRefusal results why → IsOfOne refuses items why
+    first_unspilled why first =
+        subst (λ xs. IsOfOne refuses xs why) parts
+        (refused_of Gives part refuses (λ j e given. given.1) jobs first.before first.after why (subst (AllZip Gives jobs) first.is all))
 
--- ---- why a partition is not spilled
-pub listed_unspilled : (why : Refused) → IsUnlisted why → IsUnspilled why
-listed_unspilled NoMemory is = tt
-listed_unspilled (Device code page) is = inr is
-listed_unspilled (Damaged page) is = tt
-listed_unspilled other is = absurd is
+-- ---- why a partition is not spilled, as a fault of its device
+-- a page that is not read has a cause where memory has none
+scan_caused : (A B : Type 0) (keeps : Bool) (low flushed old new : ℕ) (why : Refused) → IsScanRefusal keeps low flushed old new why → (why ≢ NoMemory → B) → IsCausedBy A B why
+scan_caused A B keeps low flushed old new why (IsScanRefusal.memory is same) may = rw is tt
+scan_caused A B keeps low flushed old new why (IsScanRefusal.at_page {page} from below (inl read)) may = unread-caused A B {known = IsTrue keeps} old new why (page, inl read) may
+scan_caused A B keeps low flushed old new why (IsScanRefusal.at_page {page} from below (inr spelled)) may =
+    unread-caused A B {known = IsTrue keeps} old new why (page, inr (spelled.1, spelled.0)) may
 
-pub written_unspilled : (page old new : ℕ) (why : Refused) → FailsOnlyBy 2 page old new why → IsUnspilled why
-written_unspilled page old new why h = elim h [ inl memory ↦ rw memory.0 tt | inr device ↦ rw device.0 (inl refl) ]
+-- where a page of a log may fail, a read can
+may_read : {R : Type 0} (stands : R → Standing) (can_fail : R → ℕ → Type 0) (receipts : List (Option Standing)) (bits page : ℕ) → MayFail stands can_fail receipts bits page
+    → CanFailToRead stands can_fail
+may_read stands can_fail receipts bits page may = (may.receipt, subst (can_fail may.receipt) (sym may.long) may.fails)
 
-pub read_unspilled : (old new : ℕ) (known : Type 0) (why : Refused) → IsUnreadable old new known why → IsUnspilled why
-read_unspilled old new known why h = elim h.1 [
-  | inl r ↦ elim r [
-    | inl f ↦ elim f [ inl memory ↦ rw memory.0 tt | inr device ↦ rw device.0 (inr refl) ]
-    | inr damaged ↦ rw damaged.0 tt
-  ]
-  | inr damaged ↦ rw damaged.0 tt
-]
+module _ {R P W D V I : Type 0} (keeps : Bool) (stands : R → Standing) (can_fail : R → ℕ → Type 0) (reads : P → ℕ) (writes : W → ℕ) (opens : D → ℕ) (may_write : Type 0) where
+  pub fault_of : (view : PartitionView Name V I) (reader : P) (why : Refused) → IsUnspilled keeps stands can_fail reads writes view reader why
+      → IsSpillFault keeps opens writes reads may_write (CanFailToRead stands can_fail) why
+  fault_of view reader why (IsUnspilled.unlisted runless) =
+      IsSpillFault.unmade (IsDeviceFault.unlisted _ _ reader runless.now runless.scan
+      (λ kept. scan_caused may_write (CanFailToRead stands can_fail) keeps _ _ _ _ why runless.scan (λ other. let may = runless.caused kept other in may_read stands can_fail _ _ may.0 may.1)))
+  fault_of view reader why (IsUnspilled.unwritten page old new failed) = IsSpillFault.unwritten page old new failed
+  fault_of view reader why (IsUnspilled.unread now unread caused) =
+      IsSpillFault.unread reader now unread (λ kept. unread-caused may_write (CanFailToRead stands can_fail) _ _ why unread (caused kept))
 
--- ---- lists of which the first are merged, so many pairs, and those of these parts are still to be
-pub record AreParted {V A G : Type 0} (holds : A → List (Name × V) → Type 0) (grouped : G → List (List (Name × V)) → Type 0) (lists : List (List (Name × V)))
-    (groups : G) (parts : List A) (keys : ℕ) : Type 0 where
+-- a fault of the device ends a store with its cause
+told_by : (fault : Refused → Type 0) (why : Refused) → IsOfDevice why → fault why → IsSpillEnding fault why
+told_by fault why (inl memory) is = subst (IsSpillEnding fault) (sym memory) tt
+told_by fault why (inr (inl device)) is = subst (IsSpillEnding fault) (sym device.2) (inr (subst fault device.2 is))
+told_by fault why (inr (inr damaged)) is = subst (IsSpillEnding fault) (sym damaged.1) (subst fault damaged.1 is)
+
+pub ending_of : {D W R : Type 0} (A B : Type 0) (keeps : Bool) (opens : D → ℕ) (writes : W → ℕ) (reads : R → ℕ) (why : Refused) → IsSpillFault keeps opens writes reads A B why
+    → IsSpillEnding (IsSpillFault keeps opens writes reads A B) why
+ending_of A B keeps opens writes reads why fault = told_by (IsSpillFault keeps opens writes reads A B) why (spills-by A B keeps opens writes reads why fault) fault
+
+-- and a store that does not end has none
+pub unended : (fault : Refused → Type 0) (why : Refused) → IsEnding why → IsSpillEnding fault why
+unended fault NoMemory is = tt
+unended fault Worn is = tt
+unended fault (Device code page) is = inl is
+unended fault Mismatch is = tt
+unended fault other is = absurd is
+
+-- ---- lists of which the first are those of runs that are gathered, and those of these parts are still to be
+pub record AreParted {V A G : Type 0} (holds : A → List (Name × V) → Type 0) (gathered : G → List (List (Name × V)) → Type 0) (lists : List (List (Name × V)))
+    (table : G) (parts : List A) : Type 0 where
   pub done : List (List (Name × V))
   pub left : List (List (Name × V))
   pub all : lists ≡ done ++ left
   pub held : AreHeld holds parts left
-  pub merges : grouped groups done
-  pub counted : keys ≡ length (merged name_cmp done)
+  pub runs : gathered table done

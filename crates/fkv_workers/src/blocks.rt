@@ -1,13 +1,14 @@
 //! Runs over feeds whose blocks all workers share.
 ghost use Rattle.std.specs.Prelude.{◌≡◌, ◌≢◌, ◌<◌, ◌⊎◌, true, length, map, IsTrue, Err, None, Some, IfOk, IfErr, IfSome, OnOk};
 ghost use Rattle.std.specs.List.{All};
+ghost use Rattle.fkv_alone.specs.Causes.{CanFailToRead, CanFailToWrite};
 ghost use Rattle.fkv_blocks.specs.Pieces.{AreWhole, IsFirstUnread};
 ghost use Rattle.fkv_blocks.specs.Shares.{IsStop, WereRead};
-ghost use Rattle.fkv_feeds.specs.Spilling.{HasTableOf};
+ghost use Rattle.fkv_feeds.specs.Spilling.{HasTableOf, IsSpillFault};
 ghost use Rattle.fkv_feeds.specs.Tables.{IsTableOf, most_rows};
 ghost use Rattle.fkv_records.specs.Records.{size_of};
 ghost use Rattle.fkv_store.specs.Stores.{IsTold};
-ghost use Rattle.fkv_workers.specs.Spilling.{IsSpilledFrom, IsUnspilled};
+ghost use Rattle.fkv_workers.specs.Spilling.{IsSpilledFrom, IsSpillEnding};
 ghost use Rattle.fkv_workers.specs.Works.{IsMadeOf, IsRunnable, IsShared, IsUnread};
 
 use crate::dealing::works;
@@ -438,8 +439,9 @@ where
     ensures ran { IfOk result (λ run. run.plan ≡ record { config = config.now; mode = mode; workers = workers }) }
     ensures good { result ≢ Err Refused.BadConfig
         → IsRunnable config.now (size_of 32 F.Value.SIZE) workers (length feeds.old.items) }
-    ensures refused { IfErr result (λ why. IsUnspilled why ⊎ IsUnread
-        (IsRunnable config.now (size_of 32 F.Value.SIZE) workers (length feeds.old.items))
+    ensures refused { IfErr result (λ why. IsSpillEnding (IsSpillFault D.Receipt.keeps D.failures D.Writer.failures D.Reader.failures
+        (CanFailToWrite D.Writer.next D.Writer.can_fail) (CanFailToRead D.Receipt.stands D.Reader.can_fail)) why
+        ⊎ IsUnread (IsRunnable config.now (size_of 32 F.Value.SIZE) workers (length feeds.old.items))
         (map S.remaining feeds.old.items) (map S.failures feeds.old.items) (map S.failures feeds.new.items) why) }
 {
     let filled = match fill::<S, F, D, H, G, T>(

@@ -1,6 +1,6 @@
 //! The table of a store that has ended: some threads list its partitions, each some that stand one behind another, one after the
 //! other. A partition goes as its run is made, and the table is these runs.
-ghost use Rattle.std.specs.Prelude.{◌≡◌, ◌<◌, ◌⊎◌, ◌∷◌, [], Ok, map, IsTrue, IfOk, IfErr};
+ghost use Rattle.std.specs.Prelude.{◌≡◌, ◌<◌, ◌⊎◌, Ok, map, IsTrue, IfOk, IfErr};
 ghost use Rattle.std.specs.BTreeMap.{is_at};
 ghost use Rattle.std.specs.List.Sorted.{IsStrictlySortedBy};
 ghost use Rattle.std.specs.Map.{lookup, keys_of};
@@ -10,7 +10,7 @@ ghost use Rattle.fkv_functions.specs.declared.refusals.Refused.TheVariants as re
 ghost use Rattle.fkv_partition.specs.Unions.{union_of};
 ghost use Rattle.fkv_closing.specs.Closing.{AreNumbered};
 ghost use Rattle.fkv_store.specs.Stores.{IsUnlisted};
-ghost use Rattle.fkv_workers.specs.Listing.{IsRunOf, IsRunless, IsFirstRefusal};
+ghost use Rattle.fkv_workers.specs.Listing.{IsRunOf, IsRunless, IsOfOne, IsFirstRefusal};
 
 use fkv_device::Disk;
 use fkv_functions::{Mergeable, Name, Refused};
@@ -38,8 +38,8 @@ fn list_one<F: Mergeable<Key = Name>, D: Disk>(
     part: Unlisted<F, D>,
 ) -> Result<Run<F::Value>, Refused>
     ensures ok { IfOk result (IsRunOf D.Receipt.keeps F.code part.partition) }
-    ensures refused { IfErr result (λ why. (why ≡ Refused.NoMemory) ⊎ IsRunless D.Receipt.keeps (λ part. part.partition)
-        (λ part. D.Reader.failures part.reader) (part ∷ []) why) }
+    ensures refused { IfErr result (λ why. (why ≡ Refused.NoMemory) ⊎ IsRunless D.Receipt.keeps D.Receipt.stands
+        D.Reader.can_fail D.Reader.failures part.partition part.reader why) }
     ensures only { IfErr result IsUnlisted }
 {
     part.partition.known();
@@ -59,8 +59,8 @@ impl<'a, F: Mergeable<Key = Name>, D: Disk> Job for Listing<'a, F, D> {
     ghost ready = { λ _. Unit {0} };
 
     ghost gives = { λ j result. IfOk result (IsRunOf D.Receipt.keeps F.code j.part.partition)
-        × IfErr result (λ why. (why ≡ refused.NoMemory) ⊎ IsRunless D.Receipt.keeps (λ part. part.partition)
-        (λ part. D.Reader.failures part.reader) (j.part ∷ []) why)
+        × IfErr result (λ why. (why ≡ refused.NoMemory) ⊎ IsRunless D.Receipt.keeps D.Receipt.stands
+        D.Reader.can_fail D.Reader.failures j.part.partition j.part.reader why)
         × IfErr result IsUnlisted };
 
     fn run<W: Wait + Clock>(self, _rt: &W) -> Result<Run<F::Value>, Refused> {
@@ -142,8 +142,8 @@ where
     ensures value { IsTrue D.Receipt.keeps → IfOk result (λ table. (k : Name)
         → lookup (is_at (name_cmp k)) table ≡ union_of name_cmp F.code (map (λ part. part.partition) parts.items) k) }
     ensures rising { IfOk result (λ table. IsStrictlySortedBy name_cmp (keys_of table)) }
-    ensures refused { IfErr result (λ why. (why ≡ Refused.NoMemory) ⊎ IsRunless D.Receipt.keeps (λ part. part.partition)
-        (λ part. D.Reader.failures part.reader) parts.items why) }
+    ensures refused { IfErr result (λ why. (why ≡ Refused.NoMemory) ⊎ IsOfOne (λ part. IsRunless D.Receipt.keeps
+        D.Receipt.stands D.Reader.can_fail D.Reader.failures part.partition part.reader) parts.items why) }
     ensures only { IfErr result IsUnlisted }
 {
     let listings = match listings(alloc, functions, parts) {

@@ -11,34 +11,22 @@ ghost use Rattle.fkv_partition.specs.Unions.{union_of};
 ghost use Rattle.fkv_closing.specs.Closing.{AreNumbered};
 ghost use Rattle.fkv_feeds.specs.Spilling.{ArePairsOf};
 ghost use Rattle.fkv_runs.specs.Merging.{merged};
+ghost use Rattle.fkv_spills.specs.Parts.{HasPairs, HasMergedPairs};
 ghost use Rattle.fkv_spills.specs.Reading.{AreHeld};
 ghost use Rattle.fkv_spills.specs.Spilling.{pair_size};
-ghost use Rattle.fkv_workers.specs.Spilling.{HasPairs, IsSpilledOf, IsUnspilled};
+ghost use Rattle.fkv_workers.specs.Listing.{IsOfOne};
+ghost use Rattle.fkv_workers.specs.Spilling.{IsSpilledOf, IsUnspilled};
 
 use crate::listing::runs_of;
 use fkv_device::{Disk, PageReader, PageWriter};
 use fkv_functions::{Fixed, Mergeable, Name, Refused};
 use fkv_jobs::{Job, run_spread};
-use fkv_spills::{ReadGroups, ReadMerge, Spilled, SpilledRest};
+use fkv_spills::{Spilled, SpilledPart, SpilledParts, SpilledRest, SpilledTable};
 use fkv_store::{Listed, Unlisted};
 use std::alloc::Global;
 use std::rt::Clock;
 use std::sync::Wait;
 use std::thread::Threads;
-
-/// The run of a partition on its device, and how many pairs it has.
-#[derive(Drop)]
-pub(crate) struct SpilledPart<V, R, P> {
-    rest: SpilledRest<V, R, P>,
-    len: usize,
-}
-
-/// The runs of all partitions, merged, and how many pairs they have.
-#[derive(Drop)]
-pub(crate) struct SpilledTable<V, R, P> {
-    pub(crate) pairs: ReadMerge<ReadMerge<SpilledRest<V, R, P>>>,
-    pub(crate) keys: usize,
-}
 
 /// A partition of a store that is to be listed and spilled, in pages of so many bytes.
 #[derive(Drop)]
@@ -61,7 +49,8 @@ fn spill_one<F: Mergeable<Key = Name>, D: Disk>(
     requires { pair_size F.Value.SIZE ≤ 192 }
     ensures ok { IsTrue D.Receipt.keeps
         → IfOk result (IsSpilledOf F.Value.codec D.Receipt.keeps D.Receipt.stands F.code part.partition) }
-    ensures only { IfErr result IsUnspilled }
+    ensures refused { IfErr result (IsUnspilled D.Receipt.keeps D.Receipt.stands D.Reader.can_fail D.Reader.failures
+        D.Writer.failures part.partition part.reader) }
 {
     part.partition.known();
     let number = part.partition.number();
@@ -106,7 +95,8 @@ impl<'a, F: Mergeable<Key = Name>, D: Disk> Job for Spilling<'a, F, D> {
 
     ghost gives = { λ j result. (IsTrue D.Receipt.keeps
         → IfOk result (IsSpilledOf F.Value.codec D.Receipt.keeps D.Receipt.stands F.code j.part.partition))
-        × IfErr result IsUnspilled };
+        × IfErr result (IsUnspilled D.Receipt.keeps D.Receipt.stands D.Reader.can_fail D.Reader.failures
+        D.Writer.failures j.part.partition j.part.reader) };
 
     fn run<W: Wait + Clock>(
         self,
@@ -147,31 +137,24 @@ fn spillings<'a, F: Mergeable, D: Disk>(
     Ok(spillings)
 }
 
-/// The merge of the runs of partitions. Refused: `NoMemory`; `Worn` where they have more pairs than a number counts.
+/// The table that the runs of partitions are. Refused: `NoMemory`; `Worn` where they have more pairs than a number counts.
 fn merged_of<V: Fixed, P: PageReader>(
     alloc: Global,
-    parts: Vec<SpilledPart<V, P::Receipt, P>>,
+    runs: Vec<SpilledPart<V, P::Receipt, P>>,
 ) -> Result<SpilledTable<V, P::Receipt, P>, Refused>
-    ensures ok { (lists : List (List (Name × V))) → AreHeld (HasPairs V.codec P.Receipt.keeps P.Receipt.stands) parts.items lists
-        → IfOk result (λ table. ArePairsOf V.codec P.Receipt.keeps P.Receipt.stands table.pairs (merged name_cmp lists)
-        × (table.keys ≡ length (merged name_cmp lists))) }
+    ensures ok { (lists : List (List (Name × V))) → AreHeld (HasPairs V.codec P.Receipt.keeps P.Receipt.stands) runs.items lists
+        → IfOk result (λ table. HasMergedPairs V.codec P.Receipt.keeps P.Receipt.stands table (merged name_cmp lists)) }
     ensures only { IfErr result (λ refused. (refused ≡ Refused.NoMemory) ⊎ (refused ≡ Refused.Worn)) }
 {
-    let mut groups = ReadGroups::new(alloc);
-    let mut keys = 0usize;
-    for part in parts {
-        let SpilledPart { rest, len } = part;
-        let Some(more) = keys.checked_add(len) else {
-            return Err(Refused::Worn);
-        };
-        keys = more;
-        match groups.add(rest) {
+    let mut parts = SpilledParts::new(alloc);
+    for part in runs {
+        match parts.add(part) {
             Ok(()) => {}
             Err(refused) => return Err(refused),
         }
     }
-    match groups.merge() {
-        Ok(pairs) => Ok(SpilledTable { pairs, keys }),
+    match parts.merge() {
+        Ok(table) => Ok(table),
         Err(refused) => Err(refused),
     }
 }
@@ -179,7 +162,7 @@ fn merged_of<V: Fixed, P: PageReader>(
 /// The table of all that is live in these partitions of a store, in pages of so many bytes of its device, which so many threads list
 /// and spill: each has some that stand one behind another. Refused: `NoMemory`; `Worn` where it has more keys than a number counts;
 /// and as a device refuses pages, of the first partition of which it does.
-pub(crate) fn spilled_table_of<
+pub(crate) fn spill_parts<
     F: Mergeable<Key = Name> + Send + Sync,
     D: Disk + Send,
     T: Threads + Wait + Clock + Sync,
@@ -206,7 +189,9 @@ where
         × (table.keys ≡ length xs)
         × IsStrictlySortedBy name_cmp (keys_of xs)
         × ((k : Name) → lookup (is_at (name_cmp k)) xs ≡ union_of name_cmp F.code (map (λ part. part.partition) parts.items) k)) }
-    ensures only { IfErr result IsUnspilled }
+    ensures refused { IfErr result (λ why. (why ≡ Refused.NoMemory) ⊎ (why ≡ Refused.Worn)
+        ⊎ IsOfOne (λ part. IsUnspilled D.Receipt.keeps D.Receipt.stands D.Reader.can_fail D.Reader.failures
+        D.Writer.failures part.partition part.reader) parts.items why) }
 {
     let spillings = match spillings(alloc, functions, parts, page_size) {
         Ok(spillings) => spillings,

@@ -3,9 +3,10 @@ ghost use Rattle.std.specs.Prelude.{◌≡◌, ◌<◌, ◌≤◌, ℕ, ℤ, Lis
 ghost use Rattle.std.specs.BTreeMap.{is_at};
 ghost use Rattle.std.specs.List.{AllZip};
 ghost use Rattle.std.specs.Map.{lookup};
+ghost use Rattle.fkv_alone.specs.Causes.{CanFailToRead, CanFailToWrite};
 ghost use Rattle.fkv_blocks.specs.Pieces.{AreFed};
 ghost use Rattle.fkv_closing.specs.Closing.{IsClosed};
-ghost use Rattle.fkv_feeds.specs.Spilling.{ArePairsOf, HasTableOf};
+ghost use Rattle.fkv_feeds.specs.Spilling.{ArePairsOf, HasTableOf, IsSpillFault};
 ghost use Rattle.fkv_feeds.specs.Tables.{IsTableOf, most_rows};
 ghost use Rattle.fkv_functions.specs.Names.{name_cmp};
 ghost use Rattle.fkv_functions.specs.declared.names.Name.{Name};
@@ -17,12 +18,13 @@ ghost use Rattle.fkv_workers.specs.Spilling.{IsSpillEnding};
 
 use crate::laws::tables_join;
 use crate::listing::table_of;
-use crate::spilling::{SpilledTable, spilled_table_of};
+use crate::spilling::spill_parts;
 use fkv_device::Disk;
 use fkv_feeds::{Counts, Plan, RowMode, Run, SpilledRun};
 use fkv_functions::{Mergeable, Name, OrderFree, Refused};
 use fkv_histories::Recorder;
 use fkv_partition::Config;
+use fkv_spills::SpilledTable;
 use fkv_store::{Ended, Pass, Store};
 use std::alloc::Global;
 use std::rt::Clock;
@@ -131,7 +133,8 @@ where
         × IsClosed name_cmp F.meaning F.code (map (λ pass. pass.own) passes.items) (map (λ pass. pass.share) passes.items)
         (λ k. lookup (is_at (name_cmp k)) pairs) histories run.counts.rows) }
     ensures ran { IfOk result (λ run. run.plan ≡ record { config = config.now; mode = mode; workers = workers }) }
-    ensures only { IfErr result IsSpillEnding }
+    ensures refused { IfErr result (IsSpillEnding (IsSpillFault D.Receipt.keeps D.failures D.Writer.failures D.Reader.failures
+        (CanFailToWrite D.Writer.next D.Writer.can_fail) (CanFailToRead D.Receipt.stands D.Reader.can_fail))) }
 {
     let page_size = 1usize << config.page_bits;
     let ended = match store.close_unlisted(alloc, passes) {
@@ -145,7 +148,7 @@ where
         ..
     } = ended;
     tables_join::<F>();
-    let table = match spilled_table_of(rt, alloc, workers, &functions, partitions, page_size) {
+    let table = match spill_parts(rt, alloc, workers, &functions, partitions, page_size) {
         Ok(table) => table,
         Err(refused) => return Err(refused),
     };

@@ -1,8 +1,7 @@
-use Rattle.std.proofs.Common.{◌≡◌, Err, ap, ⊎_elim, inl, inr, map}
+use Rattle.std.proofs.Common.{◌≡◌, Err, ap, inl, inr, map}
 use Rattle.fkv_functions.specs.declared.refusals.Refused.TheVariants.{BadConfig}
 use Rattle.fkv_feeds.specs.Spilling.{HasTableOf}
-use Rattle.fkv_workers.specs.Spilling.{IsSpillEnding, IsSpilledFrom}
-use Rattle.fkv_workers.specs.Works.{IsUnread}
+use Rattle.fkv_workers.specs.Spilling.{IsSpilledFrom}
 use Rattle.fkv_workers.proofs.BlockLemmas.{on_err, on_ok}
 use Rattle.fkv_workers.proofs.blocks.spill_blocks.Goals as goal
 
@@ -29,7 +28,7 @@ returns-in-Err-clause-refused g c = inr c.in-Err.ensures.refused
 
 pub returns-clause-refused : goal.returns-clause-refused
 returns-clause-refused g c =
-    on_err c.spilled.result IsSpillEnding _ c.spilled.ensures.only (λ e ending. ⊎_elim (λ closing. inr (IsUnread.unclosed closing)) (λ unspilled. inl unspilled) ending)
+    on_err c.spilled.result _ _ c.spilled.ensures.refused (λ e ending. inl ending)
 
 pub returns-in-Err-clause-good : goal.returns-in-Err-clause-good
 returns-in-Err-clause-good g c k =

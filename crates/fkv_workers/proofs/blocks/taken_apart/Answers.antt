@@ -1,4 +1,4 @@
-use Rattle.std.proofs.Common.{◌≡◌, ◌++◌, [], ◌∷◌, ◌⊎◌, inl, inr, Option, Some, None, map, get_or, length, refl, sym, ap, subst, ◌∙◌}
+use Rattle.std.proofs.Common.{◌≡◌, ◌++◌, [], ◌∷◌, ◌⊎◌, None, map, length, sym, ap, subst, ◌∙◌}
 use Rattle.std.specs.Prelude.{IfSome}
 use Rattle.std.specs.List.{All}
 use Rattle.std.proofs.lemmas.List.{map-id, map_push}
@@ -6,7 +6,6 @@ use Rattle.std.proofs.lemmas.List.Elements.{All-push}
 use Rattle.std.proofs.lemmas.Iterator.Adapters.{YieldsList-from_vec}
 use Rattle.std.proofs.lemmas.Iterator.Consumers.{YieldsList-end, YieldsList-turn}
 use Rattle.fkv_blocks.specs.Shares.{IsStop, WereRead}
-use Rattle.fkv_blocks.specs.declared.blocks.Stop.{Stop}
 use Rattle.fkv_feeds.specs.Tables.{most_rows}
 use Rattle.fkv_store.specs.Stores.{IsTold}
 use Rattle.fkv_workers.proofs.BlockLemmas.{first_some, one_more}

@@ -1,4 +1,4 @@
-use Rattle.std.proofs.Common.{refl, inl, inr}
+use Rattle.std.proofs.Common.{inl, inr}
 use Rattle.std.proofs.lemmas.Result.{IfOk-weaker, IfErr-weaker}
 use Rattle.fkv_workers.proofs.ListingLemmas.{run_made}
 use Rattle.fkv_workers.proofs.listing.list_one.Goals as goal
@@ -13,7 +13,7 @@ returns-clause-ok g c =
 
 pub returns-in-Err-clause-refused : goal.returns-in-Err-clause-refused
 returns-in-Err-clause-refused g c =
-    inr (record { place = 0; part = c.args.part; here = refl; now = c.in-Err.ensures.refused.0; scan = c.in-Err.ensures.refused.1 })
+    inr (record { now = c.in-Err.ensures.refused.0; scan = c.in-Err.ensures.refused.1; caused = c.in-Err.ensures.caused })
 
 pub returns-clause-refused : goal.returns-clause-refused
 returns-clause-refused g c = IfErr-weaker c.of_home.result _ _ (λ why is. inl is) c.of_home.ensures.only

@@ -1,4 +1,4 @@
-use Rattle.std.proofs.Common.{⊎_elim, ◌≡◌, refl, map, subst, ◌∙◌}
+use Rattle.std.proofs.Common.{⊎_elim, refl, map, subst, ◌∙◌}
 use Rattle.fkv_records.specs.Records.{size_of}
 use Rattle.fkv_feeds.specs.Tables.{IsTableOf}
 use Rattle.fkv_store.specs.Stores.{IsClosing}
