@@ -10,6 +10,7 @@ ghost use Rattle.fkv_commands.specs.Plans.{IsPlanOf, IsUnaudited};
 
 use crate::making::{made_of_feeds, made_of_input};
 use crate::opening::Opener;
+use crate::peaks::peak_of;
 use crate::reporting::Report;
 use crate::spilling::spill_on;
 use fkv_device::{Disk, FileDevice, PageFile};
@@ -219,7 +220,13 @@ where
     match spill_on::<R, W, F, _, P, O, Brand, H>(
         rt, alloc, table, functions, reader, writer, folder, &meters, hook, opener,
     ) {
-        Ok(ran) => Ok(Report::of_spilled(ran, meters.seen(), begun, rt.monotonic())),
+        Ok(ran) => Ok(Report::of_spilled(
+            ran,
+            meters.seen(),
+            begun,
+            rt.monotonic(),
+            peak_of(rt, alloc, table.stats),
+        )),
         Err(refused) => Err(refused),
     }
 }
@@ -278,7 +285,13 @@ where
     hook.end();
     match made {
         Ok(run) => match write_table(alloc, &run.table, writer) {
-            Ok(()) => Ok(Report::new(&run, meters.seen(), begun, rt.monotonic())),
+            Ok(()) => Ok(Report::new(
+                &run,
+                meters.seen(),
+                begun,
+                rt.monotonic(),
+                peak_of(rt, alloc, table.stats),
+            )),
             Err(refused) => Err(refused),
         },
         Err(refused) => Err(refused),
