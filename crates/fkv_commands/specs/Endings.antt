@@ -47,6 +47,14 @@ IsTableBy {V} f fields pages table feeds text =
     × (IsKnown table → IsTableOf f feeds pairs ⊎ IsSpoilt pages table)
     × (text ≡ table_text fields pairs)
 
+-- the table of these feeds, where that is known, unless it is spoilt
+abbrev pub IsAskedFor : {V O : Type 0} → Meanings Name V ℤ O → Option Pages → TableRequest → List (Option (List ℕ)) → List (Name × V) → Type 0
+IsAskedFor f pages table feeds pairs = IsKnown table → IsTableOf f feeds pairs ⊎ IsSpoilt pages table
+
+-- pairs of which this holds, and whose text was written so
+abbrev pub Writes : {V : Type 0} → (V → List (List ℕ)) → (List (Name × V) → Type 0) → (List ℕ → Type 0) → Type 0
+Writes {V} fields holds written = (pairs : List (Name × V)) × holds pairs × written (table_text fields pairs)
+
 -- the text of the table that is asked for
 abbrev pub IsTableText : Shown → Option Pages → TableRequest → List (Option (List ℕ)) → List ℕ → Type 0
 IsTableText Count pages table feeds text = IsTableBy counts (λ v. decimal v ∷ []) pages table feeds text

@@ -28,6 +28,11 @@ seconds_text (Some millis) =
     ++ decimal (millis % 10)
     ++ 10 ∷ []
 
+-- a line of the memory that the process had at most, in KiB, where that is told
+abbrev pub peak_text : Option ℕ → List ℕ
+peak_text None = []
+peak_text (Some peak) = fact (codes "peak memory in KiB") peak
+
 -- the numbers of a run, a line each
 abbrev pub report_text : Report → List ℕ
 report_text report =
@@ -38,6 +43,7 @@ report_text report =
     ++ fact (codes "pages read") report.seen.pages_read
     ++ fact (codes "bytes on the device") report.seen.bytes_written
     ++ seconds_text report.millis
+    ++ peak_text report.peak
 
 -- what the report of this table tells: its numbers, and where the words name no size, as `sized` says, and more memory is advised,
 -- one that has room for the record of each key in three quarters of it

@@ -14,6 +14,7 @@ pub mod escaping;
 mod finding;
 mod making;
 pub mod opening;
+mod peaks;
 mod probing;
 pub mod reporting;
 pub mod running;

@@ -2,7 +2,7 @@
 ghost use Rattle.std.specs.Prelude.{◌≡◌, ◌++◌, ◌-◌, ◌/◌, ◌^◌, ◌<◌, ◌≤◌, ℕ, List, length, IfOk, IfErr, IfSome, IsSome, OnOk, codes, decimal};
 ghost use Rattle.std.specs.Duration.{as_nanos};
 ghost use Rattle.fkv_streams.specs.Streams.{AppendsPrefix};
-ghost use Rattle.fkv_commands.specs.Reports.{IsTold, appended_text, fact, seconds_text};
+ghost use Rattle.fkv_commands.specs.Reports.{IsTold, appended_text, fact, peak_text, seconds_text};
 
 use crate::advising::add_advice;
 use fkv_feeds::{Counts, Plan, Run, SpilledRun};
@@ -27,6 +27,8 @@ pub struct Report {
     pub seen: Seen,
     /// The milliseconds from its beginning to the table's end, where the clock tells them.
     pub millis: Option<u64>,
+    /// The KiB of memory that its process had at most, where the system tells it.
+    pub peak: Option<u64>,
 }
 
 /// How much a run did whose table stands on its device, and how.
@@ -84,11 +86,13 @@ impl Report {
         seen: Seen,
         begun: io::Result<Duration>,
         ended: io::Result<Duration>,
+        peak: Option<u64>,
     ) -> Report
         ensures keys { result.keys ≡ length run.now.table }
         ensures counts { result.counts ≡ run.now.counts }
         ensures plan { result.plan ≡ run.now.plan }
         ensures seen { result.seen ≡ seen }
+        ensures peak { result.peak ≡ peak }
     {
         Report {
             keys: run.table.len(),
@@ -96,6 +100,7 @@ impl Report {
             plan: run.plan,
             seen,
             millis: millis_between(begun, ended),
+            peak,
         }
     }
 
@@ -105,11 +110,13 @@ impl Report {
         seen: Seen,
         begun: io::Result<Duration>,
         ended: io::Result<Duration>,
+        peak: Option<u64>,
     ) -> Report
         ensures keys { result.keys ≡ ran.keys }
         ensures counts { result.counts ≡ ran.counts }
         ensures plan { result.plan ≡ ran.plan }
         ensures seen { result.seen ≡ seen }
+        ensures peak { result.peak ≡ peak }
     {
         Report {
             keys: ran.keys,
@@ -117,6 +124,7 @@ impl Report {
             plan: ran.plan,
             seen,
             millis: millis_between(begun, ended),
+            peak,
         }
     }
 
@@ -134,6 +142,7 @@ impl Report {
         add_fact(&mut text, "pages read", self.seen.pages_read)?;
         add_fact(&mut text, "bytes on the device", self.seen.bytes_written)?;
         self.add_seconds(&mut text)?;
+        self.add_peak(&mut text)?;
         add_advice(shown, sized, self, &mut text)?;
         Ok(text)
     }
@@ -169,6 +178,17 @@ impl Report {
             Ok(()) => Ok(()),
             Err(_) => Err(Refused::NoMemory),
         }
+    }
+
+    /// Adds how much memory its process had at most, where the system told it. Refused: `NoMemory`.
+    fn add_peak(&self, text: &mut Vec<u8>) -> Result<(), Refused>
+        ensures ok { OnOk result (text.new.items ≡ text.old.items ++ peak_text self.now.peak) }
+        ensures only { IfErr result (λ refused. refused ≡ Refused.NoMemory) }
+    {
+        let Some(peak) = self.peak else {
+            return Ok(());
+        };
+        add_fact(text, "peak memory in KiB", peak)
     }
 
     /// Tells it, with advice on memory for this table where the words name no size of it, as `sized` says. Where it can not be

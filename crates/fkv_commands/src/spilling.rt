@@ -7,7 +7,7 @@ ghost use Rattle.fkv_streams.specs.Streams.{AppendsPrefix};
 ghost use Rattle.fkv_feeds.specs.Spilling.{ArePairsOf, HasTableOf};
 ghost use Rattle.fkv_feeds.specs.Tables.{IsTableOf};
 ghost use Rattle.fkv_feeds.specs.Writing.{fields_of, table_text};
-ghost use Rattle.fkv_commands.specs.Endings.{IsKnown, IsOfPages, feeds_by};
+ghost use Rattle.fkv_commands.specs.Endings.{IsKnown, IsOfPages, Writes, feeds_by};
 ghost use Rattle.fkv_commands.specs.Plans.{IsPlanOf};
 
 use crate::making::{spilled_of_feeds, spilled_of_input};
@@ -123,23 +123,20 @@ where
     D::Reader: Send,
     requires kept { (if K.keeps then is_absent folder else true) ≡ true }
     requires unaudited { table.now.audit ≡ false }
-    ensures ok { OnOk result ((pairs : List (Name × F.Value))
-        × (IsTrue (K.keeps || D.Receipt.keeps) → IsKnown table.now
+    ensures ok { OnOk result (Writes (fields_of F.Value.FIELDS F.Value.field_at)
+        (λ pairs. IsTrue (K.keeps || D.Receipt.keeps) → IsKnown table.now
         → IsTableOf F.meaning (feeds_by (λ path. O.bytes opener.now path) table.now (R.remaining reader.old)) pairs)
-        × Appends (W.contents writer.old) (W.contents writer.new)
-        (table_text (fields_of F.Value.FIELDS F.Value.field_at) pairs)) }
+        (Appends (W.contents writer.old) (W.contents writer.new))) }
     ensures ran { IfOk result (λ ran. IsPlanOf table.now ran.plan) }
-    ensures unwritable { result ≡ Err Refused.Unwritable → (pairs : List (Name × F.Value))
-        × (IsTrue (K.keeps || D.Receipt.keeps) → IsKnown table.now
+    ensures unwritable { result ≡ Err Refused.Unwritable → Writes (fields_of F.Value.FIELDS F.Value.field_at)
+        (λ pairs. IsTrue (K.keeps || D.Receipt.keeps) → IsKnown table.now
         → IsTableOf F.meaning (feeds_by (λ path. O.bytes opener.now path) table.now (R.remaining reader.old)) pairs)
-        × AppendsPrefix (W.contents writer.old) (W.contents writer.new)
-        (table_text (fields_of F.Value.FIELDS F.Value.field_at) pairs) }
+        (AppendsPrefix (W.contents writer.old) (W.contents writer.new)) }
     ensures nothing { IfErr result (λ e. (e ≡ Refused.Unwritable) ⊎ IsOfPages e ⊎ (W.contents writer.new ≡ W.contents writer.old)) }
-    ensures front { OnErr result ((W.contents writer.new ≡ W.contents writer.old) ⊎ ((pairs : List (Name × F.Value))
-        × (IsTrue (K.keeps || D.Receipt.keeps) → IsKnown table.now
+    ensures front { OnErr result ((W.contents writer.new ≡ W.contents writer.old) ⊎ Writes (fields_of F.Value.FIELDS F.Value.field_at)
+        (λ pairs. IsTrue (K.keeps || D.Receipt.keeps) → IsKnown table.now
         → IsTableOf F.meaning (feeds_by (λ path. O.bytes opener.now path) table.now (R.remaining reader.old)) pairs)
-        × AppendsPrefix (W.contents writer.old) (W.contents writer.new)
-        (table_text (fields_of F.Value.FIELDS F.Value.field_at) pairs))) }
+        (AppendsPrefix (W.contents writer.old) (W.contents writer.new))) }
     ensures out { OnOk result (W.is_out writer.new ≡ true) }
     ensures steady { OnOk result ((R.failures reader.new ≡ R.failures reader.old)
         × (W.failures writer.new ≡ W.failures writer.old)) }

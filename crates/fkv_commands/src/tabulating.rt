@@ -1,16 +1,16 @@
 //! Making tables of feeds, and writing them.
-ghost use Rattle.std.specs.Prelude.{◌≡◌, ◌≢◌, ◌⊎◌, ◌||◌, ◌^◌, ◌<◌, List, Err, None, false, true, option_map, string_bytes, if◌then◌else◌, IfOk, IfErr, IfSome, IsTrue, OnErr, OnOk};
+ghost use Rattle.std.specs.Prelude.{◌≡◌, ◌≢◌, ◌⊎◌, ◌||◌, ◌^◌, ◌<◌, Err, None, false, true, option_map, string_bytes, if◌then◌else◌, IfOk, IfErr, IfSome, IsTrue, OnErr, OnOk};
 ghost use Rattle.std.specs.Io.KnownBytes.{Appends};
-ghost use Rattle.fkv_functions.specs.declared.names.Name.{Name};
 ghost use Rattle.fkv_either.specs.Either.{is_absent};
 ghost use Rattle.fkv_streams.specs.Streams.{AppendsPrefix};
 ghost use Rattle.fkv_feeds.specs.Tables.{IsTableOf};
-ghost use Rattle.fkv_feeds.specs.Writing.{fields_of, table_text};
-ghost use Rattle.fkv_commands.specs.Endings.{IsKnown, IsOfPages, IsSpoilt, MayBeLate, PrintsTable, PrintsTablePart, feeds_by};
+ghost use Rattle.fkv_feeds.specs.Writing.{fields_of};
+ghost use Rattle.fkv_commands.specs.Endings.{IsAskedFor, IsKnown, IsOfPages, MayBeLate, PrintsTable, PrintsTablePart, Writes, feeds_by};
 ghost use Rattle.fkv_commands.specs.Plans.{IsPlanOf, IsUnaudited};
 
 use crate::making::{made_of_feeds, made_of_input};
 use crate::opening::Opener;
+use crate::peaks::peak_of;
 use crate::reporting::Report;
 use crate::spilling::spill_on;
 use fkv_device::{Disk, FileDevice, PageFile};
@@ -150,9 +150,8 @@ where
     H::File: PageFile + Send,
     H::Dir: Send,
     O::Feed: Send,
-    ensures ok { IfOk result (λ run. IsKnown table.now
-        → IsTableOf F.meaning (feeds_by (λ path. O.bytes opener.now path) table.now (R.remaining reader.old)) run.table
-        ⊎ IsSpoilt H.File.pages table.now) }
+    ensures ok { IfOk result (λ run. IsAskedFor F.meaning H.File.pages table.now
+        (feeds_by (λ path. O.bytes opener.now path) table.now (R.remaining reader.old)) run.table) }
     ensures ran { IfOk result (λ run. IsPlanOf table.now run.plan) }
     ensures steady { OnOk result (R.failures reader.new ≡ R.failures reader.old) }
     ensures only { IfErr result (λ e. e ≢ Refused.Unwritable) }
@@ -191,26 +190,20 @@ where
     H::Dir: Send,
     O::Feed: Send,
     requires unaudited { table.now.audit ≡ false }
-    ensures ok { OnOk result ((pairs : List (Name × F.Value))
-        × (IsKnown table.now
-        → IsTableOf F.meaning (feeds_by (λ path. O.bytes opener.now path) table.now (R.remaining reader.old)) pairs
-        ⊎ IsSpoilt H.File.pages table.now)
-        × Appends (W.contents writer.old) (W.contents writer.new)
-        (table_text (fields_of F.Value.FIELDS F.Value.field_at) pairs)) }
+    ensures ok { OnOk result (Writes (fields_of F.Value.FIELDS F.Value.field_at)
+        (IsAskedFor F.meaning H.File.pages table.now
+        (feeds_by (λ path. O.bytes opener.now path) table.now (R.remaining reader.old)))
+        (Appends (W.contents writer.old) (W.contents writer.new))) }
     ensures ran { IfOk result (λ report. IsPlanOf table.now report.plan) }
-    ensures unwritable { result ≡ Err Refused.Unwritable → (pairs : List (Name × F.Value))
-        × (IsKnown table.now
-        → IsTableOf F.meaning (feeds_by (λ path. O.bytes opener.now path) table.now (R.remaining reader.old)) pairs
-        ⊎ IsSpoilt H.File.pages table.now)
-        × AppendsPrefix (W.contents writer.old) (W.contents writer.new)
-        (table_text (fields_of F.Value.FIELDS F.Value.field_at) pairs) }
+    ensures unwritable { result ≡ Err Refused.Unwritable → Writes (fields_of F.Value.FIELDS F.Value.field_at)
+        (IsAskedFor F.meaning H.File.pages table.now
+        (feeds_by (λ path. O.bytes opener.now path) table.now (R.remaining reader.old)))
+        (AppendsPrefix (W.contents writer.old) (W.contents writer.new)) }
     ensures nothing { IfErr result (λ e. (e ≡ Refused.Unwritable) ⊎ IsOfPages e ⊎ (W.contents writer.new ≡ W.contents writer.old)) }
-    ensures front { OnErr result ((W.contents writer.new ≡ W.contents writer.old) ⊎ ((pairs : List (Name × F.Value))
-        × (IsKnown table.now
-        → IsTableOf F.meaning (feeds_by (λ path. O.bytes opener.now path) table.now (R.remaining reader.old)) pairs
-        ⊎ IsSpoilt H.File.pages table.now)
-        × AppendsPrefix (W.contents writer.old) (W.contents writer.new)
-        (table_text (fields_of F.Value.FIELDS F.Value.field_at) pairs))) }
+    ensures front { OnErr result ((W.contents writer.new ≡ W.contents writer.old) ⊎ Writes (fields_of F.Value.FIELDS F.Value.field_at)
+        (IsAskedFor F.meaning H.File.pages table.now
+        (feeds_by (λ path. O.bytes opener.now path) table.now (R.remaining reader.old)))
+        (AppendsPrefix (W.contents writer.old) (W.contents writer.new))) }
     ensures out { OnOk result (W.is_out writer.new ≡ true) }
     ensures steady { OnOk result ((R.failures reader.new ≡ R.failures reader.old)
         × (W.failures writer.new ≡ W.failures writer.old)) }
@@ -227,7 +220,13 @@ where
     match spill_on::<R, W, F, _, P, O, Brand, H>(
         rt, alloc, table, functions, reader, writer, folder, &meters, hook, opener,
     ) {
-        Ok(ran) => Ok(Report::of_spilled(ran, meters.seen(), begun, rt.monotonic())),
+        Ok(ran) => Ok(Report::of_spilled(
+            ran,
+            meters.seen(),
+            begun,
+            rt.monotonic(),
+            peak_of(rt, alloc, table.stats),
+        )),
         Err(refused) => Err(refused),
     }
 }
@@ -257,26 +256,20 @@ where
     H::Dir: Send,
     O::Feed: Send,
     requires unaudited { IsUnaudited table.now }
-    ensures ok { OnOk result ((pairs : List (Name × F.Value))
-        × (IsKnown table.now
-        → IsTableOf F.meaning (feeds_by (λ path. O.bytes opener.now path) table.now (R.remaining reader.old)) pairs
-        ⊎ IsSpoilt H.File.pages table.now)
-        × Appends (W.contents writer.old) (W.contents writer.new)
-        (table_text (fields_of F.Value.FIELDS F.Value.field_at) pairs)) }
+    ensures ok { OnOk result (Writes (fields_of F.Value.FIELDS F.Value.field_at)
+        (IsAskedFor F.meaning H.File.pages table.now
+        (feeds_by (λ path. O.bytes opener.now path) table.now (R.remaining reader.old)))
+        (Appends (W.contents writer.old) (W.contents writer.new))) }
     ensures ran { IfOk result (λ report. IsPlanOf table.now report.plan) }
-    ensures unwritable { result ≡ Err Refused.Unwritable → (pairs : List (Name × F.Value))
-        × (IsKnown table.now
-        → IsTableOf F.meaning (feeds_by (λ path. O.bytes opener.now path) table.now (R.remaining reader.old)) pairs
-        ⊎ IsSpoilt H.File.pages table.now)
-        × AppendsPrefix (W.contents writer.old) (W.contents writer.new)
-        (table_text (fields_of F.Value.FIELDS F.Value.field_at) pairs) }
+    ensures unwritable { result ≡ Err Refused.Unwritable → Writes (fields_of F.Value.FIELDS F.Value.field_at)
+        (IsAskedFor F.meaning H.File.pages table.now
+        (feeds_by (λ path. O.bytes opener.now path) table.now (R.remaining reader.old)))
+        (AppendsPrefix (W.contents writer.old) (W.contents writer.new)) }
     ensures nothing { IfErr result (λ e. MayBeLate table.now e ⊎ (W.contents writer.new ≡ W.contents writer.old)) }
-    ensures spilled { table.now.spill ≡ true → OnErr result ((W.contents writer.new ≡ W.contents writer.old) ⊎ ((pairs : List (Name × F.Value))
-        × (IsKnown table.now
-        → IsTableOf F.meaning (feeds_by (λ path. O.bytes opener.now path) table.now (R.remaining reader.old)) pairs
-        ⊎ IsSpoilt H.File.pages table.now)
-        × AppendsPrefix (W.contents writer.old) (W.contents writer.new)
-        (table_text (fields_of F.Value.FIELDS F.Value.field_at) pairs))) }
+    ensures spilled { table.now.spill ≡ true → OnErr result ((W.contents writer.new ≡ W.contents writer.old) ⊎ Writes (fields_of F.Value.FIELDS F.Value.field_at)
+        (IsAskedFor F.meaning H.File.pages table.now
+        (feeds_by (λ path. O.bytes opener.now path) table.now (R.remaining reader.old)))
+        (AppendsPrefix (W.contents writer.old) (W.contents writer.new))) }
     ensures out { OnOk result (W.is_out writer.new ≡ true) }
     ensures steady { OnOk result ((R.failures reader.new ≡ R.failures reader.old)
         × (W.failures writer.new ≡ W.failures writer.old)) }
@@ -292,7 +285,13 @@ where
     hook.end();
     match made {
         Ok(run) => match write_table(alloc, &run.table, writer) {
-            Ok(()) => Ok(Report::new(&run, meters.seen(), begun, rt.monotonic())),
+            Ok(()) => Ok(Report::new(
+                &run,
+                meters.seen(),
+                begun,
+                rt.monotonic(),
+                peak_of(rt, alloc, table.stats),
+            )),
             Err(refused) => Err(refused),
         },
         Err(refused) => Err(refused),

@@ -1,8 +1,8 @@
 -- Runs of a store's lists that are spilled, and why they are not.
-use Rattle.std.proofs.Common.{◌≡◌, ◌≢◌, ◌⊎◌, ℕ, Bool, inl, inr, List, Option, refl, IsTrue}
+use Rattle.std.proofs.Common.{◌≡◌, ◌≢◌, ◌⊎◌, ℕ, Bool, inl, inr, List, Option, refl}
 use Rattle.fkv_functions.specs.declared.refusals.Refused.{Refused}
 use Rattle.fkv_functions.specs.declared.refusals.Refused.TheVariants.{NoMemory, Worn, Device, Damaged}
-use Rattle.fkv_device.specs.Failing.{FailsOnlyBy, ReadFailsBy}
+use Rattle.fkv_device.specs.Failing.{FailsOnlyBy}
 use Rattle.fkv_partition.specs.declared.limits.Config.{Config}
 use Rattle.fkv_local.specs.Causing.{IsCausedBy}
 use Rattle.fkv_spills.specs.Reading.{IsUnreadable}

@@ -88,19 +88,25 @@ const PLAN: Plan = Plan {
     workers: 1,
 };
 
-/// Milliseconds, and the last line of a report.
-const SECONDS: [(Option<u64>, &str); 6] = [
-    (Some(0), "fkv_cli: seconds 0.000\n"),
-    (Some(7), "fkv_cli: seconds 0.007\n"),
-    (Some(999), "fkv_cli: seconds 0.999\n"),
-    (Some(1_000), "fkv_cli: seconds 1.000\n"),
-    (Some(61_050), "fkv_cli: seconds 61.050\n"),
-    (None, ""),
+/// Milliseconds, KiB of memory, and the last lines of a report.
+const SECONDS: [(Option<u64>, Option<u64>, &str); 8] = [
+    (Some(0), None, "fkv_cli: seconds 0.000\n"),
+    (Some(7), None, "fkv_cli: seconds 0.007\n"),
+    (Some(999), None, "fkv_cli: seconds 0.999\n"),
+    (Some(1_000), None, "fkv_cli: seconds 1.000\n"),
+    (Some(61_050), None, "fkv_cli: seconds 61.050\n"),
+    (None, None, ""),
+    (
+        Some(20),
+        Some(84_512),
+        "fkv_cli: seconds 0.020\nfkv_cli: peak memory in KiB 84512\n",
+    ),
+    (None, Some(0), "fkv_cli: peak memory in KiB 0\n"),
 ];
 
 #[test]
 fn seconds_of_reports(rt: HostRuntime) -> io::Result<()> {
-    for (millis, line) in SECONDS {
+    for (millis, peak, line) in SECONDS {
         let report = Report {
             keys: 2,
             counts: Counts {
@@ -114,6 +120,7 @@ fn seconds_of_reports(rt: HostRuntime) -> io::Result<()> {
                 bytes_written: 13,
             },
             millis,
+            peak,
         };
         let text = format!(in rt.alloc();
             "fkv_cli: rows 9\nfkv_cli: keys 2\nfkv_cli: records appended 4\nfkv_cli: updates in place 5\nfkv_cli: pages written 11\nfkv_cli: pages read 12\nfkv_cli: bytes on the device 13\n{line}"
@@ -226,6 +233,7 @@ fn advice_of_reports(rt: HostRuntime) -> io::Result<()> {
                 bytes_written: 0,
             },
             millis: None,
+            peak: None,
         };
         let mut bare = Vec::new(rt.alloc());
         report.tell(
@@ -252,7 +260,8 @@ fn advice_of_reports(rt: HostRuntime) -> io::Result<()> {
     Ok(())
 }
 
-/// Words of runs over [`LETTERS`] twice, and whether their reports end with advice.
+/// Words of runs over [`LETTERS`] twice, and whether their reports end with advice. Each report names the peak of memory, where the
+/// system tells it.
 const ENDS: [(&str, bool); 5] = [
     ("fkv_cli sum --stats --partition-bits 0 --page-bits 8", true),
     (
@@ -270,6 +279,7 @@ const ENDS: [(&str, bool); 5] = [
 #[test]
 fn reports_that_end_with_advice(rt: HostRuntime) -> io::Result<()> {
     let input = format!(in rt.alloc(); "{LETTERS}{LETTERS}")?;
+    let is_linux = fs::metadata(&rt, "/proc/self/status").is_ok();
     for (line, is_advised) in ENDS {
         let words = split(rt.alloc(), line)?;
         let mut told = Vec::new(rt.alloc());
@@ -289,6 +299,13 @@ fn reports_that_end_with_advice(rt: HostRuntime) -> io::Result<()> {
             .as_slice()
             .ends_with(b"; --memory 1M would hold them\n");
         assert!(rt; has_advice == is_advised, "{line}");
+        let tells_peak = str::from_utf8(told.as_slice()).is_ok_and(|text| text.contains(
+            "\nfkv_cli: peak memory in KiB ",
+        ));
+        assert!(rt;
+            tells_peak == (is_linux && line.contains("--stats")),
+            "{line}"
+        );
     }
     Ok(())
 }

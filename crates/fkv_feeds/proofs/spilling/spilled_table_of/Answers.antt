@@ -1,4 +1,4 @@
-use Rattle.std.proofs.Common.{◌≡◌, ◌<◌, ◌∷◌, [], ◌++◌, length, inl, inr, refl, sym, ap, ◌∙◌, arith}
+use Rattle.std.proofs.Common.{◌≡◌, ◌<◌, ◌∷◌, [], ◌++◌, length, inr, arith}
 use Rattle.fkv_functions.specs.Names.{name_cmp}
 use Rattle.fkv_runs.specs.Merging.{merged}
 use Rattle.fkv_feeds.proofs.TableLemmas.{none-made, made-more, made-rise, made-all}

@@ -1,7 +1,6 @@
-use Rattle.std.proofs.Common.{◌≡◌, ◌∷◌, ◌++◌, [], List, Option, Some, None, inl, inr, drop, refl, sym, ◌∙◌, ap, subst}
+use Rattle.std.proofs.Common.{◌∷◌, ◌++◌, [], inl, inr, drop, refl, sym, ◌∙◌, ap, subst}
 use Rattle.std.proofs.lemmas.Bool.{false≢true}
 use Rattle.std.proofs.KnownBytes.{Appends-nil}
-use Rattle.fkv_runs.specs.Merging.{first_pair}
 use Rattle.fkv_streams.specs.Streams.{AppendsPrefix, PassesOn}
 use Rattle.fkv_streams.proofs.BufferLemmas.{passes-none, prefix-longer}
 use Rattle.fkv_feeds.specs.Writing.{fields_of, pair_text, table_text}

@@ -1,9 +1,8 @@
-use Rattle.std.proofs.Common.{◌≡◌, ◌++◌, [], List, inl, inr, refl, sym, ◌∙◌, ap, subst}
+use Rattle.std.proofs.Common.{◌++◌, [], inl, inr, refl, sym, ◌∙◌, ap}
 use Rattle.std.proofs.lemmas.Bool.{false≢true}
 use Rattle.std.proofs.KnownBytes.{Appends-nil}
 use Rattle.fkv_runs.specs.Merging.{first_pair}
-use Rattle.fkv_streams.specs.Counting.{one_more}
-use Rattle.fkv_feeds.specs.Writing.{fields_of, table_text}
+use Rattle.fkv_feeds.specs.Writing.{fields_of}
 use Rattle.fkv_feeds.proofs.WritingLemmas.{written-none, written-put, written-prefix, written-whole, written-out, as-written, rows-put, rows-front, unwritten-more, unwritten-last, steady-last}
 use Rattle.fkv_feeds.proofs.writing.write_pairs.Goals as goal
 
