@@ -168,6 +168,7 @@ pub fn run_by_events<F: Mergeable, D: Disk, P: PageReader<Receipt = D::Receipt>>
 
 /// Makes an operation in one call, where it writes where its key's last record stands. Answers `None` where it does not, and then
 /// nothing has changed. Refused: `Worn` where no moment is left.
+#[inline(always)]
 pub fn try_write_in_place<F: Mergeable, D: Disk>(
     functions: &F,
     part: &mut Part<F, D>,

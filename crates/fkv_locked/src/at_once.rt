@@ -69,6 +69,7 @@ impl<F: Mergeable, R: Receipt, H: Recorder<F>> Locked<F, R, H> {
     /// and read again, and no mark. Answers its entry, which is noted, or `None` where it is a read or a merge, can't be issued or
     /// would not be finished so, and then nothing changes. Refused, in this order, and then nothing changes: `Stranger` where fewer
     /// updates stand there; `Worn` where the updates or the book have no next number, or the clock has no two; `NoMemory`.
+    #[inline(always)]
     pub fn try_write_in_place(
         &mut self,
         session: SessionId,

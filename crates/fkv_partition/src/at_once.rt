@@ -16,6 +16,7 @@ impl<F: Mergeable, R: Receipt> Partition<F, R> {
     /// stands: where that record may be changed in place, and the operation is no read and no update that the functions decline.
     /// That is what [`Partition::issue`] and [`Partition::go`] do then, but no context is written and read again. Answers what
     /// the operation does, or `None` where it can't be issued or would not be finished so, and then nothing changes.
+    #[inline(always)]
     pub fn try_write_in_place(
         &mut self,
         slot: usize,

@@ -189,6 +189,7 @@ impl<F: Mergeable, R: Receipt> Partition<F, R> {
 
     /// Gives the last record of its key, which has a value, another one where it stands, or makes it a tombstone. No context
     /// changes.
+    #[inline(always)]
     pub(crate) fn revalue(&mut self, address: Address, value: Option<F::Value>, now: u64)
         requires last { IsReplaceable F.Key.cmp self.old.records address }
         requires mutable { self.old.records.log.regions.offsets.safe_read_only ≤ address }

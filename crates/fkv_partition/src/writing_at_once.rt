@@ -57,6 +57,7 @@ impl<F: Mergeable, R: Receipt> Partition<F, R> {
     /// [`Partition::issue_in`] and [`Partition::go_on_key`] do then, but no context is written and read again. Answers what the
     /// operation does, or `None` where its key belongs to another partition or it would not be finished so, and then nothing
     /// changes.
+    #[inline(always)]
     pub(crate) fn write_at_once(
         &mut self,
         slot: usize,
@@ -92,6 +93,7 @@ impl<F: Mergeable, R: Receipt> Partition<F, R> {
     }
 
     /// The last record of a key and its value, where it may be changed in place.
+    #[inline(always)]
     fn at_hand(
         &self,
         slot: usize,
@@ -125,6 +127,7 @@ impl<F: Mergeable, R: Receipt> Partition<F, R> {
 
     /// Writes where the last record of an operation's key stands, which may be changed in place, by an operation that is issued
     /// and done at once. Answers what it does, or `None` where it writes nothing there, and then nothing changes.
+    #[inline(always)]
     fn write_at(
         &mut self,
         slot: usize,
