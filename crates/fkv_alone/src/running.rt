@@ -133,7 +133,7 @@ fn attempt<F: Mergeable, R: Receipt, P: PageReader<Receipt = R>>(
 {
     // that a hash has 64 bits is known of one in hand
     let _hash = functions.hash(&op.key());
-    partition.known();
+    partition.facts();
     let now = match first_moment(clock, limit) {
         Err(refused) => return Err(refused),
         Ok(now) => now,

@@ -55,7 +55,7 @@ pub(crate) fn step<F: Mergeable, R: Receipt, P: PageReader<Receipt = R>>(
     ensures rest { IsPassedOn partition.old partition.new }
     ensures past { partition.new.moment ≤ now }
 {
-    partition.known();
+    partition.facts();
     match told {
         Progress::Next => partition.go(slot, context, functions, now),
         Progress::NeedsBuild(ask) => {

@@ -5,7 +5,7 @@ use fkv_runs::Table;
 
 /// How much a run did.
 #[derive(Clone, Copy, Debug, PartialEq, Eq)]
-pub struct Counts {
+pub struct RunCounts {
     /// The rows that were read.
     pub rows: u64,
     /// The records that were appended to the logs: one for each key, and one for each update of a key whose record could not
@@ -27,8 +27,8 @@ pub struct Plan {
 
 /// A run over feeds: its table, how much it did, and how.
 #[derive(Drop)]
-pub struct Run<V> {
+pub struct TableRun<V> {
     pub table: Table<V>,
-    pub counts: Counts,
+    pub counts: RunCounts,
     pub plan: Plan,
 }

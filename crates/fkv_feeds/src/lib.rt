@@ -10,10 +10,10 @@ pub mod spilling;
 mod tabling;
 pub mod writing;
 
-pub use counting::{Counts, Plan, Run};
+pub use counting::{Plan, RunCounts, TableRun};
 pub use fkv_runs::{Pairs, Table};
 pub use modes::RowMode;
 pub use running::{LIMIT, run_alone, run_alone_by, run_one, run_one_by};
-pub use shown::Shown;
+pub use shown::RowFields;
 pub use spilling::{SpilledRun, spill_alone_by, spill_one_by};
 pub use writing::{write_pairs, write_table};

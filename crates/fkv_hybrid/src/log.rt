@@ -125,7 +125,7 @@ impl<K: Fixed, V: Fixed, R: Receipt> Log<K, V, R> {
         ensures value { result ≡ self.now.frames }
         ensures some { 0 < result }
     {
-        self.frames.known();
+        self.frames.facts();
         self.frames.count()
     }
 
@@ -138,7 +138,7 @@ impl<K: Fixed, V: Fixed, R: Receipt> Log<K, V, R> {
 
     /// What holds of every log: its text has one entry at each place from where it begins to below the tail, and the
     /// views of its sessions agree with its offsets. It does nothing when it runs.
-    pub fn known(&self)
+    pub fn facts(&self)
         ensures log { IsLogOf R.keeps (size_of K.SIZE V.SIZE) self.now }
         ensures receipts { (n : ℕ) (s : Standing)
             → IsHeldBy self.now.receipts n s
@@ -151,8 +151,8 @@ impl<K: Fixed, V: Fixed, R: Receipt> Log<K, V, R> {
             → IsPageOf K.codec V.codec self.now.bits (length self.now.receipts + i)
             self.now.text page }
     {
-        self.frames.known();
-        self.regions.known();
+        self.frames.facts();
+        self.regions.facts();
     }
 
     /// Whether the next record needs a page whose frame is still in use.

@@ -59,7 +59,7 @@ impl Index {
     }
 
     /// Tells a proof what holds of an index at any time. It does nothing when it runs.
-    pub fn known(&self)
+    pub fn facts(&self)
         ensures { IsIndexMap self.now }
     {
         let _buckets = &self.buckets;

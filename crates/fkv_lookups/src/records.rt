@@ -24,12 +24,12 @@ ghost use Rattle.fkv_operations.specs.declared.classes.Class.{Class};
 ghost use Rattle.fkv_operations.specs.Classes.{IsClass};
 ghost use Rattle.fkv_lookups.specs.RecordsViews.{empty_records, class_in, entry_of, found_in, IsEntryOf, with_written, Claims, confirmed, released};
 ghost use Rattle.fkv_lookups.specs.RecordsViews.{ChangesAt};
-ghost use Rattle.fkv_lookups.specs.Traced.{IsTraced, IsStood};
+ghost use Rattle.fkv_lookups.specs.Traced.{IsTraced, IsResolved};
 ghost use Rattle.fkv_lookups.specs.Lookups.{newest_above, looked_up};
 ghost use Rattle.fkv_lookups.specs.Payloads.{standing};
 ghost use Rattle.fkv_texts.specs.Text.{live};
 
-use crate::chain_results::{ChainResult, delta_at, onto};
+use crate::chain_results::{ChainResult, combined, delta_at};
 use crate::entries::move_entry;
 use crate::payloads::Payload;
 use fkv_device::Receipt;
@@ -97,7 +97,7 @@ impl<F: Mergeable, R: Receipt> Records<F, R> {
         ensures only { IfErr result (λ refused. refused ≡ Refused.NoMemory) }
     {
         let log = Log::new(alloc, shape, frames)?;
-        log.known();
+        log.facts();
         let index = Index::new(alloc, bucket_bits as u32)?;
         Ok(Records {
             log,
@@ -185,7 +185,7 @@ impl<F: Mergeable, R: Receipt> Records<F, R> {
         let mut parts = None;
         let mut position = first;
         while let Some(last) = delta_at(&position) {
-            parts = onto(functions, last.value, parts);
+            parts = combined(functions, last.value, parts);
             position = self.log.first_on_chain(key, last.previous, low);
         }
         ChainResult { parts, position }
@@ -268,7 +268,7 @@ impl<F: Mergeable, R: Receipt> Records<F, R> {
         ensures unchanged { OnErr result (self.new ≡ self.old) }
     {
         chains::<F::Key, F::Value, Class>();
-        self.log.known();
+        self.log.facts();
         let address = self.log.tail();
         match self
             .log
@@ -278,7 +278,7 @@ impl<F: Mergeable, R: Receipt> Records<F, R> {
             Ok(None) => return Ok(None),
             Ok(Some(_address)) => (),
         }
-        self.log.known();
+        self.log.facts();
         move_entry(&mut self.index, entry, address);
         Ok(Some(address))
     }
@@ -298,11 +298,11 @@ impl<F: Mergeable, R: Receipt> Records<F, R> {
     }
 
     /// What holds of all records of a partition.
-    pub fn known(&self)
+    pub fn facts(&self)
         ensures traced { IsTraced R.keeps F.code self.now }
         // each record stands for what its key has once it stands
-        ensures stood { IsStood F.Key.cmp F.parts.joined self.now }
+        ensures resolved { IsResolved F.Key.cmp F.parts.joined self.now }
     {
-        self.log.known();
+        self.log.facts();
     }
 }

@@ -35,7 +35,7 @@ impl<F: Mergeable, R: Receipt> Partition<F, R> {
         ensures moment { self.new.moment ≤ now }
     {
         sessions_preserved::<F::Key, F::Value, F::Input, F::Output, R>();
-        self.known();
+        self.facts();
         if !self.is_session(slot) {
             return None;
         }

@@ -22,7 +22,7 @@ impl<F: Mergeable, R: Receipt> Partition<F, R> {
             Err(refused) => return Err(refused),
             Ok(()) => (),
         }
-        self.records.known();
+        self.records.facts();
         self.moment = now;
         Ok(())
     }

@@ -35,7 +35,7 @@ impl<F: Mergeable, R: Receipt> Partition<F, R> {
         ensures moment { self.new.moment ≤ now }
     {
         sessions_preserved::<F::Key, F::Value, F::Input, F::Output, R>();
-        self.known();
+        self.facts();
         if !self.is_session(slot) {
             return Err(Refused::Unknown);
         }
@@ -71,7 +71,7 @@ impl<F: Mergeable, R: Receipt> Partition<F, R> {
         ensures event { IsIssue F.code self.old self.new slot context op now }
         ensures within { slot < 16 }
     {
-        self.known();
+        self.facts();
         let _entered = self.is_session(slot);
         self.start(slot, context, op, now);
     }

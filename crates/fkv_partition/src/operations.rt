@@ -47,7 +47,7 @@ impl<F: Mergeable, R: Receipt> Partition<F, R> {
         ensures moment { self.new.moment ≤ now }
     {
         pendings_stay::<F::Key, F::Value, F::Input, F::Output, R>();
-        self.known();
+        self.facts();
         match op.keyed() {
             Some(keyed) => self.issue_on_key(slot, keyed, functions, now),
             None => self.relocate(slot, now),
@@ -106,7 +106,7 @@ impl<F: Mergeable, R: Receipt> Partition<F, R> {
     {
         sessions_preserved::<F::Key, F::Value, F::Input, F::Output, R>();
         pendings_stay::<F::Key, F::Value, F::Input, F::Output, R>();
-        self.known();
+        self.facts();
         if self.holds_relocation(slot, context) {
             self.go_on(slot, context, functions, now)
         } else {
@@ -141,7 +141,7 @@ impl<F: Mergeable, R: Receipt> Partition<F, R> {
     {
         sessions_preserved::<F::Key, F::Value, F::Input, F::Output, R>();
         pendings_stay::<F::Key, F::Value, F::Input, F::Output, R>();
-        self.known();
+        self.facts();
         if self.holds_relocation(slot, context) {
             Err(Refused::NotReady)
         } else {
@@ -192,7 +192,7 @@ impl<F: Mergeable, R: Receipt> Partition<F, R> {
     {
         loads_preserve_sessions::<F, R>();
         loads_end::<F, R>();
-        self.known();
+        self.facts();
         if self.holds_relocation(slot, context) {
             self.resume_load(slot, context, came, functions, now)
         } else {
@@ -244,7 +244,7 @@ impl<F: Mergeable, R: Receipt> Partition<F, R> {
     {
         loads_preserve_sessions::<F, R>();
         loads_end::<F, R>();
-        self.known();
+        self.facts();
         if self.holds_relocation(slot, context) {
             self.resume_load_by(slot, context, functions, reader, now)
         } else {
@@ -284,7 +284,7 @@ impl<F: Mergeable, R: Receipt> Partition<F, R> {
     {
         loads_preserve_sessions::<F, R>();
         loads_end::<F, R>();
-        self.known();
+        self.facts();
         if self.holds_relocation(slot, context) {
             self.resume_load_own(slot, context, loaded, functions, now)
         } else {
@@ -305,7 +305,7 @@ impl<F: Mergeable, R: Receipt> Partition<F, R> {
     {
         sessions_preserved::<F::Key, F::Value, F::Input, F::Output, R>();
         pendings_stay::<F::Key, F::Value, F::Input, F::Output, R>();
-        self.known();
+        self.facts();
         if self.holds_relocation(slot, context) {
             self.drop_relocation(slot, context, now)
         } else {

@@ -41,7 +41,7 @@ impl<F: Mergeable, R: Receipt> Partition<F, R> {
     {
         sessions_preserved::<F::Key, F::Value, F::Input, F::Output, R>();
         pendings_stay::<F::Key, F::Value, F::Input, F::Output, R>();
-        self.known();
+        self.facts();
         self.move_read_only(page, now)
     }
 
@@ -58,7 +58,7 @@ impl<F: Mergeable, R: Receipt> Partition<F, R> {
     {
         sessions_preserved::<F::Key, F::Value, F::Input, F::Output, R>();
         pendings_stay::<F::Key, F::Value, F::Input, F::Output, R>();
-        self.known();
+        self.facts();
         self.move_head(page, now)
     }
 
@@ -70,7 +70,7 @@ impl<F: Mergeable, R: Receipt> Partition<F, R> {
     }
 
     /// What holds of all pages that are kept or wait. It does nothing when it runs.
-    pub fn pages_known(&self)
+    pub fn page_facts(&self)
         ensures receipts { (n : ℕ) (s : Standing)
             → IsHeldBy self.now.records.log.receipts n s
             → (s.page ≡ n) × (s.length ≡ 2 ^ self.now.records.log.bits) }
@@ -83,7 +83,7 @@ impl<F: Mergeable, R: Receipt> Partition<F, R> {
             → IsPageOf F.Key.codec F.Value.codec self.now.records.log.bits
             (length self.now.records.log.receipts + i) self.now.records.log.text page }
     {
-        self.records().log().known();
+        self.records().log().facts();
     }
 
     /// A copy of the lowest page that is not flushed, to be written. Nothing changes but the moment. Refused, and then
@@ -122,7 +122,7 @@ impl<F: Mergeable, R: Receipt> Partition<F, R> {
     {
         sessions_preserved::<F::Key, F::Value, F::Input, F::Output, R>();
         pendings_stay::<F::Key, F::Value, F::Input, F::Output, R>();
-        self.known();
+        self.facts();
         self.keep_receipt(written, now)
     }
 
@@ -138,7 +138,7 @@ impl<F: Mergeable, R: Receipt> Partition<F, R> {
     {
         cleared_stay::<F::Key, F::Value>();
         sessions_preserved::<F::Key, F::Value, F::Input, F::Output, R>();
-        self.known();
+        self.facts();
         if page > self.records().page_of(self.cleared()) {
             return Err(Refused::NotDue);
         }

@@ -34,7 +34,7 @@ impl<F: Mergeable, R: Receipt> Partition<F, R> {
         if self.home(functions, key) != self.number {
             return None;
         }
-        self.known();
+        self.facts();
         lookups_tell::<F::Key, F::Value>();
         meetings_tell::<F::Key, F::Value>();
         let entry = self.entry_address(functions, key);

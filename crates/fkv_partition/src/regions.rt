@@ -26,7 +26,7 @@ impl<F: Mergeable, R: Receipt> Partition<F, R> {
             Err(refused) => return Err(refused),
             Ok(slot) => slot,
         };
-        self.records.known();
+        self.records.facts();
         self.moment = now;
         Ok(slot)
     }
@@ -45,7 +45,7 @@ impl<F: Mergeable, R: Receipt> Partition<F, R> {
             Err(refused) => return Err(refused),
             Ok(()) => (),
         }
-        self.records.known();
+        self.records.facts();
         self.moment = now;
         Ok(())
     }
@@ -65,7 +65,7 @@ impl<F: Mergeable, R: Receipt> Partition<F, R> {
             Err(refused) => return Err(refused),
             Ok(()) => (),
         }
-        self.records.known();
+        self.records.facts();
         self.moment = now;
         Ok(())
     }
@@ -84,7 +84,7 @@ impl<F: Mergeable, R: Receipt> Partition<F, R> {
             Err(refused) => return Err(refused),
             Ok(()) => (),
         }
-        self.records.known();
+        self.records.facts();
         self.moment = now;
         Ok(())
     }
@@ -105,7 +105,7 @@ impl<F: Mergeable, R: Receipt> Partition<F, R> {
             Err(refused) => return Err(refused),
             Ok(()) => (),
         }
-        self.records.known();
+        self.records.facts();
         self.moment = now;
         Ok(())
     }

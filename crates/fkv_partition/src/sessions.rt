@@ -28,7 +28,7 @@ impl<F: Mergeable, R: Receipt> Partition<F, R> {
     {
         sessions_preserved::<F::Key, F::Value, F::Input, F::Output, R>();
         pendings_stay::<F::Key, F::Value, F::Input, F::Output, R>();
-        self.known();
+        self.facts();
         self.enter_slot(now)
     }
 
@@ -45,7 +45,7 @@ impl<F: Mergeable, R: Receipt> Partition<F, R> {
     {
         sessions_preserved::<F::Key, F::Value, F::Input, F::Output, R>();
         pendings_stay::<F::Key, F::Value, F::Input, F::Output, R>();
-        self.known();
+        self.facts();
         self.refresh_slot(slot, now)
     }
 
@@ -62,7 +62,7 @@ impl<F: Mergeable, R: Receipt> Partition<F, R> {
     {
         sessions_preserved::<F::Key, F::Value, F::Input, F::Output, R>();
         pendings_stay::<F::Key, F::Value, F::Input, F::Output, R>();
-        self.known();
+        self.facts();
         if self.has_relocation(slot) {
             return Err(Refused::Busy);
         }
@@ -81,7 +81,7 @@ impl<F: Mergeable, R: Receipt> Partition<F, R> {
         ensures unchanged { OnErr result (self.new ≡ self.old) }
         ensures moment { self.new.moment ≤ now }
     {
-        self.known();
+        self.facts();
         if !self.is_session(slot) {
             return Err(Refused::Unknown);
         }

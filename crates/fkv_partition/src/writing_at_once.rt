@@ -107,7 +107,7 @@ impl<F: Mergeable, R: Receipt> Partition<F, R> {
         ensures met { IfSome result (λ r. met_at F.Key.cmp F.parts.joined F.code self.now slot key.now ≡ Mutable r.1) }
         ensures none { result ≡ None → (held : F.Value) → ¬ (met_at F.Key.cmp F.parts.joined F.code self.now slot key.now ≡ Mutable held) }
     {
-        self.known();
+        self.facts();
         lookups_tell::<F::Key, F::Value>();
         let entry = self.entry_address(functions, key);
         let ChainPosition::Found(last) = self.newest_in_memory(slot, key, entry) else {
@@ -155,7 +155,7 @@ impl<F: Mergeable, R: Receipt> Partition<F, R> {
         ensures none { result ≡ None → self.new ≡ self.old }
         ensures moment { IfSome result (λ _. self.new.moment ≤ now) }
     {
-        self.known();
+        self.facts();
         lookups_tell::<F::Key, F::Value>();
         records_change::<F::Key, F::Value>();
         meetings_tell::<F::Key, F::Value>();

@@ -29,4 +29,4 @@ pub use passes::{Mark, Pass};
 pub use running::Loads;
 pub use stores::Store;
 pub use tidying::KEEPER;
-pub use unlisted::{Ended, Listed, Unlisted};
+pub use unlisted::{ClosedStore, Listed, Unlisted};

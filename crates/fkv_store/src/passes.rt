@@ -9,7 +9,7 @@ ghost use Rattle.fkv_store.specs.Runs.{IsRunAs, AreCounted, AreSteady};
 
 use crate::gates::{Gate, Open, Place};
 use crate::holds::{At, Turned, enter, leave};
-use crate::running::{Loads, Run, Seen, refresh_all, refresh_moved, run_by_turns};
+use crate::running::{Loads, OperationRun, SeenMoves, refresh_all, refresh_moved, run_by_turns};
 use crate::stores::Store;
 use fkv_device::Disk;
 use fkv_functions::{Mergeable, Refused, What};
@@ -35,7 +35,7 @@ pub struct Pass<F: Mergeable, D: Disk, H: Recorder<F>> {
     pub(crate) told: Vec<u64>,
     pub(crate) sessions: Vec<Option<SessionId>>,
     /// How often pages had been moved when its sessions were refreshed.
-    pub(crate) seen: Seen,
+    pub(crate) seen: SeenMoves,
     pub(crate) readers: Vec<D::Reader>,
     /// How many operations were answered since its sessions were refreshed.
     pub(crate) answered: u8,
@@ -156,7 +156,7 @@ fn refresh_at_times<F: Mergeable, D: Disk, H: Recorder<F>, G: Gate>(
     rt: &impl Wait,
     store: &Store<F, D, H>,
     sessions: &[Option<SessionId>],
-    seen: &mut Seen,
+    seen: &mut SeenMoves,
     worker: u32,
     answered: &mut u8,
     gate: &G,
@@ -186,7 +186,7 @@ fn refresh_again<F: Mergeable, D: Disk, H: Recorder<F>, G: Gate>(
     rt: &impl Wait,
     store: &Store<F, D, H>,
     sessions: &[Option<SessionId>],
-    seen: &mut Seen,
+    seen: &mut SeenMoves,
     worker: u32,
     answered: &mut u8,
     gate: &G,
@@ -209,7 +209,7 @@ pub(crate) fn is_fresh<F: Mergeable, D: Disk, H: Recorder<F>, G: Gate>(
     rt: &impl Wait,
     store: &Store<F, D, H>,
     sessions: &[Option<SessionId>],
-    seen: &mut Seen,
+    seen: &mut SeenMoves,
     worker: u32,
     answered: &mut u8,
     gate: &G,
@@ -436,7 +436,7 @@ impl<F: Mergeable, D: Disk, H: Recorder<F>> Pass<F, D, H> {
             Err(refused) => return Err(refused),
         };
         let known = self.told[partition];
-        let run = Run {
+        let run = OperationRun {
             alloc,
             at,
             sessions: &self.sessions,

@@ -9,7 +9,7 @@ ghost use Rattle.fkv_store.specs.Stores.{AreReaders, IsUnopened};
 use crate::holds::Turned;
 use crate::lists::{no_sessions, zeros};
 use crate::passes::Pass;
-use crate::running::Seen;
+use crate::running::SeenMoves;
 use fkv_device::Disk;
 use fkv_functions::{Functions, Mergeable, Refused};
 use fkv_histories::Recorder;
@@ -53,7 +53,7 @@ impl<F: Mergeable, D: Disk, H: Recorder<F>> Model for Store<F, D, H> {
 
 /// The locked partitions of a store, with nothing in them, and the writers of their pages.
 #[derive(Drop)]
-struct Opened<F: Mergeable, D: Disk, H: Recorder<F>> {
+struct EmptyPartitions<F: Mergeable, D: Disk, H: Recorder<F>> {
     writers: Vec<Mutex<D::Writer>>,
     locks: Vec<Mutex<Locked<F, D::Receipt, H>>>,
     moves: Vec<AtomicU64>,
@@ -66,7 +66,7 @@ fn open_all<F: Mergeable, D: Disk, H: Recorder<F>>(
     config: &Config,
     device: &mut D,
     count: u64,
-) -> Result<Opened<F, D, H>, Refused>
+) -> Result<EmptyPartitions<F, D, H>, Refused>
     requires limits { IsWithinLimits config.now (size_of F.Key.SIZE F.Value.SIZE) }
     requires count { count ≡ 2 ^ config.now.partition_bits }
     ensures locks { IfOk result (λ opened. length opened.locks.items ≡ count) }
@@ -96,7 +96,7 @@ fn open_all<F: Mergeable, D: Disk, H: Recorder<F>>(
             return Err(Refused::NoMemory);
         };
     }
-    Ok(Opened {
+    Ok(EmptyPartitions {
         writers,
         locks,
         moves,
@@ -155,7 +155,7 @@ impl<F: Mergeable, D: Disk, H: Recorder<F>> Store<F, D, H> {
             Ok(opened) => opened,
             Err(refused) => return Err(refused),
         };
-        let Opened {
+        let EmptyPartitions {
             writers,
             locks,
             moves,
@@ -257,7 +257,7 @@ impl<F: Mergeable, D: Disk, H: Recorder<F>> Store<F, D, H> {
             owns,
             told,
             sessions,
-            seen: Seen { any: 0, each },
+            seen: SeenMoves { any: 0, each },
             readers,
             answered: 0,
             turned: Turned::none(),

@@ -16,13 +16,13 @@ use crate::keeping::keeper_of;
 use crate::running::is_runnable;
 use crate::sharing::{SharedFeeds, Tickets};
 use crate::tabling::{spilled, tabled};
-use crate::working::Worked;
-use fkv_blocks::{Ended, Feeds, Origin, Stop, Ticket};
+use crate::working::WorkerResult;
+use fkv_blocks::{Feeds, Origin, ReadFeeds, Stop, Ticket};
 use fkv_device::Disk;
-use fkv_feeds::{LIMIT, RowMode, Run, SpilledRun};
+use fkv_feeds::{LIMIT, RowMode, SpilledRun, TableRun};
 use fkv_functions::{Mergeable, Name, OrderFree, Refused};
 use fkv_histories::Recorder;
-use fkv_jobs::{Ran, run_jobs};
+use fkv_jobs::{JobResults, run_jobs};
 use fkv_partition::Config;
 use fkv_store::{Gate, Pass, Store};
 use fkv_streams::Source;
@@ -38,7 +38,7 @@ const BLOCK: usize = 1 << 18;
 
 /// What workers hand back, apart: their passes, their tickets, and the first place at which one of them stopped.
 #[derive(Drop)]
-struct Parted<F: Mergeable, D: Disk, H: Recorder<F>> {
+struct WorkerResults<F: Mergeable, D: Disk, H: Recorder<F>> {
     passes: Vec<Pass<F, D, H>>,
     hands: Vec<Vec<Ticket>>,
     first: Option<Stop>,
@@ -68,8 +68,8 @@ fn first_of(first: Option<Stop>, other: Stop) -> Stop
 /// What workers hand back, apart. Refused: `NoMemory`.
 fn taken_apart<B: Origin, F: Mergeable, D: Disk, H: Recorder<F>>(
     alloc: Global,
-    worked: Vec<Worked<F, D, H, Tickets>>,
-) -> Result<Parted<F, D, H>, Refused>
+    worked: Vec<WorkerResult<F, D, H, Tickets>>,
+) -> Result<WorkerResults<F, D, H>, Refused>
     requires read { All (λ w. WereRead B.feeds w.had.tickets.items) worked.items }
     requires stops { All (λ w. IfSome w.fault (λ why. IsTold why ⊎ IsStop B.feeds most_rows
         (record { feed = w.had.feed; low = w.had.low; refused = why; has_failed = w.had.has_failed }))) worked.items }
@@ -84,7 +84,7 @@ fn taken_apart<B: Origin, F: Mergeable, D: Disk, H: Recorder<F>>(
     let mut hands = Vec::new(alloc);
     let mut first = None;
     for one in worked {
-        let Worked { pass, had, fault } = one;
+        let WorkerResult { pass, had, fault } = one;
         let Tickets {
             tickets,
             feed,
@@ -110,7 +110,7 @@ fn taken_apart<B: Origin, F: Mergeable, D: Disk, H: Recorder<F>>(
             return Err(Refused::NoMemory);
         };
     }
-    Ok(Parted {
+    Ok(WorkerResults {
         passes,
         hands,
         first,
@@ -120,7 +120,7 @@ fn taken_apart<B: Origin, F: Mergeable, D: Disk, H: Recorder<F>>(
 /// What is told of the first place at which a worker stopped: what the store refused there, or what is wrong with the feed.
 fn told_of<S: Source + Drop, B: Origin>(
     alloc: Global,
-    feeds: &Ended<S, B>,
+    feeds: &ReadFeeds<S, B>,
     hands: &[Vec<Ticket>],
     stop: Stop,
 ) -> Refused
@@ -140,7 +140,7 @@ fn told_of<S: Source + Drop, B: Origin>(
 /// as the keeper is; and as the blocks are not all.
 fn concluded<S: Source + Drop, B: Origin>(
     alloc: Global,
-    feeds: &Ended<S, B>,
+    feeds: &ReadFeeds<S, B>,
     hands: &[Vec<Ticket>],
     first: Option<Stop>,
     kept: Result<(), Refused>,
@@ -168,7 +168,7 @@ fn concluded<S: Source + Drop, B: Origin>(
 fn joined<S: Source + Drop, B: Origin, F: Mergeable, D: Disk, H: Recorder<F>>(
     alloc: Global,
     feeds: Feeds<S, B>,
-    ran: Ran<Worked<F, D, H, Tickets>>,
+    ran: JobResults<WorkerResult<F, D, H, Tickets>>,
     left: &mut Vec<S>,
 ) -> Result<Vec<Pass<F, D, H>>, Refused>
     requires read { All (λ w. WereRead B.feeds w.had.tickets.items) ran.results.items }
@@ -181,8 +181,8 @@ fn joined<S: Source + Drop, B: Origin, F: Mergeable, D: Disk, H: Recorder<F>>(
     ensures refused { IfErr result (λ e. IsTold e ⊎ (e ≡ Refused.Mismatch)
         ⊎ IsFirstUnread B.feeds B.counts (map S.failures left.new.items) most_rows e) }
 {
-    let Ran { results, kept } = ran;
-    let Parted {
+    let JobResults { results, kept } = ran;
+    let WorkerResults {
         passes,
         hands,
         first,
@@ -372,7 +372,7 @@ pub fn run_blocks<
     device: D,
     gate: &G,
     mode: RowMode,
-) -> Result<Run<F::Value>, Refused>
+) -> Result<TableRun<F::Value>, Refused>
 where
     F::Value: Send,
     F::Output: Send,

@@ -7,7 +7,7 @@ ghost use Rattle.fkv_workers.specs.Works.{StandsFor, IsFirstFault};
 
 use crate::sharing::Share;
 use crate::waiting::none_wait;
-use crate::working::{Work, Worked};
+use crate::working::{WorkerJob, WorkerResult};
 use fkv_device::Disk;
 use fkv_feeds::RowMode;
 use fkv_functions::{Mergeable, Name, Refused};
@@ -31,7 +31,7 @@ pub(crate) fn works<
     gate: &'a G,
     mode: RowMode,
     shares: Vec<C>,
-) -> Result<Vec<Work<'a, C, F, D, H, G>>, Refused>
+) -> Result<Vec<WorkerJob<'a, C, F, D, H, G>>, Refused>
     requires { 0 < store.now.count }
     ensures shares { IfOk result (λ works. map (λ work. work.share) works.items ≡ shares.items) }
     ensures ready { IfOk result (λ works. All (λ work. StandsFor H.keeps F.code work.mode work.pass []
@@ -51,7 +51,7 @@ pub(crate) fn works<
             Ok(waiting) => waiting,
             Err(refused) => return Err(refused),
         };
-        let work = Work {
+        let work = WorkerJob {
             alloc,
             store,
             gate,
@@ -71,7 +71,7 @@ pub(crate) fn works<
 /// The passes of workers, in order. Refused: as the first of them stopped that did before its feeds ended, and `NoMemory`.
 pub(crate) fn passes_of<F: Mergeable, D: Disk, H: Recorder<F>, R: Drop>(
     alloc: Global,
-    worked: Vec<Worked<F, D, H, R>>,
+    worked: Vec<WorkerResult<F, D, H, R>>,
 ) -> Result<Vec<Pass<F, D, H>>, Refused>
     ensures ok { IfOk result (λ passes. passes.items ≡ map (λ w. w.pass) worked.items) }
     ensures none { OnOk result (All (λ fault. fault ≡ None) (map (λ w. w.fault) worked.items)) }
@@ -79,7 +79,7 @@ pub(crate) fn passes_of<F: Mergeable, D: Disk, H: Recorder<F>, R: Drop>(
 {
     let mut passes = Vec::new(alloc);
     for one in worked {
-        let Worked { pass, fault, .. } = one;
+        let WorkerResult { pass, fault, .. } = one;
         match fault {
             None => {}
             Some(refused) => return Err(refused),

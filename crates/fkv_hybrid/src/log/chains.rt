@@ -23,7 +23,7 @@ impl<K: FixedKey, V: Fixed, R: Receipt> Log<K, V, R> {
             → IsChainFrom head self.now.text from es
             → result ≡ reached (find (has_key K.cmp key.now) es) (leads_to from es) }
     {
-        self.known();
+        self.facts();
         let mut address = from;
         while address >= head {
             match self.look_at(address, key) {

@@ -21,7 +21,7 @@ impl<F: Mergeable, R: Receipt> Records<F, R> {
         ensures unchanged { OnErr result (self.new ≡ self.old) }
     {
         let done = self.log.flush_done(written);
-        self.log.known();
+        self.log.facts();
         done
     }
 

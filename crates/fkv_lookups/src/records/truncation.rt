@@ -25,7 +25,7 @@ impl<F: Mergeable, R: Receipt> Records<F, R> {
             Ok(()) => (),
             Err(refused) => return Err(refused),
         }
-        self.log.known();
+        self.log.facts();
         let begin = self.log.begin();
         self.index.sweep(begin);
         Ok(())

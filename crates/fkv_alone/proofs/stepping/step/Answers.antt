@@ -33,14 +33,14 @@ returns-in-Next-clause-nearer g c = λ n kept near.
     let v = c.args.partition.now in
     let w = c.go.new.self in
     let on = goes-on-key v w c.args.slot c.args.context c.args.now c.requires.none g.R.Receipt.stands g.F.Key.Ord.cmp g.F.Mergeable.parts.joined g.F.Functions.meaning g.F.Functions.code c.go.result c.go.ensures.effect in
-    goes-nearer g.R.Receipt.keeps g.F.Key.Ord.cmp g.F.Mergeable.parts.joined g.F.Functions.code v c.args.slot c.args.context n c.known.ensures.sound g.R.Receipt.stands g.F.Functions.meaning w c.args.now (rw c.in-Next.is at near) c.go.result on.0
+    goes-nearer g.R.Receipt.keeps g.F.Key.Ord.cmp g.F.Mergeable.parts.joined g.F.Functions.code v c.args.slot c.args.context n c.facts.ensures.sound g.R.Receipt.stands g.F.Functions.meaning w c.args.now (rw c.in-Next.is at near) c.go.result on.0
 
 pub returns-in-NeedsBuild-clause-nearer : goal.returns-in-NeedsBuild-clause-nearer
 returns-in-NeedsBuild-clause-nearer g c = λ n kept near.
     let v = c.args.partition.now in
     let w = c.install.new.self in
     let on = installs-on-key v w c.args.slot c.args.context c.args.now c.requires.none g.F.Key.Ord.cmp g.F.Functions.meaning g.F.Functions.code c.in-NeedsBuild.ask c.install.result (rw c.make-built.ensures at c.install.ensures.effect) in
-    installs-nearer g.R.Receipt.keeps g.F.Key.Ord.cmp g.F.Mergeable.parts.joined g.F.Functions.code v c.args.slot c.args.context n c.known.ensures.sound g.R.Receipt.stands g.F.Functions.meaning w c.args.now c.in-NeedsBuild.ask (rw c.in-NeedsBuild.is at near) c.install.result on.0
+    installs-nearer g.R.Receipt.keeps g.F.Key.Ord.cmp g.F.Mergeable.parts.joined g.F.Functions.code v c.args.slot c.args.context n c.facts.ensures.sound g.R.Receipt.stands g.F.Functions.meaning w c.args.now c.in-NeedsBuild.ask (rw c.in-NeedsBuild.is at near) c.install.result on.0
 
 pub returns-in-NeedsLoad-clause-advances : goal.returns-in-NeedsLoad-clause-advances
 returns-in-NeedsLoad-clause-advances g c = λ op old started h.
@@ -59,7 +59,7 @@ returns-in-NeedsLoad-clause-nearer g c = λ n kept near.
     let w = c.load_by.new.self in
     let entry = IsEntryIn g.F.Key.Fixed.codec g.F.Value.Fixed.codec in
     let on = reads-on-key v w c.args.slot c.args.context c.args.now c.requires.none g.R.Receipt.stands entry g.F.Key.Ord.cmp g.F.Mergeable.parts.joined g.F.Functions.meaning g.F.Functions.code (g.P.PageReader.failures c.args.reader.now) (g.P.PageReader.failures c.load_by.new.reader) c.load_by.result c.load_by.ensures.effect in
-    reads-nearer g.R.Receipt.keeps g.F.Key.Ord.cmp g.F.Mergeable.parts.joined g.F.Functions.code v c.args.slot c.args.context n c.known.ensures.sound g.R.Receipt.stands g.F.Functions.meaning w c.args.now kept
+    reads-nearer g.R.Receipt.keeps g.F.Key.Ord.cmp g.F.Mergeable.parts.joined g.F.Functions.code v c.args.slot c.args.context n c.facts.ensures.sound g.R.Receipt.stands g.F.Functions.meaning w c.args.now kept
     entry
     c.in-NeedsLoad._receipt c.in-NeedsLoad._address (g.P.PageReader.failures c.args.reader.now) (g.P.PageReader.failures c.load_by.new.reader) (rw c.in-NeedsLoad.is at near) c.load_by.result on.0
 
@@ -80,7 +80,7 @@ returns-in-NeedsBuild-clause-rest g c =
     (installs-on-key c.args.partition.now c.install.new.self c.args.slot c.args.context c.args.now c.requires.none g.F.Key.Ord.cmp g.F.Functions.meaning g.F.Functions.code c.make-built.result c.install.result c.install.ensures.effect).1
 
 pub returns-in-NeedsLoad-clause-unread : goal.returns-in-NeedsLoad-clause-unread
-returns-in-NeedsLoad-clause-unread g c = λ op old started h merge. absurd (others-fetch-not c.known.ensures.sound (rw c.in-NeedsLoad.is at h) merge)
+returns-in-NeedsLoad-clause-unread g c = λ op old started h merge. absurd (others-fetch-not c.facts.ensures.sound (rw c.in-NeedsLoad.is at h) merge)
 
 pub returns-in-NeedsLoad-clause-once : goal.returns-in-NeedsLoad-clause-once
 returns-in-NeedsLoad-clause-once g c = rw c.in-NeedsLoad.is c.load_by.ensures.once
@@ -93,7 +93,7 @@ returns-in-NeedsBuild-clause-once g c = omega arith
 
 pub returns-in-NeedsLoad-clause-wanted : goal.returns-in-NeedsLoad-clause-wanted
 returns-in-NeedsLoad-clause-wanted g c = λ kept op old started h.
-    rw c.in-NeedsLoad.is (wanted-left g.R.Receipt.keeps g.R.Receipt.stands g.F.Key.Ord.cmp g.F.Mergeable.parts.joined g.F.Functions.meaning g.F.Functions.code op old c.args.slot c.args.context started c.args.partition.now (g.R.Receipt.stands c.in-NeedsLoad._receipt) c.in-NeedsLoad._address (rw c.in-NeedsLoad.is at h) kept c.known.ensures.sound)
+    rw c.in-NeedsLoad.is (wanted-left g.R.Receipt.keeps g.R.Receipt.stands g.F.Key.Ord.cmp g.F.Mergeable.parts.joined g.F.Functions.meaning g.F.Functions.code op old c.args.slot c.args.context started c.args.partition.now (g.R.Receipt.stands c.in-NeedsLoad._receipt) c.in-NeedsLoad._address (rw c.in-NeedsLoad.is at h) kept c.facts.ensures.sound)
 
 pub returns-in-Next-clause-wanted : goal.returns-in-Next-clause-wanted
 returns-in-Next-clause-wanted g c = λ kept op old started h. rw c.in-Next.is (omega arith)

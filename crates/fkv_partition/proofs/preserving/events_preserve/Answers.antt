@@ -9,11 +9,11 @@ returns g c = record {
       (λ e key value limit low cleared. c.cleared_stay.ensures.appended cmp old.records e key value limit low cleared)
       (λ x value told e d last. (
         replaced-some cmp join f code old slot at x value told e order s
-            (λ k w entered met. c.meetings_tell.ensures.mutable keeps cmp join code old.records k slot w order s.traced s.stood entered met)
-            (λ k w entered m. c.meetings_tell.ensures.unfrozen keeps cmp join code old.records k slot w s.traced s.stood entered m) d last,
+            (λ k w entered met. c.meetings_tell.ensures.mutable keeps cmp join code old.records k slot w order s.traced s.resolved entered met)
+            (λ k w entered m. c.meetings_tell.ensures.unfrozen keeps cmp join code old.records k slot w s.traced s.resolved entered m) d last,
         replaced-high cmp join f code old slot at x value told e order s
-            (λ k w entered met. c.meetings_tell.ensures.mutable keeps cmp join code old.records k slot w order s.traced s.stood entered met)
-            (λ k w entered m. c.meetings_tell.ensures.unfrozen keeps cmp join code old.records k slot w s.traced s.stood entered m) d last,
+            (λ k w entered met. c.meetings_tell.ensures.mutable keeps cmp join code old.records k slot w order s.traced s.resolved entered met)
+            (λ k w entered m. c.meetings_tell.ensures.unfrozen keeps cmp join code old.records k slot w s.traced s.resolved entered m) d last,
       ))
       (λ a value some high k b still. c.records_change.ensures.kept cmp keeps code old.records a value k b s.traced some high still)
       (λ a value limit low cleared. c.cleared_stay.ensures.changed cmp old.records a value limit low cleared)
@@ -32,7 +32,7 @@ returns g c = record {
   flushes = λ keeps cmp join code old new st bytes now result s h. flushes-bear cmp join code old s new st bytes now result h;
   truncates = λ keeps cmp join code old new page now result order s clear h then.
       truncates-bear cmp join code old s new page now result order clear
-      (λ low limit cleared. c.cleared_stay.ensures.dropped cmp old.records low limit cleared) then.traced then.stood h;
+      (λ low limit cleared. c.cleared_stay.ensures.dropped cmp old.records low limit cleared) then.traced then.resolved h;
   appends = λ keeps cmp join code v slot at now write has s w.
       appends-bear cmp join code v s slot at now write has
       (λ e key payload now_has limit low cleared. c.cleared_stay.ensures.appended cmp v.records e key payload now_has limit low cleared) w;

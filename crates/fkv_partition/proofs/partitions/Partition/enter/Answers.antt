@@ -13,7 +13,7 @@ returns-clause-event g c =
     let new = c.enter_slot.new.self in
     let does = c.enter_slot.ensures.effect in
     let seats = c.sessions_preserved.ensures.enters v new c.args.now c.enter_slot.result does in
-    (if-ok c.enter_slot.result (λ slot q. quiet-event v new c.args.now seats.0.cleared (relocations-stay v new c.known.ensures.sound seats.0.relocations (all-stay v new seats.1)) q) c.enter_slot.ensures.event)
+    (if-ok c.enter_slot.result (λ slot q. quiet-event v new c.args.now seats.0.cleared (relocations-stay v new c.facts.ensures.sound seats.0.relocations (all-stay v new seats.1)) q) c.enter_slot.ensures.event)
 
 pub returns-clause-pends : goal.returns-clause-pends
-returns-clause-pends g c = (c.pendings_stay.ensures.enters g.R.Receipt.keeps g.F.Key.Ord.cmp g.F.Mergeable.parts.joined g.F.Functions.code c.args.self.now c.enter_slot.new.self c.args.now c.enter_slot.result c.known.ensures.sound c.enter_slot.ensures.effect)
+returns-clause-pends g c = (c.pendings_stay.ensures.enters g.R.Receipt.keeps g.F.Key.Ord.cmp g.F.Mergeable.parts.joined g.F.Functions.code c.args.self.now c.enter_slot.new.self c.args.now c.enter_slot.result c.facts.ensures.sound c.enter_slot.ensures.effect)

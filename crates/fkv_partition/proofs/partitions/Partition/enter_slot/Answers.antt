@@ -26,7 +26,7 @@ invariant_of-self-2 g c =
     let up : IsRaised was.offsets regions.offsets = record { closed = omega arith; head = omega arith; safe = omega arith; read_only = omega arith } in
     rw c.in-Ok.ensures.effect
     (whole-records v c.self.invariant (with_regions v.records regions) v.contexts c.args.now
-    (sound-regions sound regions c.args.now (rw c.in-Ok.ensures.effect at c.known.ensures.traced) (rw c.in-Ok.ensures.effect at c.known.ensures.stood) up
+    (sound-regions sound regions c.args.now (rw c.in-Ok.ensures.effect at c.facts.ensures.traced) (rw c.in-Ok.ensures.effect at c.facts.ensures.resolved) up
     (λ t d x low here. renewed-stays was.epochs.slots c.in-Ok.slot t was.epochs.epoch (sound.housed t d x low here)))
     (borne-regions g.F.Key.Ord.cmp g.F.Mergeable.parts.joined g.F.Functions.code v sound (record v { records = with_regions v.records regions; moment = c.args.now }) regions up refl)
     refl (λ i x h. h))

@@ -13,7 +13,7 @@ returns-clause-event g c =
     let new = c.keep_receipt.new.self in
     let does = c.keep_receipt.ensures.effect in
     let seats = c.sessions_preserved.ensures.flushes v new _ _ c.args.now c.keep_receipt.result does in
-    (on-ok c.keep_receipt.result (λ q. quiet-event v new c.args.now seats.0.cleared (relocations-stay v new c.known.ensures.sound seats.0.relocations (all-stay v new seats.1)) q) c.keep_receipt.ensures.event)
+    (on-ok c.keep_receipt.result (λ q. quiet-event v new c.args.now seats.0.cleared (relocations-stay v new c.facts.ensures.sound seats.0.relocations (all-stay v new seats.1)) q) c.keep_receipt.ensures.event)
 
 pub returns-clause-pends : goal.returns-clause-pends
 returns-clause-pends g c = (c.pendings_stay.ensures.flushes g.F.Key.Ord.cmp c.args.self.now c.keep_receipt.new.self _ _ c.args.now c.keep_receipt.result c.keep_receipt.ensures.effect)

@@ -16,17 +16,17 @@ returns-else-holds_relocation-clause-event g c = λ yes_keeps.
 pub returns-else-holds_relocation-clause-others : goal.returns-else-holds_relocation-clause-others
 returns-else-holds_relocation-clause-others g c = λ yes_keeps.
     let ord = g.met.F.Key.Ord in
-    let known = g.met.F.Key.FixedKey in
-    let order = key_order g.F.Key.PartialEq.eq g.F.Key.Ord.cmp ord.matches_eq known.exact ord.total in
-    c.pendings_stay.ensures.goes g.R.Receipt.keeps g.R.Receipt.stands g.F.Key.Ord.cmp g.F.Mergeable.parts.joined g.F.Functions.meaning g.F.Functions.code c.args.self.now c.go_on_key.new.self c.args.slot c.args.context c.args.now c.go_on_key.result yes_keeps order c.known.ensures.sound c.go_on_key.ensures.effect
+    let facts = g.met.F.Key.FixedKey in
+    let order = key_order g.F.Key.PartialEq.eq g.F.Key.Ord.cmp ord.matches_eq facts.exact ord.total in
+    c.pendings_stay.ensures.goes g.R.Receipt.keeps g.R.Receipt.stands g.F.Key.Ord.cmp g.F.Mergeable.parts.joined g.F.Functions.meaning g.F.Functions.code c.args.self.now c.go_on_key.new.self c.args.slot c.args.context c.args.now c.go_on_key.result yes_keeps order c.facts.ensures.sound c.go_on_key.ensures.effect
 
 pub returns-else-holds_relocation-clause-finds : goal.returns-else-holds_relocation-clause-finds
 returns-else-holds_relocation-clause-finds g c = λ yes_keeps.
     let ord = g.met.F.Key.Ord in
-    let known = g.met.F.Key.FixedKey in
-    let order = key_order g.F.Key.PartialEq.eq g.F.Key.Ord.cmp ord.matches_eq known.exact ord.total in
+    let facts = g.met.F.Key.FixedKey in
+    let order = key_order g.F.Key.PartialEq.eq g.F.Key.Ord.cmp ord.matches_eq facts.exact ord.total in
     goes-finds g.F.Key.Ord.cmp g.F.Functions.meaning c.args.self.now c.go_on_key.new.self c.args.slot c.args.context c.args.now c.if-holds_relocation.ensures.none (c.sessions_preserved.ensures.goes g.R.Receipt.stands g.F.Key.Ord.cmp g.F.Mergeable.parts.joined g.F.Functions.meaning g.F.Functions.code c.args.self.now c.go_on_key.new.self c.args.slot c.args.context c.args.now c.go_on_key.result c.go_on_key.ensures.effect).0 c.go_on_key.result
-    (λ p e. c.pendings_stay.ensures.finds g.R.Receipt.keeps g.R.Receipt.stands g.F.Key.Ord.cmp g.F.Mergeable.parts.joined g.F.Functions.meaning g.F.Functions.code c.args.self.now c.go_on_key.new.self c.args.slot c.args.context c.args.now p order c.known.ensures.sound (rw e at c.go_on_key.ensures.effect))
+    (λ p e. c.pendings_stay.ensures.finds g.R.Receipt.keeps g.R.Receipt.stands g.F.Key.Ord.cmp g.F.Mergeable.parts.joined g.F.Functions.meaning g.F.Functions.code c.args.self.now c.go_on_key.new.self c.args.slot c.args.context c.args.now p order c.facts.ensures.sound (rw e at c.go_on_key.ensures.effect))
 
 pub returns-else-holds_relocation-clause-cleared : goal.returns-else-holds_relocation-clause-cleared
 returns-else-holds_relocation-clause-cleared g c = λ told. rw c.if-holds_relocation.ensures.none tt

@@ -12,7 +12,7 @@ returns-else-holds_relocation-clause-event g c = λ yes_keeps.
 
 pub returns-else-holds_relocation-clause-others : goal.returns-else-holds_relocation-clause-others
 returns-else-holds_relocation-clause-others g c = λ yes_keeps.
-    c.pendings_stay.ensures.installs g.R.Receipt.keeps g.F.Key.Ord.cmp g.F.Mergeable.parts.joined g.F.Functions.meaning g.F.Functions.code c.args.self.now c.install_on_key.new.self c.args.slot c.args.context c.args.built c.args.now c.install_on_key.result yes_keeps c.known.ensures.sound c.install_on_key.ensures.effect
+    c.pendings_stay.ensures.installs g.R.Receipt.keeps g.F.Key.Ord.cmp g.F.Mergeable.parts.joined g.F.Functions.meaning g.F.Functions.code c.args.self.now c.install_on_key.new.self c.args.slot c.args.context c.args.built c.args.now c.install_on_key.result yes_keeps c.facts.ensures.sound c.install_on_key.ensures.effect
 
 pub returns-else-holds_relocation-clause-finds : goal.returns-else-holds_relocation-clause-finds
 returns-else-holds_relocation-clause-finds g c = λ yes_keeps.

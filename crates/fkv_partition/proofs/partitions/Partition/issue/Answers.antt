@@ -21,7 +21,7 @@ returns-in-None-clause-effect g c = Issues.relocation (keyed-not c.args.op (sym 
 
 pub returns-in-None-clause-event : goal.returns-in-None-clause-event
 returns-in-None-clause-event g c =
-    relocates-event g.F.Functions.code c.args.self.now c.relocate.new.self c.args.slot c.args.now c.args.op c.relocate.result (keyed-not c.args.op (sym c.keyed.ensures ∙ c.in-None.is)) c.known.ensures.sound c.relocate.ensures.within c.relocate.ensures.effect
+    relocates-event g.F.Functions.code c.args.self.now c.relocate.new.self c.args.slot c.args.now c.args.op c.relocate.result (keyed-not c.args.op (sym c.keyed.ensures ∙ c.in-None.is)) c.facts.ensures.sound c.relocate.ensures.within c.relocate.ensures.effect
 
 pub returns-in-None-clause-pends : goal.returns-in-None-clause-pends
 returns-in-None-clause-pends g c = λ yes_keeps. relocates-pend g.F.Key.Ord.cmp c.args.self.now c.relocate.new.self c.args.slot c.args.now c.relocate.result c.relocate.ensures.effect

@@ -25,7 +25,7 @@ invariant_of-self-2 g c =
     let st = g.R.Receipt.stands c.args.written.receipt in
     rw made.done
     (whole-records v c.self.invariant (with_receipt v.records st) v.contexts c.args.now
-    (sound-flushed sound _ c.args.now (rw made.done at c.known.ensures.traced) (rw made.done at c.known.ensures.stood))
+    (sound-flushed sound _ c.args.now (rw made.done at c.facts.ensures.traced) (rw made.done at c.facts.ensures.resolved))
     (borne-by cmp join code v sound (record v { records = with_receipt v.records st; moment = c.args.now }) (with_receipt v.records st) refl (grown-flushed cmp join code v.records sound.traced st) (know-flushed cmp join code v.records sound.traced st))
     refl (λ i x h. h))
 

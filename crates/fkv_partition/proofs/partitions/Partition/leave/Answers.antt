@@ -26,7 +26,7 @@ returns-clause-event g c =
     let does = c.leave_slot.ensures.effect in
     let seats = c.sessions_preserved.ensures.leaves g.R.Receipt.keeps v new c.args.slot c.args.now c.leave_slot.result does in
     let stay = left-stay v new c.args.slot seats.1 (λ d x e. false≢true (sym c.if-has_relocation.false ∙ c.has_relocation.ensures.1 (d, x, e))) in
-    (on-ok c.leave_slot.result (λ q. quiet-event v new c.args.now seats.0.cleared (relocations-stay v new c.known.ensures.sound seats.0.relocations stay) q) c.leave_slot.ensures.event)
+    (on-ok c.leave_slot.result (λ q. quiet-event v new c.args.now seats.0.cleared (relocations-stay v new c.facts.ensures.sound seats.0.relocations stay) q) c.leave_slot.ensures.event)
 
 pub returns-clause-pends : goal.returns-clause-pends
 returns-clause-pends g c = (λ yes_keeps. c.pendings_stay.ensures.leaves g.R.Receipt.keeps g.F.Key.Ord.cmp c.args.self.now c.leave_slot.new.self c.args.slot c.args.now c.leave_slot.result yes_keeps c.leave_slot.ensures.effect)

@@ -19,7 +19,7 @@ invariant_of-self-2 g c =
     let made = c.in-Ok.ensures in
     let v = (view_of g.F.Mergeable.MERGES c.self.inside.number c.self.inside.count c.self.inside.records c.self.inside.contexts.items c.self.inside.moment c.self.inside.cleared) in
     whole-regions v c.self.invariant c.shift_head.new.self (with_head v.records.log.regions (start_at v.records.log.regions.bits c.args.page)) c.args.now made.raised made.effect
-    (sound-moved c.self.invariant.sound c.shift_head.new.self _ c.args.now c.known.ensures.traced c.known.ensures.stood made.effect made.raised
+    (sound-moved c.self.invariant.sound c.shift_head.new.self _ c.args.now c.facts.ensures.traced c.facts.ensures.resolved made.effect made.raised
     (λ t d x low here. slots-moved c.self.inside.records c.shift_head.new.self _ t made.effect (c.self.invariant.sound.housed t d x low here)))
 
 pub returns-clause-effect : goal.returns-clause-effect

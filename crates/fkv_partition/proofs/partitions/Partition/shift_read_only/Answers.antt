@@ -13,7 +13,7 @@ returns-clause-event g c =
     let new = c.move_read_only.new.self in
     let does = c.move_read_only.ensures.effect in
     let seats = c.sessions_preserved.ensures.shifts g.R.Receipt.keeps v new c.args.page c.args.now c.move_read_only.result does in
-    (on-ok c.move_read_only.result (λ q. quiet-event v new c.args.now seats.0.cleared (relocations-stay v new c.known.ensures.sound seats.0.relocations (all-stay v new seats.1)) q) c.move_read_only.ensures.event)
+    (on-ok c.move_read_only.result (λ q. quiet-event v new c.args.now seats.0.cleared (relocations-stay v new c.facts.ensures.sound seats.0.relocations (all-stay v new seats.1)) q) c.move_read_only.ensures.event)
 
 pub returns-clause-pends : goal.returns-clause-pends
 returns-clause-pends g c = (λ yes_keeps. c.pendings_stay.ensures.shifts g.R.Receipt.keeps g.F.Key.Ord.cmp c.args.self.now c.move_read_only.new.self c.args.page c.args.now c.move_read_only.result yes_keeps c.move_read_only.ensures.effect)
