@@ -239,10 +239,6 @@ impl<F: Mergeable, D: Disk, H: Recorder<F>> Store<F, D, H> {
             Ok(owns) => owns,
             Err(refused) => return Err(refused),
         };
-        let told = match zeros(alloc, count) {
-            Ok(told) => told,
-            Err(refused) => return Err(refused),
-        };
         let sessions = match no_sessions(alloc, count) {
             Ok(sessions) => sessions,
             Err(refused) => return Err(refused),
@@ -255,7 +251,6 @@ impl<F: Mergeable, D: Disk, H: Recorder<F>> Store<F, D, H> {
             store: self.id,
             worker,
             owns,
-            told,
             sessions,
             seen: SeenMoves { any: 0, each },
             readers,
