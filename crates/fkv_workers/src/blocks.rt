@@ -11,11 +11,11 @@ ghost use Rattle.fkv_store.specs.Stores.{IsTold};
 ghost use Rattle.fkv_workers.specs.Spilling.{IsSpilledFrom, IsSpillEnding};
 ghost use Rattle.fkv_workers.specs.Works.{IsMadeOf, IsRunnable, IsShared, IsUnread};
 
-use crate::dealing::works;
 use crate::keeping::keeper_of;
 use crate::running::is_runnable;
 use crate::sharing::{SharedFeeds, Tickets};
 use crate::tabling::{spilled, tabled};
+use crate::worker_jobs::jobs;
 use crate::working::WorkerResult;
 use fkv_blocks::{Feeds, Origin, ReadFeeds, Stop, Ticket};
 use fkv_device::Disk;
@@ -68,22 +68,22 @@ fn first_of(first: Option<Stop>, other: Stop) -> Stop
 /// What workers hand back, apart. Refused: `NoMemory`.
 fn taken_apart<B: Origin, F: Mergeable, D: Disk, H: Recorder<F>>(
     alloc: Global,
-    worked: Vec<WorkerResult<F, D, H, Tickets>>,
+    results: Vec<WorkerResult<F, D, H, Tickets>>,
 ) -> Result<WorkerResults<F, D, H>, Refused>
-    requires read { All (λ w. WereRead B.feeds w.had.tickets.items) worked.items }
+    requires read { All (λ w. WereRead B.feeds w.had.tickets.items) results.items }
     requires stops { All (λ w. IfSome w.fault (λ why. IsTold why ⊎ IsStop B.feeds most_rows
-        (record { feed = w.had.feed; low = w.had.low; refused = why; has_failed = w.had.has_failed }))) worked.items }
-    ensures passes { IfOk result (λ p. p.passes.items ≡ map (λ w. w.pass) worked.items) }
-    ensures hands { IfOk result (λ p. map (λ hand. hand.items) p.hands.items ≡ map (λ w. w.had.tickets.items) worked.items) }
+        (record { feed = w.had.feed; low = w.had.low; refused = why; has_failed = w.had.has_failed }))) results.items }
+    ensures passes { IfOk result (λ p. p.passes.items ≡ map (λ w. w.pass) results.items) }
+    ensures hands { IfOk result (λ p. map (λ hand. hand.items) p.hands.items ≡ map (λ w. w.had.tickets.items) results.items) }
     ensures read { IfOk result (λ p. All (WereRead B.feeds) (map (λ hand. hand.items) p.hands.items)) }
-    ensures none { IfOk result (λ p. p.first ≡ None → All (λ fault. fault ≡ None) (map (λ w. w.fault) worked.items)) }
+    ensures none { IfOk result (λ p. p.first ≡ None → All (λ fault. fault ≡ None) (map (λ w. w.fault) results.items)) }
     ensures first { IfOk result (λ p. IfSome p.first (λ stop. IsTold stop.refused ⊎ IsStop B.feeds most_rows stop)) }
     ensures only { IfErr result (λ e. e ≡ Refused.NoMemory) }
 {
     let mut passes = Vec::new(alloc);
     let mut hands = Vec::new(alloc);
     let mut first = None;
-    for one in worked {
+    for one in results {
         let WorkerResult { pass, had, fault } = one;
         let Tickets {
             tickets,
@@ -224,7 +224,7 @@ fn shares_of<'a, S: Source + Drop, B: Origin>(
 
 /// The passes of workers in threads of their own that have read these feeds into a store, beside a keeper: each block is read by one of
 /// them, and each row is an update there, or, only where the mode asks for merges, a merge.
-fn worked<
+fn run_workers<
     S: Source + Drop + Send,
     B: Origin + Send + Sync,
     F: Mergeable + OrderFree<Key = Name, Input = i64> + Send + Sync,
@@ -265,15 +265,15 @@ where
         Ok(shares) => shares,
         Err(refused) => return Err(refused),
     };
-    let works = match works(rt, alloc, store, gate, mode, shares) {
-        Ok(works) => works,
+    let jobs = match jobs(rt, alloc, store, gate, mode, shares) {
+        Ok(jobs) => jobs,
         Err(refused) => return Err(refused),
     };
     let keeper = match keeper_of(alloc, store, gate, page_bits) {
         Ok(keeper) => keeper,
         Err(refused) => return Err(refused),
     };
-    match run_jobs(rt, alloc, &keeper, works) {
+    match run_jobs(rt, alloc, &keeper, jobs) {
         Ok(ran) => joined(alloc, shared, ran, feeds),
         Err(refused) => Err(refused),
     }
@@ -330,7 +330,7 @@ where
         Err(refused) => return Err(refused),
     };
     let bits = config.page_bits;
-    let passes = match worked::<S, Brand, F, D, H, G, T>(
+    let passes = match run_workers::<S, Brand, F, D, H, G, T>(
         rt, alloc, feeds, workers, &store, bits, gate, mode,
     ) {
         Ok(passes) => passes,

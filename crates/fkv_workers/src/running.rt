@@ -7,10 +7,10 @@ ghost use Rattle.fkv_feeds.specs.Tables.{IsTableOf};
 ghost use Rattle.fkv_functions.specs.declared.refusals.Refused.TheVariants as refused;
 ghost use Rattle.fkv_workers.specs.Works.{HaveRead, IsFedBy, IsFirst, IsFirstFault, IsMadeBy, IsRunnable, IsUnmade, IsUnworked};
 
-use crate::dealing::{passes_of, works};
-use crate::deals::deal;
+use crate::feed_shares::share_out;
 use crate::keeping::keeper_of;
 use crate::tabling::tabled;
+use crate::worker_jobs::{jobs, passes_of};
 use crate::working::WorkerResult;
 use fkv_device::Disk;
 use fkv_feeds::{RowMode, TableRun};
@@ -72,7 +72,7 @@ struct FinishedPasses<F: Mergeable, D: Disk, H: Recorder<F>> {
 
 /// The passes of workers in threads of their own that have read all feeds into a store, beside a keeper: each row is an update
 /// there, or, only where the mode asks for merges, a merge.
-fn worked<
+fn run_workers<
     S: Source + Drop + Send,
     F: Mergeable + OrderFree<Key = Name, Input = i64> + Send + Sync,
     D: Disk + Send,
@@ -105,19 +105,19 @@ where
     ensures refused { IfErr result (IsUnworked S.remaining S.failures workers feeds.items) }
     ensures first { IfErr result (IsFirst S.remaining S.failures workers feeds.items) }
 {
-    let hands = match deal(alloc, feeds, workers) {
+    let hands = match share_out(alloc, feeds, workers) {
         Ok(hands) => hands,
         Err(refused) => return Err(refused),
     };
-    let works = match works(rt, alloc, store, gate, mode, hands) {
-        Ok(works) => works,
+    let jobs = match jobs(rt, alloc, store, gate, mode, hands) {
+        Ok(jobs) => jobs,
         Err(refused) => return Err(refused),
     };
     let keeper = match keeper_of(alloc, store, gate, page_bits) {
         Ok(keeper) => keeper,
         Err(refused) => return Err(refused),
     };
-    let ran = match run_jobs(rt, alloc, &keeper, works) {
+    let ran = match run_jobs(rt, alloc, &keeper, jobs) {
         Ok(ran) => ran,
         Err(refused) => return Err(refused),
     };
@@ -235,7 +235,7 @@ where
         Err(refused) => return Err(refused),
     };
     let bits = config.page_bits;
-    let fed = match worked(rt, alloc, feeds, workers, &store, bits, gate, mode) {
+    let fed = match run_workers(rt, alloc, feeds, workers, &store, bits, gate, mode) {
         Ok(fed) => fed,
         Err(refused) => return Err(refused),
     };

@@ -309,14 +309,14 @@ fn read_by<
 fn rest_after<F: Mergeable, D: Disk, H: Recorder<F>, R: Drop>(
     rt: &impl Wait,
     store: &Store<F, D, H>,
-    worked: WorkerResult<F, D, H, R>,
+    so_far: WorkerResult<F, D, H, R>,
 ) -> WorkerResult<F, D, H, R>
-    ensures same { result.pass ≡ worked.pass }
-    ensures had { result.had ≡ worked.had }
-    ensures first { IfSome worked.fault (λ why. result.fault ≡ Some why) }
-    ensures told { worked.fault ≡ None → IfSome result.fault IsTold }
+    ensures same { result.pass ≡ so_far.pass }
+    ensures had { result.had ≡ so_far.had }
+    ensures first { IfSome so_far.fault (λ why. result.fault ≡ Some why) }
+    ensures told { so_far.fault ≡ None → IfSome result.fault IsTold }
 {
-    let WorkerResult { pass, had, fault } = worked;
+    let WorkerResult { pass, had, fault } = so_far;
     let mut pass = pass;
     let rested = pass.rest(rt, store);
     match (fault, rested) {
@@ -347,8 +347,8 @@ fn run_work<
     ensures told { C.tells asked.entry.share result.had }
 {
     let store = asked.store;
-    let worked = read_by::<W, C, F, D, H, G, Brand>(rt, asked);
-    rest_after(rt, store, worked)
+    let so_far = read_by::<W, C, F, D, H, G, Brand>(rt, asked);
+    rest_after(rt, store, so_far)
 }
 
 impl<'a, C: Share, F: Mergeable<Key = Name, Input = i64>, D: Disk, H: Recorder<F>, G: Gate> Job

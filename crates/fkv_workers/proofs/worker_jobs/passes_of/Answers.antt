@@ -5,7 +5,7 @@ use Rattle.std.proofs.lemmas.List.{map-id, map_push, map-append}
 use Rattle.std.proofs.lemmas.List.Elements.{All-push}
 use Rattle.std.proofs.lemmas.Iterator.Adapters.{YieldsList-from_vec}
 use Rattle.std.proofs.lemmas.Iterator.Consumers.{YieldsList-end}
-use Rattle.fkv_workers.proofs.dealing.passes_of.Goals as goal
+use Rattle.fkv_workers.proofs.worker_jobs.passes_of.Goals as goal
 
 pub loop-one-preserved : goal.loop-one-preserved
 loop-one-preserved g c =
@@ -27,7 +27,7 @@ pub returns-in-Some-fault-clause-refused : goal.returns-in-Some-fault-clause-ref
 returns-in-Some-fault-clause-refused g c =
     let old = c.loop-one.invariant in
     let turn : into_iter_items c.loop-one.one-iterator ≡ c.in-Some.one ∷ into_iter_items c.next.new.self = c.in-Some.ensures.steps.0 in
-    let all : into_iter_items c.into_iter-one-iterator.result ≡ c.args.worked.items = c.into_iter-one-iterator.ensures.into_iter_gives.0 in
+    let all : into_iter_items c.into_iter-one-iterator.result ≡ c.args.results.items = c.into_iter-one-iterator.ensures.into_iter_gives.0 in
     let rest = map (λ w. w.fault) (into_iter_items c.next.new.self) in
     let is = ap (map (λ w. w.fault)) (sym all ∙ (sym old.whole ∙ ap (λ l. c.loop-one.yielded ++ l) turn)) in
     inr (record {
@@ -40,13 +40,13 @@ returns-in-Some-fault-clause-refused g c =
 pub returns-clause-ok : goal.returns-clause-ok
 returns-clause-ok g c =
     let gives = c.into_iter-one-iterator.ensures.into_iter_gives in
-    let road = YieldsList-from_vec c.args.worked.items gives.0 (gives.1 ∙ c.args.worked.ok.0) in
+    let road = YieldsList-from_vec c.args.results.items gives.0 (gives.1 ∙ c.args.results.ok.0) in
     let end = YieldsList-end road c.loop-one.yielded c.loop-one.one-iterator c.loop-one.yielded_by c.next.result c.next.new.self c.in-None.is c.next.ensures.steps in
     c.loop-one.invariant.passes ∙ ap (map (λ w. w.pass)) (sym (map-id c.loop-one.yielded) ∙ end.0)
 
 pub returns-clause-none : goal.returns-clause-none
 returns-clause-none g c =
     let gives = c.into_iter-one-iterator.ensures.into_iter_gives in
-    let road = YieldsList-from_vec c.args.worked.items gives.0 (gives.1 ∙ c.args.worked.ok.0) in
+    let road = YieldsList-from_vec c.args.results.items gives.0 (gives.1 ∙ c.args.results.ok.0) in
     let end = YieldsList-end road c.loop-one.yielded c.loop-one.one-iterator c.loop-one.yielded_by c.next.result c.next.new.self c.in-None.is c.next.ensures.steps in
     subst (λ ws. All (λ fault. fault ≡ None) (map (λ w. w.fault) ws)) (sym (map-id c.loop-one.yielded) ∙ end.0) c.loop-one.invariant.none

@@ -20,41 +20,41 @@ fn keep<T: Drop>(items: &mut Vec<T>, item: T) -> Result<(), Refused>
 }
 
 /// So many hands with nothing in them. Refused: `NoMemory`.
-fn hands<T: Drop>(alloc: Global, workers: usize) -> Result<Vec<FeedShare<T>>, Refused>
-    ensures ok { IfOk result (λ hands. map (λ hand. hand.items) hands.items ≡ replicate workers []) }
+fn shares<T: Drop>(alloc: Global, workers: usize) -> Result<Vec<FeedShare<T>>, Refused>
+    ensures ok { IfOk result (λ shares. map (λ share. share.items) shares.items ≡ replicate workers []) }
     ensures only { IfErr result (λ refused. refused ≡ Refused.NoMemory) }
 {
-    let mut hands = Vec::new(alloc);
+    let mut shares = Vec::new(alloc);
     for _ in 0..workers {
-        match keep(&mut hands, Vec::new(alloc)) {
+        match keep(&mut shares, Vec::new(alloc)) {
             Ok(()) => {}
             Err(refused) => return Err(refused),
         }
     }
-    Ok(hands)
+    Ok(shares)
 }
 
 /// Deals items out to so many workers, one in turn. Refused: `NoMemory`.
-pub fn deal<T: Drop>(
+pub fn share_out<T: Drop>(
     alloc: Global,
     items: Vec<T>,
     workers: usize,
 ) -> Result<Vec<FeedShare<T>>, Refused>
     requires { 0 < workers }
-    ensures ok { IfOk result (λ hands. AreDealt workers items.items (map (λ hand. hand.items) hands.items)) }
+    ensures ok { IfOk result (λ shares. AreDealt workers items.items (map (λ share. share.items) shares.items)) }
     ensures only { IfErr result (λ refused. refused ≡ Refused.NoMemory) }
 {
-    let mut hands = match hands(alloc, workers) {
-        Ok(hands) => hands,
+    let mut shares = match shares(alloc, workers) {
+        Ok(shares) => shares,
         Err(refused) => return Err(refused),
     };
     let mut place = 0;
     for item in items {
-        match keep(&mut hands[place % workers], (place, item)) {
+        match keep(&mut shares[place % workers], (place, item)) {
             Ok(()) => {}
             Err(refused) => return Err(refused),
         }
         place += 1;
     }
-    Ok(hands)
+    Ok(shares)
 }

@@ -5,7 +5,7 @@ use Rattle.std.proofs.lemmas.Iterator.Adapters.{YieldsList-from_vec}
 use Rattle.std.proofs.lemmas.Iterator.Consumers.{YieldsList-end}
 use Rattle.fkv_workers.specs.Works.{StandsFor}
 use Rattle.fkv_workers.proofs.StandLemmas.{stands_fresh}
-use Rattle.fkv_workers.proofs.dealing.works.Goals as goal
+use Rattle.fkv_workers.proofs.worker_jobs.jobs.Goals as goal
 
 pub loop-share-preserved : goal.loop-share-preserved
 loop-share-preserved g c =
@@ -13,16 +13,16 @@ loop-share-preserved g c =
     record {
       shares =
           rw c.in-Ok-push.ensures.items
-          (map_push (λ work. work.share) c.loop-share.works.items _ ∙ ap (λ l. l ++ c.in-Some.share ∷ []) old.shares);
+          (map_push (λ job. job.share) c.loop-share.jobs.items _ ∙ ap (λ l. l ++ c.in-Some.share ∷ []) old.shares);
       ready =
           rw c.in-Ok-push.ensures.items
-          (All-push (λ work. StandsFor g.H.Recorder.keeps g.F.Functions.code work.mode work.pass [] × (length work.pass.told ≡ work.store.now.count) × (map (λ rows. rows.items) work.waiting.items ≡ replicate work.store.now.count [])) c.loop-share.works.items _ old.ready (
+          (All-push (λ job. StandsFor g.H.Recorder.keeps g.F.Functions.code job.mode job.pass [] × (length job.pass.told ≡ job.store.now.count) × (map (λ rows. rows.items) job.waiting.items ≡ replicate job.store.now.count [])) c.loop-share.jobs.items _ old.ready (
             stands_fresh g.H.Recorder.keeps g.F.Functions.code c.args.mode c.args.store.now c.in-Ok.pass c.requires c.in-Ok.ensures.ok,
             ap (λ p. length p.told) c.in-Ok.ensures.ok ∙ length-replicate c.args.store.now.count 0,
             c.in-Ok-none_wait.ensures.ok ∙ ap (λ n. replicate n []) c.partitions.ensures,
           ));
       modes =
-          rw c.in-Ok-push.ensures.items (All-push (λ work. work.mode ≡ c.args.mode) c.loop-share.works.items _ old.modes refl);
+          rw c.in-Ok-push.ensures.items (All-push (λ job. job.mode ≡ c.args.mode) c.loop-share.jobs.items _ old.modes refl);
     }
 
 pub returns-clause-shares : goal.returns-clause-shares

@@ -17,14 +17,7 @@ use std::alloc::Global;
 use std::sync::Wait;
 
 /// The work of each worker: its share of the feeds, and a pass of its own. Refused: `NoMemory`, and as the device refuses to open.
-pub(crate) fn works<
-    'a,
-    C: Share,
-    F: Mergeable<Key = Name, Input = i64>,
-    D: Disk,
-    H: Recorder<F>,
-    G,
->(
+pub(crate) fn jobs<'a, C: Share, F: Mergeable<Key = Name, Input = i64>, D: Disk, H: Recorder<F>, G>(
     rt: &impl Wait,
     alloc: Global,
     store: &'a Store<F, D, H>,
@@ -33,14 +26,14 @@ pub(crate) fn works<
     shares: Vec<C>,
 ) -> Result<Vec<WorkerJob<'a, C, F, D, H, G>>, Refused>
     requires { 0 < store.now.count }
-    ensures shares { IfOk result (λ works. map (λ work. work.share) works.items ≡ shares.items) }
-    ensures ready { IfOk result (λ works. All (λ work. StandsFor H.keeps F.code work.mode work.pass []
-        × (length work.pass.told ≡ work.store.now.count)
-        × (map (λ rows. rows.items) work.waiting.items ≡ replicate work.store.now.count [])) works.items) }
-    ensures modes { IfOk result (λ works. All (λ work. work.mode ≡ mode) works.items) }
+    ensures shares { IfOk result (λ jobs. map (λ job. job.share) jobs.items ≡ shares.items) }
+    ensures ready { IfOk result (λ jobs. All (λ job. StandsFor H.keeps F.code job.mode job.pass []
+        × (length job.pass.told ≡ job.store.now.count)
+        × (map (λ rows. rows.items) job.waiting.items ≡ replicate job.store.now.count [])) jobs.items) }
+    ensures modes { IfOk result (λ jobs. All (λ job. job.mode ≡ mode) jobs.items) }
     ensures only { IfErr result IsUnopened }
 {
-    let mut works = Vec::new(alloc);
+    let mut jobs = Vec::new(alloc);
     let mut worker = 0u32;
     for share in shares {
         let pass = match store.pass(rt, alloc, worker) {
@@ -51,7 +44,7 @@ pub(crate) fn works<
             Ok(waiting) => waiting,
             Err(refused) => return Err(refused),
         };
-        let work = WorkerJob {
+        let job = WorkerJob {
             alloc,
             store,
             gate,
@@ -60,25 +53,25 @@ pub(crate) fn works<
             waiting,
             share,
         };
-        let Ok(()) = works.push(work) else {
+        let Ok(()) = jobs.push(job) else {
             return Err(Refused::NoMemory);
         };
         worker = worker.wrapping_add(1);
     }
-    Ok(works)
+    Ok(jobs)
 }
 
 /// The passes of workers, in order. Refused: as the first of them stopped that did before its feeds ended, and `NoMemory`.
 pub(crate) fn passes_of<F: Mergeable, D: Disk, H: Recorder<F>, R: Drop>(
     alloc: Global,
-    worked: Vec<WorkerResult<F, D, H, R>>,
+    results: Vec<WorkerResult<F, D, H, R>>,
 ) -> Result<Vec<Pass<F, D, H>>, Refused>
-    ensures ok { IfOk result (λ passes. passes.items ≡ map (λ w. w.pass) worked.items) }
-    ensures none { OnOk result (All (λ fault. fault ≡ None) (map (λ w. w.fault) worked.items)) }
-    ensures refused { IfErr result (λ e. (e ≡ refused.NoMemory) ⊎ IsFirstFault (map (λ w. w.fault) worked.items) e) }
+    ensures ok { IfOk result (λ passes. passes.items ≡ map (λ w. w.pass) results.items) }
+    ensures none { OnOk result (All (λ fault. fault ≡ None) (map (λ w. w.fault) results.items)) }
+    ensures refused { IfErr result (λ e. (e ≡ refused.NoMemory) ⊎ IsFirstFault (map (λ w. w.fault) results.items) e) }
 {
     let mut passes = Vec::new(alloc);
-    for one in worked {
+    for one in results {
         let WorkerResult { pass, fault, .. } = one;
         match fault {
             None => {}
