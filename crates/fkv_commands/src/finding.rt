@@ -1,6 +1,6 @@
 //! Finding a row in its file again.
 use csv::{ByteRecord, Reader, ReaderBuilder};
-use fkv_feed_rows::amounts::amount;
+use fkv_feed_rows::rows::amount;
 use fkv_feed_rows::row_of;
 use std::alloc::Global;
 use std::fs::{self, Files};

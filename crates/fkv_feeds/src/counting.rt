@@ -1,5 +1,4 @@
-//! How much a run did.
-use crate::modes::RowMode;
+//! How the rows of a run reach the store, and how much it did.
 use fkv_partition::Config;
 use fkv_runs::Table;
 
@@ -31,4 +30,14 @@ pub struct TableRun<V> {
     pub table: Table<V>,
     pub counts: RunCounts,
     pub plan: Plan,
+}
+
+/// How a row is made an update of the store.
+#[derive(Clone, Copy, PartialEq, Eq, Debug)]
+pub enum RowMode {
+    /// As an update: where its key's value is on the device, the page is read.
+    Update,
+    /// As an update where its key's value is in memory; where a page would have to be read, as a merge, which reads none.
+    /// Functions that don't merge make each row an update.
+    Merge,
 }

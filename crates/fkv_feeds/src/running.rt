@@ -16,8 +16,7 @@ ghost use Rattle.fkv_feeds.specs.Refusing.{IsRunnable, TellsStopped, TellsWhyNon
 ghost use Rattle.fkv_local.specs.Causing.{IsCausedBy};
 ghost use Rattle.fkv_local.specs.Listing.{ListsView, IsUnlisted};
 
-use crate::counting::{RunCounts, TableRun};
-use crate::modes::RowMode;
+use crate::counting::{RowMode, RunCounts, TableRun};
 use crate::reading::{RowStore, read_feed};
 use crate::tabling::table_of;
 use fkv_device::Disk;

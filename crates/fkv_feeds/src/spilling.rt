@@ -15,8 +15,7 @@ ghost use Rattle.fkv_feeds.specs.Refusing.{IsRunnable, TellsWhyNone};
 ghost use Rattle.fkv_feeds.specs.Spilling.{ArePairsOf, HasTableOf, IsSpillFault};
 ghost use Rattle.fkv_feeds.specs.Tables.{HaveRows, StandsFor, amounts_of, folded};
 
-use crate::counting::{Plan, RunCounts};
-use crate::modes::RowMode;
+use crate::counting::{Plan, RowMode, RunCounts};
 use crate::reading::{RowStore, read_feed};
 use crate::running::{LIMIT, MOST, opened, read_feeds};
 use fkv_device::Disk;

@@ -18,7 +18,7 @@ use Rattle.fkv_texts.proofs.StoodLemmas.{AreAlike, alike, alike_back, alike-laid
 use Rattle.fkv_texts.proofs.ValueLemmas.{resolved-append}
 use Rattle.fkv_texts.proofs.LastWhere.{last_where-append, last_where-found, last_where-in, none-passes, last_where-narrow, last_where-narrow_none}
 use Rattle.fkv_index.specs.declared.words.Word.{Word}
-use Rattle.fkv_index.specs.declared.places.Place.{Place}
+use Rattle.fkv_index.specs.declared.words.Place.{Place}
 use Rattle.fkv_index.specs.Words.{empty, final_word, address_of, tag_of, is_final}
 use Rattle.fkv_index.specs.Places.{word_at, with_word}
 use Rattle.fkv_index.specs.Entries.{entry_at, StandsAt, IsIndexMap}

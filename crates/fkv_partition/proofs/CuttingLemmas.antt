@@ -15,7 +15,7 @@ use Rattle.fkv_texts.proofs.TextLemmas.{entry_at-in, one_address}
 use Rattle.fkv_texts.proofs.CutLemmas.{cut-leads, cut-from, filter-in}
 use Rattle.fkv_texts.proofs.BaseLemmas.{covered_or_not, covered-passed}
 use Rattle.fkv_index.specs.declared.words.Word.{Word}
-use Rattle.fkv_index.specs.declared.places.Place.{Place}
+use Rattle.fkv_index.specs.declared.words.Place.{Place}
 use Rattle.fkv_index.specs.Words.{empty, address_of, tentative_word, is_empty, is_tentative, is_final}
 use Rattle.fkv_index.specs.Places.{word_at}
 use Rattle.fkv_index.specs.Changes.{Sweeps, SameTentative}

@@ -23,7 +23,7 @@ use Rattle.fkv_texts.specs.Chains.{IsIn}
 use Rattle.fkv_texts.specs.Deltas.{combined}
 use Rattle.fkv_functions.proofs.ListLemmas.{get-append_cases}
 use Rattle.std.specs.BTreeMap.{is_at}
-use Rattle.fkv_index.specs.declared.places.Place.{Place}
+use Rattle.fkv_index.specs.declared.words.Place.{Place}
 use Rattle.fkv_index.specs.declared.words.Word.{Word}
 use Rattle.fkv_index.specs.Words.{address_of, final_word, tag_of, is_final}
 use Rattle.fkv_index.specs.Places.{word_at, with_word, IsPlace}

@@ -22,7 +22,7 @@ use Rattle.fkv_texts.proofs.ChangeLemmas.{entry_at-elsewhere}
 use Rattle.fkv_texts.proofs.CutLemmas.{cut-entry, filter-in}
 use Rattle.fkv_texts.proofs.BaseLemmas.{covered-passed}
 use Rattle.fkv_index.specs.declared.words.Word.{Word}
-use Rattle.fkv_index.specs.declared.places.Place.{Place}
+use Rattle.fkv_index.specs.declared.words.Place.{Place}
 use Rattle.fkv_index.specs.Words.{empty, final_word, tentative_word, tag_of, is_tentative, is_final_of}
 use Rattle.fkv_index.specs.Places.{words_of, word_at, with_word, IsPlace}
 use Rattle.fkv_index.specs.Entries.{place_of}

@@ -13,7 +13,7 @@ use Rattle.fkv_regions.specs.Agree.{IsRaised}
 use Rattle.fkv_texts.specs.Text.{newest}
 use Rattle.fkv_texts.proofs.CutLemmas.{filter-in}
 use Rattle.fkv_regions.specs.RegionsView.{RegionsView}
-use Rattle.fkv_index.specs.declared.places.Place.{Place}
+use Rattle.fkv_index.specs.declared.words.Place.{Place}
 use Rattle.fkv_index.specs.Words.{address_of, is_tentative, is_final}
 use Rattle.fkv_index.specs.Places.{word_at}
 use Rattle.fkv_index.specs.Changes.{SameTentative}

@@ -3,7 +3,7 @@ use Rattle.std.proofs.Common.{◌≡◌, ◌≤◌, inl, inr, ℕ, Bool, true, f
 use Rattle.std.specs.Bool.{OnTrue, OnFalse}
 use Rattle.std.specs.declared.cmp.Ordering.{Ordering}
 use Rattle.fkv_functions.proofs.ListLemmas.{get-set_cases}
-use Rattle.fkv_index.specs.declared.places.Place.{Place}
+use Rattle.fkv_index.specs.declared.words.Place.{Place}
 use Rattle.fkv_regions.specs.Agree.{IsRaised}
 use Rattle.fkv_regions.specs.RegionsView.{RegionsView}
 use Rattle.fkv_lookups.specs.RecordsViews.{RecordsView, IsMoved, confirmed, released}

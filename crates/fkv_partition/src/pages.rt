@@ -1,5 +1,6 @@
 //! Pages of a partition: how the regions move, how pages get to a device, and how the log's start is cut.
-ghost use Rattle.std.specs.Prelude.{◌≡◌, ◌≢◌, ◌+◌, ◌-◌, ◌^◌, ◌<◌, ◌≤◌, ◌↔◌, ◌⊎◌, ℕ, All, List, [], Err, IsTrue, IfOk, IfErr, OnOk, OnErr, Some, length, None, slice_get};
+ghost use Rattle.std.specs.Prelude.{◌≡◌, ◌≢◌, ◌+◌, ◌-◌, ◌^◌, ◌<◌, ◌≤◌, ◌↔◌, ◌⊎◌, ℕ, All, List, [], Err, IsTrue, IfOk, IfErr, OnOk};
+ghost use Rattle.std.specs.Prelude.{OnErr, Some, length, None, slice_get};
 ghost use Rattle.std.specs.BTreeMap.{get, is_at};
 ghost use Rattle.std.specs.Map.{lookup, keys_of};
 ghost use Rattle.std.specs.List.Sorted.{IsStrictlySortedBy};
@@ -15,6 +16,8 @@ ghost use Rattle.fkv_partition.specs.Views.{live_of, partition_of, IsBare, at_mo
 ghost use Rattle.fkv_partition.specs.Effect.{IsQuiet, IsTruncation};
 ghost use Rattle.fkv_partition.specs.Events.{Shifts, Evicts, Flushes};
 ghost use Rattle.fkv_partition.specs.Truncating.{Truncates, told_of};
+ghost use Rattle.fkv_partition.specs.Flushing.{Flushes};
+ghost use Rattle.fkv_partition.specs.KeyEffect.{IsQuiet};
 
 use crate::partitions::Partition;
 use crate::pending_laws::pendings_stay;
@@ -165,5 +168,26 @@ impl<F: Mergeable, R: Receipt> Partition<F, R> {
             Ok(()) => (),
         }
         Ok(self.begin())
+    }
+}
+
+impl<F: Mergeable, R: Receipt> Partition<F, R> {
+    /// Takes in that the lowest page that is not flushed was written. Refused, in this order, and then nothing changes:
+    /// `Stranger` where another page is the lowest that is not flushed, `NotDue` where that one does not end at or below
+    /// the safe read-only offset, `Stranger` where the bytes that were written are others, `NoMemory`.
+    pub(crate) fn keep_receipt(&mut self, written: Written<R>, now: u64) -> Result<(), Refused>
+        requires later { self.old.moment < now }
+        ensures effect { Flushes self.old self.new (R.stands written.receipt) written.bytes now result }
+        ensures event { OnOk result (IsQuiet R.keeps self.old self.new now) }
+        ensures unchanged { OnErr result (self.new ≡ self.old) }
+        ensures moment { self.new.moment ≤ now }
+    {
+        match self.records.flush_done(written) {
+            Err(refused) => return Err(refused),
+            Ok(()) => (),
+        }
+        self.records.facts();
+        self.moment = now;
+        Ok(())
     }
 }

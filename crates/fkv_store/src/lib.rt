@@ -12,7 +12,6 @@ pub mod closing;
 pub mod compacting;
 pub mod gates;
 pub(crate) mod holds;
-pub(crate) mod lists;
 pub mod passes;
 pub(crate) mod refusals;
 pub(crate) mod running;

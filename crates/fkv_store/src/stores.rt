@@ -7,13 +7,12 @@ ghost use Rattle.fkv_device.specs.Failing.{FailsOnlyBy};
 ghost use Rattle.fkv_store.specs.Stores.{AreReaders, IsUnopened};
 
 use crate::holds::Turned;
-use crate::lists::{no_sessions, zeros};
 use crate::passes::Pass;
 use crate::running::SeenMoves;
 use fkv_device::Disk;
 use fkv_functions::{Functions, Mergeable, Refused};
 use fkv_histories::Recorder;
-use fkv_locked::{Locked, Owns};
+use fkv_locked::{Locked, Owns, SessionId};
 use fkv_operations::partition_at;
 use fkv_partition::Config;
 use std::alloc::Global;
@@ -272,4 +271,26 @@ impl<F: Mergeable, D: Disk, H: Recorder<F>> Store<F, D, H> {
         let mut device = self.device.lock(rt);
         readers_of(alloc, &mut *device, count)
     }
+}
+
+/// So many zeros. Refused: `NoMemory`.
+pub(crate) fn zeros(alloc: Global, count: usize) -> Result<Vec<u64>, Refused>
+    ensures ok { IfOk result (λ told. told.items ≡ replicate count 0) }
+    ensures only { IfErr result (λ refused. refused ≡ Refused.NoMemory) }
+{
+    let Ok(told) = vec![in alloc; 0u64; count] else {
+        return Err(Refused::NoMemory);
+    };
+    Ok(told)
+}
+
+/// No session, for each of so many partitions. Refused: `NoMemory`.
+pub(crate) fn no_sessions(alloc: Global, count: usize) -> Result<Vec<Option<SessionId>>, Refused>
+    ensures ok { IfOk result (λ sessions. sessions.items ≡ replicate count None) }
+    ensures only { IfErr result (λ refused. refused ≡ Refused.NoMemory) }
+{
+    let Ok(sessions) = vec![in alloc; None; count] else {
+        return Err(Refused::NoMemory);
+    };
+    Ok(sessions)
 }

@@ -12,7 +12,7 @@ use Rattle.fkv_blocks.specs.Shares.{AreRowsIn, IsBadBlock, IsStop}
 use Rattle.fkv_blocks.specs.declared.blocks.Stop.{Stop}
 use Rattle.fkv_blocks.specs.declared.spans.Ticket.{Ticket}
 use Rattle.fkv_feeds.specs.Tables.{most_rows}
-use Rattle.fkv_feeds.specs.declared.modes.RowMode.{RowMode}
+use Rattle.fkv_feeds.specs.declared.counting.RowMode.{RowMode}
 use Rattle.fkv_store.specs.Passes.{PassView}
 use Rattle.fkv_store.specs.Stores.{IsTold}
 use Rattle.fkv_workers.specs.Shares.{HasShare}

@@ -9,7 +9,7 @@ use Rattle.fkv_functions.specs.declared.refusals.Refused.{Refused}
 use Rattle.fkv_functions.specs.declared.refusals.Refused.TheVariants.{NoMemory}
 use Rattle.fkv_device.specs.Failing.{FailsOnlyBy}
 use Rattle.fkv_feeds.specs.Tables.{AreFeeds, most_rows}
-use Rattle.fkv_feeds.specs.declared.modes.RowMode.{RowMode}
+use Rattle.fkv_feeds.specs.declared.counting.RowMode.{RowMode}
 use Rattle.fkv_functions.specs.declared.names.Name.{Name}
 use Rattle.fkv_store.specs.Passes.{PassView}
 use Rattle.fkv_store.specs.Stores.{IsTold, IsUnopened}

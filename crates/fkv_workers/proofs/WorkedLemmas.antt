@@ -10,7 +10,7 @@ use Rattle.std.proofs.lemmas.List.Elements.{All-nil, All-cons, All-head, All-tai
 use Rattle.fkv_functions.specs.declared.names.Name.{Name}
 use Rattle.fkv_functions.specs.declared.refusals.Refused.{Refused}
 use Rattle.fkv_feeds.specs.Tables.{AreFeeds, most_rows}
-use Rattle.fkv_feeds.specs.declared.modes.RowMode.{RowMode}
+use Rattle.fkv_feeds.specs.declared.counting.RowMode.{RowMode}
 use Rattle.fkv_store.specs.Passes.{PassView}
 use Rattle.fkv_workers.specs.Shares.{AreDealt, AreFedInTurn, HasShare, dealt}
 use Rattle.fkv_workers.specs.Works.{HasDone, IsFedBy, AreMadeBy}

@@ -3,7 +3,7 @@ ghost use Rattle.std.specs.Prelude.{◌≡◌, ◌<◌, ◌⊎◌, ◌++◌, ◌
 ghost use Rattle.std.specs.Int.{w64};
 ghost use Rattle.std.specs.List.{All};
 ghost use Rattle.fkv_functions.specs.declared.names.Name.{Name};
-ghost use Rattle.fkv_feeds.specs.declared.modes.RowMode.{RowMode};
+ghost use Rattle.fkv_feeds.specs.declared.counting.RowMode.{RowMode};
 ghost use Rattle.fkv_store.specs.Stores.{IsTold};
 ghost use Rattle.fkv_workers.specs.Works.{StandsFor, AreSplit, HasDone, loads_of};
 
