@@ -184,7 +184,7 @@ fn spill_by<
     opener: &O,
 ) -> Result<RunReport, Refused>
 where
-    F::Value: fkv_feeds::Shown + Send,
+    F::Value: fkv_feeds::RowFields + Send,
     F::Output: Send,
     H::File: PageFile + Send,
     H::Dir: Send,
@@ -250,7 +250,7 @@ fn tabulate_by<
     opener: &O,
 ) -> Result<RunReport, Refused>
 where
-    F::Value: fkv_feeds::Shown + Send,
+    F::Value: fkv_feeds::RowFields + Send,
     F::Output: Send,
     H::File: PageFile + Send,
     H::Dir: Send,

@@ -14,17 +14,12 @@ ghost use Rattle.fkv_hybrid.specs.Views.{text_begin, empty_log, with_entry, IsFu
 ghost use Rattle.fkv_hybrid.specs.Logs.{IsLogOf};
 ghost use Rattle.fkv_texts.specs.declared.entries.Entry.{Entry};
 
-use crate::bytes::{put_tombstone, put_value};
-use fkv_device::Receipt;
-use fkv_functions::Fixed;
-use fkv_records::Address;
-
 mod flushes;
 mod reads;
 mod sessions;
 mod truncation;
 
-use crate::bytes::{part, put_record};
+use crate::bytes::{part, put_record, put_tombstone, put_value};
 use fkv_device::Receipt;
 use fkv_frames::Frames;
 use fkv_functions::{Fixed, Refused};
