@@ -16,8 +16,8 @@ ghost use Rattle.fkv_partition.specs.Views.{live_of, partition_of, IsBare, at_mo
 ghost use Rattle.fkv_partition.specs.Effect.{IsQuiet, IsTruncation};
 ghost use Rattle.fkv_partition.specs.Events.{Shifts, Evicts, Flushes};
 ghost use Rattle.fkv_partition.specs.Truncating.{Truncates, told_of};
-ghost use Rattle.fkv_partition.specs.Flushing.{Flushes};
-ghost use Rattle.fkv_partition.specs.KeyEffect.{IsQuiet};
+ghost use Rattle.fkv_partition.specs.Flushing as flushing;
+ghost use Rattle.fkv_partition.specs.KeyEffect as on_key;
 
 use crate::partitions::Partition;
 use crate::pending_laws::pendings_stay;
@@ -177,8 +177,8 @@ impl<F: Mergeable, R: Receipt> Partition<F, R> {
     /// the safe read-only offset, `Stranger` where the bytes that were written are others, `NoMemory`.
     pub(crate) fn keep_receipt(&mut self, written: Written<R>, now: u64) -> Result<(), Refused>
         requires later { self.old.moment < now }
-        ensures effect { Flushes self.old self.new (R.stands written.receipt) written.bytes now result }
-        ensures event { OnOk result (IsQuiet R.keeps self.old self.new now) }
+        ensures effect { flushing.Flushes self.old self.new (R.stands written.receipt) written.bytes now result }
+        ensures event { OnOk result (on_key.IsQuiet R.keeps self.old self.new now) }
         ensures unchanged { OnErr result (self.new ≡ self.old) }
         ensures moment { self.new.moment ≤ now }
     {
