@@ -15,7 +15,6 @@ ghost use Rattle.fkv_texts.specs.declared.entries.ChainPosition.{ChainPosition};
 ghost use Rattle.fkv_texts.specs.declared.entries.Entry.{Entry};
 
 use crate::partitions::Partition;
-use crate::preserving::sessions_preserved;
 use fkv_device::Receipt;
 use fkv_functions::{Functions, Mergeable};
 use fkv_lookups::laws::{lookups_tell, meetings_tell, records_change};
@@ -90,7 +89,6 @@ impl<F: Mergeable, R: Receipt> Partition<F, R> {
         ensures within { IfSome result (λ _. slot < 16) }
         ensures moment { self.new.moment ≤ now }
     {
-        sessions_preserved::<F::Key, F::Value, F::Input, F::Output, R>();
         self.facts();
         if !self.is_session(slot) {
             return None;

@@ -18,7 +18,6 @@ ghost use Rattle.fkv_partition.specs.Events.{Issues, Goes, Installs, Loads, Load
 use crate::contexts::ProgressOf;
 use crate::partitions::Partition;
 use crate::pending_laws::{loads_end, pendings_stay};
-use crate::preserving::{loads_preserve_sessions, sessions_preserved};
 use fkv_device::{Loaded, PageReader, Receipt};
 use fkv_functions::{Built, Mergeable, Refused};
 use fkv_operations::OpOf;
@@ -46,7 +45,6 @@ impl<F: Mergeable, R: Receipt> Partition<F, R> {
         ensures unchanged { OnErr result (self.new ≡ self.old) }
         ensures moment { self.new.moment ≤ now }
     {
-        pendings_stay::<F::Key, F::Value, F::Input, F::Output, R>();
         self.facts();
         match op.keyed() {
             Some(keyed) => self.issue_on_key(slot, keyed, functions, now),
@@ -104,7 +102,6 @@ impl<F: Mergeable, R: Receipt> Partition<F, R> {
         ensures unchanged { OnErr result (self.new ≡ self.old) }
         ensures moment { self.new.moment ≤ now }
     {
-        sessions_preserved::<F::Key, F::Value, F::Input, F::Output, R>();
         pendings_stay::<F::Key, F::Value, F::Input, F::Output, R>();
         self.facts();
         if self.holds_relocation(slot, context) {
@@ -139,7 +136,6 @@ impl<F: Mergeable, R: Receipt> Partition<F, R> {
         ensures unchanged { OnErr result (self.new ≡ self.old) }
         ensures moment { self.new.moment ≤ now }
     {
-        sessions_preserved::<F::Key, F::Value, F::Input, F::Output, R>();
         pendings_stay::<F::Key, F::Value, F::Input, F::Output, R>();
         self.facts();
         if self.holds_relocation(slot, context) {
@@ -190,7 +186,6 @@ impl<F: Mergeable, R: Receipt> Partition<F, R> {
         ensures within { IfOk result (λ _. (slot < 16) × (context < 8)) }
         ensures moment { self.new.moment ≤ now }
     {
-        loads_preserve_sessions::<F, R>();
         loads_end::<F, R>();
         self.facts();
         if self.holds_relocation(slot, context) {
@@ -242,7 +237,6 @@ impl<F: Mergeable, R: Receipt> Partition<F, R> {
         ensures within { IfOk result (λ _. (slot < 16) × (context < 8)) }
         ensures moment { self.new.moment ≤ now }
     {
-        loads_preserve_sessions::<F, R>();
         loads_end::<F, R>();
         self.facts();
         if self.holds_relocation(slot, context) {
@@ -282,7 +276,6 @@ impl<F: Mergeable, R: Receipt> Partition<F, R> {
         ensures within { IfOk result (λ _. (slot < 16) × (context < 8)) }
         ensures moment { self.new.moment ≤ now }
     {
-        loads_preserve_sessions::<F, R>();
         loads_end::<F, R>();
         self.facts();
         if self.holds_relocation(slot, context) {
@@ -303,8 +296,6 @@ impl<F: Mergeable, R: Receipt> Partition<F, R> {
         ensures unchanged { OnErr result (self.new ≡ self.old) }
         ensures moment { self.new.moment ≤ now }
     {
-        sessions_preserved::<F::Key, F::Value, F::Input, F::Output, R>();
-        pendings_stay::<F::Key, F::Value, F::Input, F::Output, R>();
         self.facts();
         if self.holds_relocation(slot, context) {
             self.drop_relocation(slot, context, now)

@@ -16,12 +16,8 @@ ghost use Rattle.fkv_partition.specs.Views.{live_of, partition_of, IsBare, at_mo
 ghost use Rattle.fkv_partition.specs.Effect.{IsQuiet, IsTruncation};
 ghost use Rattle.fkv_partition.specs.Events.{Shifts, Evicts, Flushes};
 ghost use Rattle.fkv_partition.specs.Truncating.{Truncates, told_of};
-ghost use Rattle.fkv_partition.specs.Flushing as flushing;
-ghost use Rattle.fkv_partition.specs.KeyEffect as on_key;
 
 use crate::partitions::Partition;
-use crate::pending_laws::pendings_stay;
-use crate::preserving::sessions_preserved;
 use fkv_device::{FlushJob, PageReader, Receipt, Written};
 use fkv_functions::{Mergeable, Refused};
 use fkv_lookups::clearing::cleared_stay;
@@ -42,10 +38,13 @@ impl<F: Mergeable, R: Receipt> Partition<F, R> {
         ensures unchanged { OnErr result (self.new ≡ self.old) }
         ensures moment { self.new.moment ≤ now }
     {
-        sessions_preserved::<F::Key, F::Value, F::Input, F::Output, R>();
-        pendings_stay::<F::Key, F::Value, F::Input, F::Output, R>();
-        self.facts();
-        self.move_read_only(page, now)
+        match self.records.shift_read_only(page) {
+            Err(refused) => return Err(refused),
+            Ok(()) => (),
+        }
+        self.records.facts();
+        self.moment = now;
+        Ok(())
     }
 
     /// Moves Head to the start of a page: sessions that are refreshed from now on read records below it from the device.
@@ -59,10 +58,13 @@ impl<F: Mergeable, R: Receipt> Partition<F, R> {
         ensures unchanged { OnErr result (self.new ≡ self.old) }
         ensures moment { self.new.moment ≤ now }
     {
-        sessions_preserved::<F::Key, F::Value, F::Input, F::Output, R>();
-        pendings_stay::<F::Key, F::Value, F::Input, F::Output, R>();
-        self.facts();
-        self.move_head(page, now)
+        match self.records.shift_head(page) {
+            Err(refused) => return Err(refused),
+            Ok(()) => (),
+        }
+        self.records.facts();
+        self.moment = now;
+        Ok(())
     }
 
     /// The lowest page that is not flushed.
@@ -123,10 +125,13 @@ impl<F: Mergeable, R: Receipt> Partition<F, R> {
         ensures unchanged { OnErr result (self.new ≡ self.old) }
         ensures moment { self.new.moment ≤ now }
     {
-        sessions_preserved::<F::Key, F::Value, F::Input, F::Output, R>();
-        pendings_stay::<F::Key, F::Value, F::Input, F::Output, R>();
-        self.facts();
-        self.keep_receipt(written, now)
+        match self.records.flush_done(written) {
+            Err(refused) => return Err(refused),
+            Ok(()) => (),
+        }
+        self.records.facts();
+        self.moment = now;
+        Ok(())
     }
 
     /// Moves Begin to the start of a page: records below it are dropped, each of them cleared, and the live map stays.
@@ -140,7 +145,6 @@ impl<F: Mergeable, R: Receipt> Partition<F, R> {
         ensures moment { self.new.moment ≤ now }
     {
         cleared_stay::<F::Key, F::Value>();
-        sessions_preserved::<F::Key, F::Value, F::Input, F::Output, R>();
         self.facts();
         if page > self.records().page_of(self.cleared()) {
             return Err(Refused::NotDue);
@@ -168,26 +172,5 @@ impl<F: Mergeable, R: Receipt> Partition<F, R> {
             Ok(()) => (),
         }
         Ok(self.begin())
-    }
-}
-
-impl<F: Mergeable, R: Receipt> Partition<F, R> {
-    /// Takes in that the lowest page that is not flushed was written. Refused, in this order, and then nothing changes:
-    /// `Stranger` where another page is the lowest that is not flushed, `NotDue` where that one does not end at or below
-    /// the safe read-only offset, `Stranger` where the bytes that were written are others, `NoMemory`.
-    pub(crate) fn keep_receipt(&mut self, written: Written<R>, now: u64) -> Result<(), Refused>
-        requires later { self.old.moment < now }
-        ensures effect { flushing.Flushes self.old self.new (R.stands written.receipt) written.bytes now result }
-        ensures event { OnOk result (on_key.IsQuiet R.keeps self.old self.new now) }
-        ensures unchanged { OnErr result (self.new ≡ self.old) }
-        ensures moment { self.new.moment ≤ now }
-    {
-        match self.records.flush_done(written) {
-            Err(refused) => return Err(refused),
-            Ok(()) => (),
-        }
-        self.records.facts();
-        self.moment = now;
-        Ok(())
     }
 }
