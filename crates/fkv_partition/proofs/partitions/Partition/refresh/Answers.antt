@@ -45,7 +45,7 @@ returns-clause-event g c =
 pub returns-clause-pends : goal.returns-clause-pends
 returns-clause-pends g c =
     λ yes_keeps. rw (← c.self.view_is)
-    (refreshes-all g.R.Receipt.keeps g.F.Key.Ord.cmp _ _ c.args.slot c.args.now (Ok tt) yes_keeps (refreshes (c.in-Ok.ensures.unknown.0 refl) (record { moves = c.in-Ok.ensures.effect; is = refl }) refl))
+    (refreshes-all g.R.Receipt.keeps g.F.Key.Ord.cmp (view_of g.F.Mergeable.MERGES c.self.inside.number c.self.inside.count c.self.inside.records c.self.inside.contexts.items c.self.inside.moment c.self.inside.cleared) (view_of g.F.Mergeable.MERGES c.self.inside.number c.self.inside.count c.refresh.new.self c.self.inside.contexts.items c.args.now c.self.inside.cleared) c.args.slot c.args.now (Ok tt) yes_keeps (refreshes (c.in-Ok.ensures.unknown.0 refl) (record { moves = c.in-Ok.ensures.effect; is = refl }) refl))
 
 pub invariant_of-self : goal.invariant_of-self
 invariant_of-self g c = rw c.in-Err.ensures.refused.1 c.self.invariant

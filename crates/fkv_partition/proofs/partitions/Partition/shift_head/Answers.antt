@@ -46,7 +46,7 @@ pub returns-clause-pends : goal.returns-clause-pends
 returns-clause-pends g c =
     let due = c.in-Ok.ensures.ok.0 refl in
     λ yes_keeps. rw (← c.self.view_is)
-    (evicts-all g.R.Receipt.keeps g.F.Key.Ord.cmp _ _ c.args.page c.args.now (Ok tt) yes_keeps (evicts due.0 due.1 (record { moves = c.in-Ok.ensures.effect; is = refl }) refl))
+    (evicts-all g.R.Receipt.keeps g.F.Key.Ord.cmp (view_of g.F.Mergeable.MERGES c.self.inside.number c.self.inside.count c.self.inside.records c.self.inside.contexts.items c.self.inside.moment c.self.inside.cleared) (view_of g.F.Mergeable.MERGES c.self.inside.number c.self.inside.count c.shift_head.new.self c.self.inside.contexts.items c.args.now c.self.inside.cleared) c.args.page c.args.now (Ok tt) yes_keeps (evicts due.0 due.1 (record { moves = c.in-Ok.ensures.effect; is = refl }) refl))
 
 pub invariant_of-self : goal.invariant_of-self
 invariant_of-self g c = rw c.in-Err.ensures.unchanged c.self.invariant
