@@ -51,7 +51,10 @@ returns-clause-event g c =
 pub returns-clause-pends : goal.returns-clause-pends
 returns-clause-pends g c =
     let made = c.in-Ok.ensures in
-    rw (made.done, ← c.self.view_is) (flushes-all g.F.Key.Ord.cmp _ _ _ _ c.args.now (Ok tt) (flush-taken _ _ _ c.args.now _ refl made.refused))
+    let st = g.R.Receipt.stands c.args.written.receipt in
+    let v = (view_of g.F.Mergeable.MERGES c.self.inside.number c.self.inside.count c.self.inside.records c.self.inside.contexts.items c.self.inside.moment c.self.inside.cleared) in
+    let new = (view_of g.F.Mergeable.MERGES c.self.inside.number c.self.inside.count (with_receipt c.self.inside.records st) c.self.inside.contexts.items c.args.now c.self.inside.cleared) in
+    rw (made.done, ← c.self.view_is) (flushes-all g.F.Key.Ord.cmp v new st c.args.written.bytes c.args.now (Ok tt) (flush-taken v st c.args.written.bytes c.args.now _ refl made.refused))
 
 pub invariant_of-self : goal.invariant_of-self
 invariant_of-self g c = rw c.in-Err.ensures.unchanged c.self.invariant
