@@ -1,6 +1,6 @@
 -- How many events an operation may still take that is driven alone, and how many pages it may read.
 use Rattle.std.specs.Prelude.{◌≡◌, ◌+◌, ◌^◌, ◌<◌, ◌≤◌, ◌&&◌, ℕ, Bool, true, false, cond, IsTrue, Some, None, length, filter, nat_le, nat_lt}
-use Rattle.fkv_index.specs.declared.places.Place.{Place}
+use Rattle.fkv_index.specs.declared.words.Place.{Place}
 use Rattle.fkv_index.specs.Words.{is_final, tag_of}
 use Rattle.fkv_index.specs.Places.{word_at}
 use Rattle.fkv_index.specs.Entries.{IsAlone}

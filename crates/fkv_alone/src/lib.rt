@@ -5,9 +5,6 @@
 //! it takes at most (`specs/Bound.antt`).
 #![tactic(auto)]
 
-pub mod outcomes;
 pub mod running;
-pub mod stepping;
 
-pub use outcomes::{Alone, AloneOf};
-pub use running::run_alone;
+pub use running::{Alone, AloneOf, run_alone};

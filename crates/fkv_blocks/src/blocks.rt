@@ -31,7 +31,7 @@ impl Origin for Brand {
 
 /// Where a block lies: the place of its feed, counted from 0, and where it begins and ends there, behind a byte order mark.
 #[derive(Clone, Copy, PartialEq, Eq, Debug)]
-pub struct Place {
+pub struct BlockSpan {
     pub feed: usize,
     pub low: u64,
     pub high: u64,
@@ -84,14 +84,14 @@ fn is_unreadable(refused: Refused) -> bool
 }
 
 /// Where a block lies; none where it has no byte.
-fn place_of(feed: usize, low: u64, high: u64) -> Option<Place>
+fn place_of(feed: usize, low: u64, high: u64) -> Option<BlockSpan>
     ensures some { IfSome result (λ p. p ≡ record { feed = feed; low = low; high = high }) }
     ensures none { IfNone result (low ≡ high) }
 {
     if low == high {
         return None;
     }
-    Some(Place { feed, low, high })
+    Some(BlockSpan { feed, low, high })
 }
 
 /// A feed in blocks, as far as it was read.
@@ -212,7 +212,7 @@ impl<S: Source, B: Origin> Blocks<S, B> {
     }
 
     /// Hands out so many of the bytes that are held, and tells where they lie; none where there are none and the feed is over.
-    fn hand_out(&mut self, cut: Cut, block: &mut Vec<u8>) -> Result<Option<Place>, Refused>
+    fn hand_out(&mut self, cut: Cut, block: &mut Vec<u8>) -> Result<Option<BlockSpan>, Refused>
         requires begun { self.old.begun ≡ true }
         requires on { self.old.over ≡ false }
         requires next { IsNext self.old cut.size cut.is_last }
@@ -245,7 +245,7 @@ impl<S: Source, B: Origin> Blocks<S, B> {
     ///
     /// With where the block begins: `NoMemory`; `Unreadable` with the feed's number where its stream failed, or where it has 2^64 bytes or
     /// more.
-    pub fn take(&mut self, block: &mut Vec<u8>) -> Result<Option<Place>, Stop>
+    pub fn take(&mut self, block: &mut Vec<u8>) -> Result<Option<BlockSpan>, Stop>
         ensures given { IfOk result (λ found. IfSome found (λ p. (p.feed ≡ self.old.place)
             × IsBlockOf (text_at B.feeds p.feed) block.new.items p.low p.high)) }
         ensures over { IfOk result (λ found. IfNone found (self.new.over ≡ true)) }
@@ -324,7 +324,7 @@ pub fn take_block<S: Source, B: Origin>(
     rt: &impl Wait,
     blocks: &Mutex<Blocks<S, B>>,
     block: &mut Vec<u8>,
-) -> Result<Option<Place>, Stop>
+) -> Result<Option<BlockSpan>, Stop>
     ensures given { IfOk result (λ found. IfSome found
         (λ p. IsBlockOf (text_at B.feeds p.feed) block.new.items p.low p.high)) }
     ensures told { IfErr result (IsUntaken B.feeds) }

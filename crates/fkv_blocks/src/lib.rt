@@ -16,11 +16,11 @@ pub mod reading;
 pub mod spans;
 pub mod whole;
 
-pub use blocks::{Blocks, Origin, Place, Stop, take_block};
+pub use blocks::{BlockSpan, Blocks, Origin, Stop, take_block};
 pub use bytes::BlockSource;
 pub use cutting::record_end;
 pub use feeds::Feeds;
 pub use orders::{Taken, ordered};
 pub use reading::BlockSink;
 pub use spans::{Span, Ticket, chains};
-pub use whole::Ended;
+pub use whole::ReadFeeds;

@@ -4,7 +4,7 @@ ghost use Rattle.fkv_functions.specs.declared.names.Name.{Name};
 ghost use Rattle.fkv_feed_rows.specs.Feeds.{AreRowsOf};
 ghost use Rattle.fkv_blocks.specs.Shares.{HaveRows, IsStop, TellsBlock, WereRead};
 
-use crate::blocks::{Blocks, Origin, Place, Stop, number, take_block};
+use crate::blocks::{BlockSpan, Blocks, Origin, Stop, number, take_block};
 use crate::bytes::BlockSource;
 use crate::spans::{Span, Ticket};
 use fkv_feed_rows::{RowSink, read_feed};
@@ -65,7 +65,7 @@ pub(crate) fn read_next<S: Source, B: Origin, K: RowSink>(
         Ok(None) => return Ok(false),
         Err(stop) => return Err(stop),
     };
-    let Place { feed, low, high } = place;
+    let BlockSpan { feed, low, high } = place;
     let records = match read_block(alloc, block.as_slice(), number(feed), limit, sink) {
         Ok(records) => records,
         Err(refused) => return Err(Stop {

@@ -157,11 +157,11 @@ fn in_order(alloc: Global, ends: &[u64], hands: &[Vec<Ticket>]) -> Result<Vec<Ve
 
 /// Feeds that nobody reads any more. A contract sees how often their streams have failed.
 #[derive(Drop)]
-pub struct Ended<S: Source + Drop, B: Origin> {
+pub struct ReadFeeds<S: Source + Drop, B: Origin> {
     feeds: Vec<Blocks<S, B>>,
 }
 
-impl<S: Source + Drop, B: Origin> Model for Ended<S, B> {
+impl<S: Source + Drop, B: Origin> Model for ReadFeeds<S, B> {
     ghost use Rattle.std.specs.Prelude.{◌≡◌, ℕ, List, length, map};
 
     ghost Value = { List ℕ };
@@ -173,7 +173,7 @@ impl<S: Source + Drop, B: Origin> Model for Ended<S, B> {
 
 impl<S: Source + Drop, B: Origin> Feeds<S, B> {
     /// The feeds, out of their locks, once all who share them have ended. Refused: `NoMemory`.
-    pub fn ended(self, alloc: Global) -> Result<Ended<S, B>, Refused>
+    pub fn ended(self, alloc: Global) -> Result<ReadFeeds<S, B>, Refused>
         ensures only { IfErr result (λ e. e ≡ Refused.NoMemory) }
     {
         let Feeds { feeds } = self;
@@ -184,17 +184,17 @@ impl<S: Source + Drop, B: Origin> Feeds<S, B> {
                 return Err(Refused::NoMemory);
             };
         }
-        Ok(Ended { feeds: ended })
+        Ok(ReadFeeds { feeds: ended })
     }
 }
 
-impl<S: Source + Drop, B: Origin> Ended<S, B> {
+impl<S: Source + Drop, B: Origin> ReadFeeds<S, B> {
     /// The streams of the feeds, as far as they were read. Refused: `NoMemory`.
     pub fn into_sources(self, alloc: Global) -> Result<Vec<S>, Refused>
         ensures ok { IfOk result (λ sources. map S.failures sources.items ≡ self) }
         ensures only { IfErr result (λ e. e ≡ Refused.NoMemory) }
     {
-        let Ended { feeds } = self;
+        let ReadFeeds { feeds } = self;
         let mut sources = Vec::new(alloc);
         for feed in feeds {
             let Ok(()) = sources.push(feed.into_source()) else {
@@ -311,7 +311,7 @@ impl<S: Source + Drop, B: Origin> Ended<S, B> {
     /// What is told of feeds where one worker stopped so, and none stopped at a block before that one: the feeds before it have rows, and it
     /// has none; a bad row is told by its number in the feed. The workers' tickets say how many rows stand before the block.
     ///
-    /// `NoMemory` and `Mismatch` are told in its place, as [`Ended::whole`] is refused with them; and `Mismatch` where the worker met a
+    /// `NoMemory` and `Mismatch` are told in its place, as [`ReadFeeds::whole`] is refused with them; and `Mismatch` where the worker met a
     /// failure of a stream that has none, which none does.
     pub fn fault(&self, alloc: Global, limit: u64, hands: &[Vec<Ticket>], stop: Stop) -> Refused
         requires read { All (WereRead B.feeds) (map (λ hand. hand.items) hands.now) }

@@ -13,7 +13,7 @@ use crate::faults::Fault;
 use crate::handles::{Handle, Held};
 use crate::sets::{AnyOp, compact_held, counts_held, live_held, made, next_held, operate_held};
 use fkv_functions::{Name, Refused};
-use fkv_local::Counts;
+use fkv_local::StoreCounts;
 use fkv_operations::Answer;
 use fkv_partition::Config;
 use std::alloc::Global;
@@ -102,7 +102,7 @@ pub(crate) fn compact(alloc: Global, handle: &mut Handle) -> Result<bool, Fault>
 }
 
 /// How much a store holds.
-pub(crate) fn counts(alloc: Global, handle: &mut Handle) -> Result<Counts, Fault>
+pub(crate) fn counts(alloc: Global, handle: &mut Handle) -> Result<StoreCounts, Fault>
     ensures counted { IfOk result (λ c. AreCounts handle.old.held c.bytes c.evicted c.moments) }
     ensures same { handle.new.held ≡ handle.old.held }
     ensures store { OnOk result (counts_status (kind_of handle.old.held) ≡ 0) }

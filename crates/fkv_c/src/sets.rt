@@ -20,7 +20,7 @@ use crate::handles::Held;
 use crate::stores::{compact_store, list_store, run_store};
 use fkv_device::MemoryDevice;
 use fkv_functions::{CappedSumFns, CountFns, MaxFns, Name, SumFns};
-use fkv_local::{Counts, LocalStore};
+use fkv_local::{LocalStore, StoreCounts};
 use fkv_operations::{Answer, KeyedOp};
 use fkv_partition::Config;
 use std::alloc::Global;
@@ -160,7 +160,7 @@ pub(crate) fn compact_held(held: &mut Held) -> Result<bool, Fault>
 }
 
 /// How much a store holds.
-pub(crate) fn counts_held(held: &Held) -> Result<Counts, Fault>
+pub(crate) fn counts_held(held: &Held) -> Result<StoreCounts, Fault>
     ensures counted { IfOk result (λ c. AreCounts (Some held.now) c.bytes c.evicted c.moments) }
     ensures store { OnOk result (counts_status (kind_of (Some held.now)) ≡ 0) }
     ensures told { IfErr result (λ why. fault_number why ≡ counts_status (kind_of (Some held.now))) }

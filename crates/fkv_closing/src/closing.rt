@@ -16,7 +16,7 @@ use crate::sums::{sum_of_books, sum_of_shares};
 use fkv_device::{PageReader, Receipt};
 use fkv_functions::{Mergeable, Refused};
 use fkv_histories::{EntryOf, Recorder};
-use fkv_locked::Part;
+use fkv_locked::EndedPartition;
 use std::alloc::Global;
 use std::collections::BTreeMap;
 
@@ -35,7 +35,7 @@ pub struct Closed<F: Mergeable> {
 #[derive(Drop)]
 pub struct Settled<F: Mergeable, R: Receipt> {
     /// Each partition with its history and its book, in order of partitions.
-    pub parts: Vec<Part<F, R>>,
+    pub parts: Vec<EndedPartition<F, R>>,
     /// How many operations were finished.
     pub finished: u64,
 }
@@ -44,7 +44,7 @@ pub struct Settled<F: Mergeable, R: Receipt> {
 /// Refused, in this order: `Worn` where the shares or the books have no sum below 2^64, `Mismatch` where the sums differ or a
 /// partition does not stand in its place.
 fn count_finished<F: Mergeable, R: Receipt>(
-    parts: &[Part<F, R>],
+    parts: &[EndedPartition<F, R>],
     shares: &[u64],
 ) -> Result<u64, Refused>
     ensures shared { IfOk result (λ total. total ≡ sum shares.now) }
@@ -73,7 +73,7 @@ fn count_finished<F: Mergeable, R: Receipt>(
 /// Sees that each history is a merge of the own lists of its partition. Refused: `Mismatch` where one is not, `NoMemory`.
 fn audit<F: Mergeable, R: Receipt, H: Recorder<F>>(
     alloc: Global,
-    parts: &[Part<F, R>],
+    parts: &[EndedPartition<F, R>],
     owns: Vec<Vec<H>>,
 ) -> Result<(), Refused>
     requires { All (λ own. vec_len own ≡ length parts.now) owns.items }
@@ -97,7 +97,7 @@ fn audit<F: Mergeable, R: Receipt, H: Recorder<F>>(
 /// The histories of these parts, in order. Refused: `NoMemory`.
 fn histories_of<F: Mergeable, R: Receipt>(
     alloc: Global,
-    parts: Vec<Part<F, R>>,
+    parts: Vec<EndedPartition<F, R>>,
 ) -> Result<Vec<Vec<EntryOf<F>>>, Refused>
     ensures ok { IfOk result (λ histories. map (λ history. history.items) histories.items
         ≡ map (λ part. part.history.items) parts.items) }
@@ -105,7 +105,7 @@ fn histories_of<F: Mergeable, R: Receipt>(
 {
     let mut histories = Vec::new(alloc);
     for part in parts {
-        let Part { history, .. } = part;
+        let EndedPartition { history, .. } = part;
         let Ok(()) = histories.push(history) else {
             return Err(Refused::NoMemory);
         };
@@ -121,7 +121,7 @@ fn histories_of<F: Mergeable, R: Receipt>(
 /// is no merge of those of its partition. A store whose partitions and passes were made together meets no `Mismatch`.
 pub fn close_unlisted<F: Mergeable, R: Receipt, H: Recorder<F>>(
     alloc: Global,
-    parts: Vec<Part<F, R>>,
+    parts: Vec<EndedPartition<F, R>>,
     owns: Vec<Vec<H>>,
     shares: &[u64],
 ) -> Result<Settled<F, R>, Refused>
@@ -172,7 +172,7 @@ pub fn close_unlisted<F: Mergeable, R: Receipt, H: Recorder<F>>(
 pub fn close_parts<F: Mergeable, R: Receipt, H: Recorder<F>, P: PageReader<Receipt = R>>(
     functions: &F,
     alloc: Global,
-    parts: Vec<Part<F, R>>,
+    parts: Vec<EndedPartition<F, R>>,
     readers: &mut [P],
     owns: Vec<Vec<H>>,
     shares: &[u64],

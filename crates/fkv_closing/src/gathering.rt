@@ -8,7 +8,7 @@ ghost use Rattle.fkv_closing.specs.Refusing.{IsUnread, MayFailIn};
 
 use fkv_device::{PageReader, Receipt};
 use fkv_functions::{Mergeable, Refused};
-use fkv_locked::Part;
+use fkv_locked::EndedPartition;
 use std::alloc::Global;
 use std::collections::BTreeMap;
 
@@ -17,7 +17,7 @@ use std::collections::BTreeMap;
 fn gather<F: Mergeable, R: Receipt, P: PageReader<Receipt = R>>(
     functions: &F,
     tree: &mut BTreeMap<F::Key, F::Value>,
-    parts: &[Part<F, R>],
+    parts: &[EndedPartition<F, R>],
     readers: &mut [P],
 ) -> Result<(), Refused>
     requires empty { tree.old.entries ≡ [] }
@@ -47,7 +47,7 @@ fn gather<F: Mergeable, R: Receipt, P: PageReader<Receipt = R>>(
 pub(crate) fn live<F: Mergeable, R: Receipt, P: PageReader<Receipt = R>>(
     functions: &F,
     alloc: Global,
-    parts: &[Part<F, R>],
+    parts: &[EndedPartition<F, R>],
     readers: &mut [P],
 ) -> Result<BTreeMap<F::Key, F::Value>, Refused>
     requires read { length readers.old ≡ length parts.now }

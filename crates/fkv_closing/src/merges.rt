@@ -3,15 +3,15 @@ ghost use Rattle.std.specs.Prelude.{◌≡◌, ◌↔◌, false, length, map, Is
 ghost use Rattle.fkv_closing.specs.Closing.{AreNumbered, AreMerged, IsUnmerged};
 ghost use Rattle.fkv_closing.specs.Lists.{lists_at};
 
-use crate::owns::Lists;
+use crate::owns::OwnLists;
 use fkv_device::Receipt;
 use fkv_functions::{Mergeable, Refused};
 use fkv_histories::is_merge;
-use fkv_locked::Part;
+use fkv_locked::EndedPartition;
 use std::alloc::Global;
 
 /// Whether each partition stands in its place: it has that number, and says that there are as many as there are.
-pub(crate) fn are_numbered<F: Mergeable, R: Receipt>(parts: &[Part<F, R>]) -> bool
+pub(crate) fn are_numbered<F: Mergeable, R: Receipt>(parts: &[EndedPartition<F, R>]) -> bool
     ensures { IsTrue result ↔ AreNumbered (map (λ part. part.partition) parts.now) }
 {
     for (place, part) in parts.iter().enumerate() {
@@ -28,8 +28,8 @@ pub(crate) fn are_numbered<F: Mergeable, R: Receipt>(parts: &[Part<F, R>]) -> bo
 /// Whether each history is a merge of the own lists of its partition. Refused: `NoMemory`.
 pub(crate) fn are_merged<F: Mergeable, R: Receipt>(
     alloc: Global,
-    parts: &[Part<F, R>],
-    all: &[Lists<F>],
+    parts: &[EndedPartition<F, R>],
+    all: &[OwnLists<F>],
 ) -> Result<bool, Refused>
     requires { length all.now ≡ length parts.now }
     ensures merged { IfOk result (λ are. IsTrue are → AreMerged (map (λ part. part.history.items) parts.now)

@@ -8,10 +8,10 @@ use fkv_histories::{EntryOf, Recorder};
 use std::alloc::Global;
 
 /// The own lists of one partition, one a pass.
-pub(crate) type Lists<F> = Vec<Vec<EntryOf<F>>>;
+pub(crate) type OwnLists<F> = Vec<Vec<EntryOf<F>>>;
 
 /// No list yet, for so many partitions. Refused: `NoMemory`.
-fn no_lists<F: Mergeable>(alloc: Global, count: usize) -> Result<Vec<Lists<F>>, Refused>
+fn no_lists<F: Mergeable>(alloc: Global, count: usize) -> Result<Vec<OwnLists<F>>, Refused>
     ensures ok { IfOk result (λ all. map (λ of. map (λ own. own.items) of.items) all.items ≡ replicate count []) }
     ensures only { IfErr result (λ refused. refused ≡ Refused.NoMemory) }
 {
@@ -27,7 +27,7 @@ fn no_lists<F: Mergeable>(alloc: Global, count: usize) -> Result<Vec<Lists<F>>, 
 /// Puts each own list of a pass behind the other lists of its partition. Refused: `NoMemory`.
 fn add_lists<F: Mergeable, H: Recorder<F>>(
     alloc: Global,
-    all: &mut Vec<Lists<F>>,
+    all: &mut Vec<OwnLists<F>>,
     own: Vec<H>,
 ) -> Result<(), Refused>
     requires { vec_len own ≡ vec_len all.old }
@@ -48,7 +48,7 @@ pub(crate) fn by_partition<F: Mergeable, H: Recorder<F>>(
     alloc: Global,
     owns: Vec<Vec<H>>,
     count: usize,
-) -> Result<Vec<Lists<F>>, Refused>
+) -> Result<Vec<OwnLists<F>>, Refused>
     requires { All (λ own. vec_len own ≡ count) owns.items }
     ensures ok { IfOk result (λ all. AreByPartition count (map (λ of. map (λ own. own.items) of.items) all.items)
         (map (λ own. map H.entries own.items) owns.items)) }

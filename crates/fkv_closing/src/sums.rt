@@ -3,7 +3,7 @@ ghost use Rattle.std.specs.Prelude.{◌≡◌, ◌≤◌, ◌^◌, sum, sum_by, 
 
 use fkv_device::Receipt;
 use fkv_functions::{Mergeable, Refused};
-use fkv_locked::Part;
+use fkv_locked::EndedPartition;
 
 /// What the shares add up to. Refused: `Worn` where that is past 2^64 - 1.
 pub(crate) fn sum_of_shares(shares: &[u64]) -> Result<u64, Refused>
@@ -21,7 +21,9 @@ pub(crate) fn sum_of_shares(shares: &[u64]) -> Result<u64, Refused>
 }
 
 /// What the books of these parts add up to. Refused: `Worn` where that is past 2^64 - 1.
-pub(crate) fn sum_of_books<F: Mergeable, R: Receipt>(parts: &[Part<F, R>]) -> Result<u64, Refused>
+pub(crate) fn sum_of_books<F: Mergeable, R: Receipt>(
+    parts: &[EndedPartition<F, R>],
+) -> Result<u64, Refused>
     ensures ok { IfOk result (λ total. total ≡ sum_by (λ part. part.book) parts.now) }
     ensures worn { IfErr result (λ why. (why ≡ Refused.Worn) × (2 ^ 64 ≤ sum_by (λ part. part.book) parts.now)) }
 {

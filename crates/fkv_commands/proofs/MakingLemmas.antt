@@ -12,8 +12,8 @@ use Rattle.fkv_blocks.specs.Left.{number_of}
 use Rattle.fkv_blocks.specs.Pieces.{TellsFault}
 use Rattle.fkv_workers.specs.Works.{IsUnread}
 use Rattle.fkv_feeds.specs.declared.counting.Plan.{Plan}
-use Rattle.fkv_feeds.specs.declared.modes.RowMode.{RowMode}
-use Rattle.fkv_feeds.specs.declared.modes.RowMode.TheVariants.{Merge}
+use Rattle.fkv_feeds.specs.declared.counting.RowMode.{RowMode}
+use Rattle.fkv_feeds.specs.declared.counting.RowMode.TheVariants.{Merge}
 use Rattle.fkv_requests.specs.declared.requests.TableRequest.{TableRequest}
 use Rattle.fkv_commands.specs.Plans.{IsPlanBy, readers}
 use Rattle.fkv_requests.specs.Requests.{Text}

@@ -6,7 +6,7 @@ use Rattle.std.specs.Io.KnownBytes.{Appends}
 use Rattle.fkv_functions.specs.declared.refusals.Refused.{Refused}
 use Rattle.fkv_functions.specs.declared.refusals.Refused.TheVariants.{Unwritable}
 use Rattle.fkv_streams.specs.Streams.{AppendsPrefix}
-use Rattle.fkv_commands.specs.declared.reporting.Report.{Report}
+use Rattle.fkv_commands.specs.declared.reporting.RunReport.{RunReport}
 use Rattle.fkv_requests.specs.declared.requests.Shown.{Shown}
 use Rattle.fkv_requests.specs.declared.requests.Shown.TheVariants.{Count, Sum, Max, Summary}
 use Rattle.fkv_commands.specs.Advice.{advice_text, keys_of_a_mebibyte}
@@ -43,7 +43,7 @@ room_of_one Max keys = omega arith
 room_of_one Summary keys = omega arith
 
 -- a report that is not told
-pub told_nothing : (shown : Shown) (sized : Bool) (report : Report) (a : Option (List ℕ))
+pub told_nothing : (shown : Shown) (sized : Bool) (report : RunReport) (a : Option (List ℕ))
     → (text : List ℕ) × IsTold shown sized report text × AppendsPrefix a a text
 told_nothing shown sized report a =
     (report_text report ++ advice_text sized report.keys report, (report.keys, room_of_one shown report.keys, refl), nothing_written a _)

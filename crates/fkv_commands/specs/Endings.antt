@@ -18,7 +18,7 @@ use Rattle.fkv_steps.specs.Running.{IsOutputOf}
 use Rattle.fkv_feeds.specs.Tables.{IsTableOf}
 use Rattle.fkv_feeds.specs.Writing.{table_text}
 use Rattle.fkv_summaries.specs.Summaries.{summaries, summary_fields}
-use Rattle.fkv_commands.specs.declared.reporting.Report.{Report}
+use Rattle.fkv_commands.specs.declared.reporting.RunReport.{RunReport}
 use Rattle.fkv_commands.specs.Plans.{IsPlanOf, feeds_of}
 use Rattle.fkv_commands.specs.Reports.{IsTold}
 
@@ -92,8 +92,8 @@ abbrev pub feeds_by : (List ℕ → Option (List ℕ)) → TableRequest → Opti
 feeds_by bytes table input = feeds_of bytes (map string_bytes table.paths.items) input
 
 -- a report of a run that was made as this request asks
-abbrev pub IsReportOf : TableRequest → Option Report → Type 0
-IsReportOf table told = (report : Report) × (told ≡ Some report) × IsPlanOf table report.plan
+abbrev pub IsReportOf : TableRequest → Option RunReport → Type 0
+IsReportOf table told = (report : RunReport) × (told ≡ Some report) × IsPlanOf table report.plan
 
 -- what the program tells of its version
 unfoldable pub version_line : List ℕ
@@ -101,7 +101,7 @@ version_line = line (codes "fkv_cli 0.1.0")
 
 -- The output of a run of these words, which was done, and its report, where files are known to take and give these pages, and paths to
 -- lead to these bytes; help is not told.
-abbrev pub IsDone : Option Pages → (List ℕ → Option (List ℕ)) → List Text → Option (List ℕ) → Option (List ℕ) → Option (List ℕ) → Option Report → Type 0
+abbrev pub IsDone : Option Pages → (List ℕ → Option (List ℕ)) → List Text → Option (List ℕ) → Option (List ℕ) → Option (List ℕ) → Option RunReport → Type 0
 IsDone pages bytes words input old new told =
     (AsksReplay words × PrintsAll input old new)
     ⊎ ((table : TableRequest)
@@ -123,19 +123,19 @@ IsStopped pages bytes words input old new =
     ⊎ MayAskHelp words
 
 -- what a run that was done tells: nothing, or where a report is asked for the run's, or its front where it can't be told whole
-abbrev pub IsQuiet : List Text → Option Report → Option (List ℕ) → Option (List ℕ) → Type 0
+abbrev pub IsQuiet : List Text → Option RunReport → Option (List ℕ) → Option (List ℕ) → Type 0
 IsQuiet words told old new =
     (new ≡ old)
     ⊎ ((table : TableRequest)
     × AsksTable words table
     × (table.stats ≡ true)
-    × ((report : Report) × (told ≡ Some report) × ((text : List ℕ) × IsTold table.shown table.sized report text × AppendsPrefix old new text)))
+    × ((report : RunReport) × (told ≡ Some report) × ((text : List ℕ) × IsTold table.shown table.sized report text × AppendsPrefix old new text)))
 
 -- what a run of these words ends with: status 0 where help is asked for, or where a replay, a table or the version was
 -- written whole, and then nothing was told but a report that was asked for; status 1 where nothing was written, or the front
 -- of what is asked for; status 2 where the words are mistaken, and then nothing was written
 pub record IsEnding (pages : Option Pages) (bytes : List ℕ → Option (List ℕ)) (words : List Text) (input old new told_old told_new : Option (List ℕ))
-    (told : Option Report) (status : ℕ) : Type 0 where
+    (told : Option RunReport) (status : ℕ) : Type 0 where
   pub done : status ≡ 0 → IsDone pages bytes words input old new told
   pub quiet : status ≡ 0 → IsQuiet words told told_old told_new
   pub fault : status ≡ 1 → IsStopped pages bytes words input old new

@@ -1,7 +1,7 @@
 -- How the run is made that a request asks for.
 use Rattle.std.specs.Prelude.{◌≡◌, ◌↔◌, ℕ, List, Option, [], ◌∷◌, map, max, true, false, string_bytes}
 use Rattle.fkv_feeds.specs.declared.counting.Plan.{Plan}
-use Rattle.fkv_feeds.specs.declared.modes.RowMode.TheVariants.{Merge}
+use Rattle.fkv_feeds.specs.declared.counting.RowMode.TheVariants.{Merge}
 use Rattle.fkv_requests.specs.declared.requests.TableRequest.{TableRequest}
 use Rattle.fkv_requests.specs.Requests.{Text}
 

@@ -1,7 +1,7 @@
 -- The text of a report.
 use Rattle.std.specs.Prelude.{◌≡◌, ◌≤◌, ◌*◌, ℕ, Bool, List, Option, None, Some, [], ◌∷◌, ◌++◌, ◌-◌, ◌/◌, ◌%◌, codes, decimal}
 use Rattle.fkv_steps.specs.Printing.{line}
-use Rattle.fkv_commands.specs.declared.reporting.Report.{Report}
+use Rattle.fkv_commands.specs.declared.reporting.RunReport.{RunReport}
 use Rattle.fkv_requests.specs.declared.requests.Shown.{Shown}
 use Rattle.fkv_commands.specs.Advice.{advice_text, keys_of_a_mebibyte}
 
@@ -34,7 +34,7 @@ peak_text None = []
 peak_text (Some peak) = fact (codes "peak memory in KiB") peak
 
 -- the numbers of a run, a line each
-abbrev pub report_text : Report → List ℕ
+abbrev pub report_text : RunReport → List ℕ
 report_text report =
     fact (codes "rows") report.counts.rows
     ++ fact (codes "keys") report.keys
@@ -47,7 +47,7 @@ report_text report =
 
 -- what the report of this table tells: its numbers, and where the words name no size, as `sized` says, and more memory is advised,
 -- one that has room for the record of each key in three quarters of it
-abbrev pub IsTold : Shown → Bool → Report → List ℕ → Type 0
+abbrev pub IsTold : Shown → Bool → RunReport → List ℕ → Type 0
 IsTold shown sized report text =
     (size : ℕ)
     × (report.keys ≤ size * keys_of_a_mebibyte shown)

@@ -2,8 +2,8 @@
 use Rattle.std.specs.Prelude.{◌≡◌, ℕ, List, Option, Some, IfSome}
 use Rattle.fkv_commands.specs.declared.opening.Feed.{Feed}
 use Rattle.fkv_commands.specs.declared.opening.Feed.TheVariants.{File, Bytes}
-use Rattle.fkv_commands.specs.declared.opening.Opened.{Opened}
-use Rattle.fkv_commands.specs.declared.opening.Opened.TheVariants as opened
+use Rattle.fkv_commands.specs.declared.opening.FeedInput.{FeedInput}
+use Rattle.fkv_commands.specs.declared.opening.FeedInput.TheVariants as opened
 
 -- this of a feed in a file, or that of one whose bytes were read
 abbrev pub said_of : {T : Type 0} {F B : Type 0} → (F → T) → (B → T) → Feed F B → T
@@ -11,7 +11,7 @@ said_of file bytes (File f) = file f
 said_of file bytes (Bytes b) = bytes b
 
 -- this of a file that was opened, or that of standard input
-abbrev pub opened_of : {T : Type 0} {F I : Type 0} → (F → T) → (I → T) → Opened F I → T
+abbrev pub opened_of : {T : Type 0} {F I : Type 0} → (F → T) → (I → T) → FeedInput F I → T
 opened_of file input (opened.File f) = file f
 opened_of file input (opened.Input i) = input i
 

@@ -2,14 +2,14 @@
 ghost use Rattle.std.specs.Prelude.{◌≡◌, ◌≤◌, ◌*◌, ◌++◌, ℕ, IfErr, OnOk};
 ghost use Rattle.fkv_commands.specs.Advice.{advice_text, read_back, is_advised, keys_of_a_mebibyte};
 
-use crate::reporting::Report;
+use crate::reporting::RunReport;
 use fkv_functions::Refused;
 use fkv_requests::Shown;
 use std::io::Write;
 
 /// How many rows read a page back, about: each page that was written is read once for the list of the keys, and a row seldom reads
 /// two.
-fn read_back(report: &Report) -> u64
+fn read_back(report: &RunReport) -> u64
     ensures { result ≡ read_back report.now.counts.rows report.now.seen.pages_read report.now.seen.pages_written }
 {
     let seen = report.seen;
@@ -18,7 +18,7 @@ fn read_back(report: &Report) -> u64
 }
 
 /// Whether more memory is to be advised: more than one row in ten read a page back, and the words do not say how much there is.
-fn is_advised(sized: bool, report: &Report) -> bool
+fn is_advised(sized: bool, report: &RunReport) -> bool
     ensures { result ≡ is_advised sized report.now.counts.rows report.now.seen.pages_read report.now.seen.pages_written }
 {
     !sized && read_back(report) > report.counts.rows / 10
@@ -48,7 +48,7 @@ fn mebibytes_for(shown: Shown, keys: u64) -> u64
 pub(crate) fn add_advice(
     shown: Shown,
     sized: bool,
-    report: &Report,
+    report: &RunReport,
     text: &mut Vec<u8>,
 ) -> Result<(), Refused>
     ensures ok { OnOk result ((size : ℕ) × (report.now.keys ≤ size * keys_of_a_mebibyte shown)

@@ -8,7 +8,7 @@ use crate::escaping::Escaped;
 use crate::finding::bad_row;
 use crate::probing::{Why, why_unmade, why_unreadable, why_unwritten};
 use crate::running::tell;
-use crate::telling::Telling;
+use crate::telling::SinkWriter;
 use fkv_functions::Refused;
 use fkv_requests::TableRequest;
 use fkv_streams::Sink;
@@ -45,7 +45,7 @@ fn feed_of(table: &TableRequest, number: u64) -> Named<'_> {
 }
 
 /// Ends a line with a reason, if there is one.
-fn tell_why<S: Sink>(why: Option<Why>, sink: &mut Telling<'_, S>) -> io::Result<()> {
+fn tell_why<S: Sink>(why: Option<Why>, sink: &mut SinkWriter<'_, S>) -> io::Result<()> {
     match why {
         Some(why) => writeln!(sink, ": {why}"),
         None => writeln!(sink),
@@ -57,7 +57,7 @@ fn tell_feed<H: Files, S: Sink>(
     files: &H,
     table: &TableRequest,
     number: u64,
-    sink: &mut Telling<'_, S>,
+    sink: &mut SinkWriter<'_, S>,
 ) -> io::Result<()> {
     match feed_of(table, number) {
         Named::Input => writeln!(sink, "fkv_cli: feed {number} is standard input"),
@@ -76,7 +76,7 @@ fn tell_row<H: Files, S: Sink>(
     table: &TableRequest,
     feed: u64,
     row: u64,
-    sink: &mut Telling<'_, S>,
+    sink: &mut SinkWriter<'_, S>,
 ) -> io::Result<()> {
     let Named::File(path) = feed_of(table, feed) else {
         writeln!(sink, "fkv_cli: standard input, row {row}")?;
@@ -96,7 +96,7 @@ fn tell_row<H: Files, S: Sink>(
 }
 
 /// Tells that a feed has no header, where one may stand.
-fn tell_header<S: Sink>(may_stand: bool, sink: &mut Telling<'_, S>) -> io::Result<()> {
+fn tell_header<S: Sink>(may_stand: bool, sink: &mut SinkWriter<'_, S>) -> io::Result<()> {
     if may_stand {
         writeln!(sink, "{NO_HEADER}")
     } else {
@@ -112,7 +112,7 @@ fn tell_folder<H: Files, S: Sink>(
     table: &TableRequest,
     code: u8,
     page: u64,
-    sink: &mut Telling<'_, S>,
+    sink: &mut SinkWriter<'_, S>,
 ) -> io::Result<()> {
     let Some(folder) = &table.folder else {
         return Ok(());
@@ -170,7 +170,7 @@ pub fn tell_cause<H: Files, E: Sink>(
     refused: Refused,
     faults: &mut E,
 ) {
-    let mut sink = Telling { sink: faults };
+    let mut sink = SinkWriter { sink: faults };
     let _untold = match refused {
         Refused::Unreadable { number } => tell_feed(files, table, number, &mut sink),
         Refused::BadRow { feed, row } => tell_row(files, alloc, table, feed, row, &mut sink),

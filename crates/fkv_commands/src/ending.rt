@@ -5,11 +5,11 @@ ghost use Rattle.std.specs.Process.{exit_status};
 ghost use Rattle.fkv_commands.specs.Endings.{IsEnding};
 
 use crate::opening::Opener;
-use crate::reporting::Report;
+use crate::reporting::RunReport;
 use crate::running::{refuse_words, run, tell};
 use fkv_device::PageFile;
 use fkv_functions::Refused;
-use fkv_meters::Progress;
+use fkv_meters::ReadProgress;
 use fkv_streams::{Sink, Source};
 use std::alloc::Global;
 use std::fs::Files;
@@ -27,7 +27,7 @@ pub fn end<
     W: Sink,
     E: Sink,
     H: Files + Threads + Wait + Clock + Sync,
-    P: Progress + Sync,
+    P: ReadProgress + Sync,
     O: Opener,
 >(
     rt: &H,
@@ -43,7 +43,7 @@ where
     H::File: PageFile + Send,
     H::Dir: Send,
     O::Feed: Send,
-    ensures ends { IfOk words (λ ws. (told : Option Report) × IsEnding H.File.pages (λ path. O.bytes opener.now path) (map string_bytes ws.items)
+    ensures ends { IfOk words (λ ws. (told : Option RunReport) × IsEnding H.File.pages (λ path. O.bytes opener.now path) (map string_bytes ws.items)
         (R.remaining reader.old) (W.contents writer.old) (W.contents writer.new) (E.contents faults.old)
         (E.contents faults.new) told (exit_status result)) }
     ensures no_text { IfErr words (λ e. error_kind e ≡ ErrorKind.InvalidData → exit_status result ≡ 2) }
@@ -75,7 +75,7 @@ fn ended<
     W: Sink,
     E: Sink,
     H: Files + Threads + Wait + Clock + Sync,
-    P: Progress + Sync,
+    P: ReadProgress + Sync,
     O: Opener,
 >(
     rt: &H,
@@ -91,7 +91,7 @@ where
     H::File: PageFile + Send,
     H::Dir: Send,
     O::Feed: Send,
-    ensures ends { (told : Option Report) × IsEnding H.File.pages (λ path. O.bytes opener.now path) (map string_bytes words.now)
+    ensures ends { (told : Option RunReport) × IsEnding H.File.pages (λ path. O.bytes opener.now path) (map string_bytes words.now)
         (R.remaining reader.old) (W.contents writer.old) (W.contents writer.new) (E.contents faults.old)
         (E.contents faults.new) told (exit_status result) }
     ensures out { exit_status result ≡ 0 → W.is_out writer.new ≡ true }

@@ -1,6 +1,6 @@
 //! Finding a row in its file again.
 use csv::{ByteRecord, Reader, ReaderBuilder};
-use fkv_feed_rows::amounts::amount;
+use fkv_feed_rows::rows::amount;
 use fkv_feed_rows::row_of;
 use std::alloc::Global;
 use std::fs::{self, Files};
@@ -24,7 +24,7 @@ pub(crate) struct BadRow {
 
 /// Where a record of a file stands.
 #[derive(Clone, Copy)]
-struct Place {
+struct RecordSpan {
     /// The line of its first byte, line ends before it included.
     line: u64,
     /// The file's bytes before it.
@@ -43,7 +43,7 @@ fn lacks_amount(fields: &ByteRecord) -> bool {
 }
 
 /// Where the next record stands; `None` where there is none, it is a row, or it can't be read.
-fn place_of<R: Read>(reader: &mut Reader<R>, fields: &mut ByteRecord) -> Option<Place> {
+fn place_of<R: Read>(reader: &mut Reader<R>, fields: &mut ByteRecord) -> Option<RecordSpan> {
     let begin = reader.position();
     match reader.read_byte_record(fields) {
         Ok(true) => {}
@@ -52,7 +52,7 @@ fn place_of<R: Read>(reader: &mut Reader<R>, fields: &mut ByteRecord) -> Option<
     if row_of(fields).is_some() {
         return None;
     }
-    Some(Place {
+    Some(RecordSpan {
         line: begin.line(),
         start: begin.byte(),
         length: reader.position().byte().saturating_sub(begin.byte()),
@@ -61,7 +61,7 @@ fn place_of<R: Read>(reader: &mut Reader<R>, fields: &mut ByteRecord) -> Option<
 }
 
 /// Where the record of this number stands, counted from 1; `None` where it is a row by now.
-fn place_in<R: Read + Drop>(alloc: Global, file: R, row: u64) -> Option<Place> {
+fn place_in<R: Read + Drop>(alloc: Global, file: R, row: u64) -> Option<RecordSpan> {
     let mut reader = ReaderBuilder::new()
         .has_headers(false)
         .flexible(true)

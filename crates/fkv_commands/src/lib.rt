@@ -25,6 +25,6 @@ mod telling;
 
 pub use ending::end;
 pub use opening::{FeedFiles, Opener};
-pub use reporting::Report;
-pub use running::{Ended, run};
-pub use starting::{End, start};
+pub use reporting::RunReport;
+pub use running::{RunOutcome, run};
+pub use starting::{ProgramEnd, start};

@@ -6,10 +6,12 @@ ghost use Rattle.fkv_commands.specs.Plans.{IsPlanBy};
 
 use crate::opening::{Feed, FeedOf, Opener, all_opened, read_whole};
 use fkv_device::Disk;
-use fkv_feeds::{RowMode, Run, SpilledRun, run_alone_by, run_one_by, spill_alone_by, spill_one_by};
+use fkv_feeds::{
+    RowMode, SpilledRun, TableRun, run_alone_by, run_one_by, spill_alone_by, spill_one_by,
+};
 use fkv_functions::{Mergeable, Name, OrderFree, Refused};
 use fkv_histories::{Audited, Plain, Recorder};
-use fkv_meters::Progress;
+use fkv_meters::ReadProgress;
 use fkv_requests::TableRequest;
 use fkv_store::Open;
 use fkv_streams::{CountedReader, Source};
@@ -46,7 +48,7 @@ fn shared<
     functions: F,
     feeds: Vec<S>,
     device: D,
-) -> Result<Run<F::Value>, Refused>
+) -> Result<TableRun<F::Value>, Refused>
 where
     F::Value: Send,
     F::Output: Send,
@@ -75,7 +77,7 @@ pub(crate) fn made_of_input<
     F: Mergeable + OrderFree<Key = Name, Input = i64> + Send + Sync,
     D: Disk + Send,
     H: Files + Threads + Wait + Clock + Sync,
-    P: Progress + Sync,
+    P: ReadProgress + Sync,
 >(
     rt: &H,
     alloc: Global,
@@ -83,7 +85,7 @@ pub(crate) fn made_of_input<
     functions: F,
     reader: &mut R,
     device: D,
-) -> Result<Run<F::Value>, Refused>
+) -> Result<TableRun<F::Value>, Refused>
 where
     F::Value: Send,
     F::Output: Send,
@@ -127,7 +129,7 @@ pub(crate) fn made_of_feeds<
     functions: F,
     device: D,
     opener: &O,
-) -> Result<Run<F::Value>, Refused>
+) -> Result<TableRun<F::Value>, Refused>
 where
     F::Value: Send,
     F::Output: Send,

@@ -4,7 +4,7 @@ ghost use Rattle.std.specs.List.{AllZip};
 ghost use Rattle.fkv_commands.specs.Sources.{said_of, opened_of, Agrees};
 
 use fkv_functions::Refused;
-use fkv_meters::{Progress, ProgressSource};
+use fkv_meters::{ProgressSource, ReadProgress};
 use fkv_streams::{CountedReader, Source};
 use std::alloc::Global;
 use std::fs::{self, Files};
@@ -22,26 +22,26 @@ pub enum Feed<F, B> {
 /// A feed in a file, or standard input, which a thread can take as it takes a file. Each counts its own failures, so that none is
 /// hidden.
 #[derive(Drop)]
-pub enum Opened<F, I> {
+pub enum FeedInput<F, I> {
     File(F),
     Input(I),
 }
 
 /// What is opened at a path.
-pub type OpenedFile<T> = Opened<CountedReader<T>, CountedReader<Stdin>>;
+pub type OpenedFile<T> = FeedInput<CountedReader<T>, CountedReader<Stdin>>;
 
 /// A feed that tells how far it is where it was opened; the reader of the bytes has told it of the other.
 pub type FeedOf<'a, 'b, T, P> = Feed<ProgressSource<'a, OpenedFile<T>, P>, CountedReader<&'b [u8]>>;
 
-impl<F: Source, I: Source> Source for Opened<F, I> {
+impl<F: Source, I: Source> Source for FeedInput<F, I> {
     ghost remaining = { opened_of F.remaining I.remaining };
 
     ghost failures = { opened_of F.failures I.failures };
 
     fn read(&mut self, buf: &mut [u8]) -> Result<usize, Refused> {
         match self {
-            Opened::File(source) => source.read(buf),
-            Opened::Input(source) => source.read(buf),
+            FeedInput::File(source) => source.read(buf),
+            FeedInput::Input(source) => source.read(buf),
         }
     }
 }
@@ -120,12 +120,12 @@ fn open_at<H: Files>(
 {
     if path == "-" {
         return match input {
-            Some(input) => Ok(Opened::Input(CountedReader::new(input))),
+            Some(input) => Ok(FeedInput::Input(CountedReader::new(input))),
             None => Err(Refused::Unreadable { number }),
         };
     }
     match fs::open(files, path) {
-        Ok(file) => Ok(Opened::File(CountedReader::new(file))),
+        Ok(file) => Ok(FeedInput::File(CountedReader::new(file))),
         Err(error) => match error.kind() {
             ErrorKind::OutOfMemory => Err(Refused::NoMemory),
             _ => Err(Refused::Unreadable { number }),
@@ -133,7 +133,7 @@ fn open_at<H: Files>(
     }
 }
 
-impl<'a, 'b, H: Files, P: Progress> Opener for FeedFiles<'a, 'b, H, P> {
+impl<'a, 'b, H: Files, P: ReadProgress> Opener for FeedFiles<'a, 'b, H, P> {
     type Feed = FeedOf<'a, 'b, H::File, P>;
 
     ghost bytes = { λ _ _. None };

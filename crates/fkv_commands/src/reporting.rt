@@ -5,9 +5,9 @@ ghost use Rattle.fkv_streams.specs.Streams.{AppendsPrefix};
 ghost use Rattle.fkv_commands.specs.Reports.{IsTold, appended_text, fact, peak_text, seconds_text};
 
 use crate::advising::add_advice;
-use fkv_feeds::{Counts, Plan, Run, SpilledRun};
+use fkv_feeds::{Plan, RunCounts, SpilledRun, TableRun};
 use fkv_functions::Refused;
-use fkv_meters::Seen;
+use fkv_meters::MeterReadings;
 use fkv_requests::Shown;
 use fkv_streams::{Sink, write_out};
 use std::alloc::Global;
@@ -16,15 +16,15 @@ use std::time::Duration;
 
 /// What a run did.
 #[derive(Clone, Copy, Debug, PartialEq, Eq)]
-pub struct Report {
+pub struct RunReport {
     /// The keys of its table.
     pub keys: usize,
     /// Its rows, and the records that they appended.
-    pub counts: Counts,
+    pub counts: RunCounts,
     /// How it was made.
     pub plan: Plan,
     /// What went to its device and came back.
-    pub seen: Seen,
+    pub seen: MeterReadings,
     /// The milliseconds from its beginning to the table's end, where the clock tells them.
     pub millis: Option<u64>,
     /// The KiB of memory that its process had at most, where the system tells it.
@@ -33,18 +33,18 @@ pub struct Report {
 
 /// How much a run did whose table stands on its device, and how.
 #[derive(Clone, Copy, Debug, PartialEq, Eq)]
-pub(crate) struct Ran {
+pub(crate) struct SpilledReport {
     keys: usize,
-    counts: Counts,
+    counts: RunCounts,
     plan: Plan,
 }
 
-impl Ran {
+impl SpilledReport {
     /// That of this run.
-    pub(crate) fn of<V, R, P>(run: &SpilledRun<V, R, P>) -> Ran
+    pub(crate) fn of<V, R, P>(run: &SpilledRun<V, R, P>) -> SpilledReport
         ensures { result ≡ record { keys = run.now.keys; counts = run.now.counts; plan = run.now.plan } }
     {
-        Ran {
+        SpilledReport {
             keys: run.keys,
             counts: run.counts,
             plan: run.plan,
@@ -79,22 +79,22 @@ fn add_fact(text: &mut Vec<u8>, name: &str, number: u64) -> Result<(), Refused>
     }
 }
 
-impl Report {
+impl RunReport {
     /// What a run did between these two moments.
     pub fn new<V>(
-        run: &Run<V>,
-        seen: Seen,
+        run: &TableRun<V>,
+        seen: MeterReadings,
         begun: io::Result<Duration>,
         ended: io::Result<Duration>,
         peak: Option<u64>,
-    ) -> Report
+    ) -> RunReport
         ensures keys { result.keys ≡ length run.now.table }
         ensures counts { result.counts ≡ run.now.counts }
         ensures plan { result.plan ≡ run.now.plan }
         ensures seen { result.seen ≡ seen }
         ensures peak { result.peak ≡ peak }
     {
-        Report {
+        RunReport {
             keys: run.table.len(),
             counts: run.counts,
             plan: run.plan,
@@ -106,19 +106,19 @@ impl Report {
 
     /// What a run did between these two moments whose table was written from its device.
     pub(crate) fn of_spilled(
-        ran: Ran,
-        seen: Seen,
+        ran: SpilledReport,
+        seen: MeterReadings,
         begun: io::Result<Duration>,
         ended: io::Result<Duration>,
         peak: Option<u64>,
-    ) -> Report
+    ) -> RunReport
         ensures keys { result.keys ≡ ran.keys }
         ensures counts { result.counts ≡ ran.counts }
         ensures plan { result.plan ≡ ran.plan }
         ensures seen { result.seen ≡ seen }
         ensures peak { result.peak ≡ peak }
     {
-        Report {
+        RunReport {
             keys: ran.keys,
             counts: ran.counts,
             plan: ran.plan,
@@ -153,7 +153,7 @@ impl Report {
             ≡ text.old.items ++ appended_text self.now.counts.rows self.now.counts.appended) }
         ensures only { IfErr result (λ refused. refused ≡ Refused.NoMemory) }
     {
-        let Counts { rows, appended } = self.counts;
+        let RunCounts { rows, appended } = self.counts;
         let Some(appended) = appended else {
             return Ok(());
         };

@@ -9,12 +9,12 @@ ghost use Rattle.fkv_commands.specs.Reports.{IsTold};
 
 use crate::causes::tell_with_cause;
 use crate::opening::Opener;
-use crate::reporting::Report;
+use crate::reporting::RunReport;
 use crate::tabulating::tabulate;
-use crate::telling::Telling;
+use crate::telling::SinkWriter;
 use fkv_device::PageFile;
 use fkv_functions::Refused;
-use fkv_meters::Progress;
+use fkv_meters::ReadProgress;
 use fkv_requests::{Request, TableRequest, request_of};
 use fkv_steps::scripts::run_script;
 use fkv_streams::{Sink, Source, write_out};
@@ -34,19 +34,19 @@ const MISTAKE: u8 = 2;
 
 /// How a run ended.
 #[derive(Clone, Copy, Debug, PartialEq, Eq)]
-pub struct Ended {
+pub struct RunOutcome {
     /// The status: 0, 1 or 2.
     pub status: u8,
     /// What it did, where it made a table and wrote it.
-    pub report: Option<Report>,
+    pub report: Option<RunReport>,
 }
 
-impl Ended {
+impl RunOutcome {
     /// A run with this status that wrote no table.
-    fn by(status: u8) -> Ended
+    fn by(status: u8) -> RunOutcome
         ensures { result ≡ record { status = status; report = None } }
     {
-        Ended {
+        RunOutcome {
             status,
             report: None,
         }
@@ -68,7 +68,7 @@ pub fn run<
     W: Sink,
     E: Sink,
     H: Files + Threads + Wait + Clock + Sync,
-    P: Progress + Sync,
+    P: ReadProgress + Sync,
     O: Opener,
 >(
     rt: &H,
@@ -79,7 +79,7 @@ pub fn run<
     faults: &mut E,
     hook: &P,
     opener: &O,
-) -> Ended
+) -> RunOutcome
 where
     H::File: PageFile + Send,
     H::Dir: Send,
@@ -100,47 +100,47 @@ where
 {
     match request_of(alloc, words) {
         Ok(Request::Replay) => match run_script(alloc, reader, writer) {
-            Ok(()) => Ended::by(DONE),
-            Err(refused) => Ended::by(tell(faults, refused)),
+            Ok(()) => RunOutcome::by(DONE),
+            Err(refused) => RunOutcome::by(tell(faults, refused)),
         },
         Ok(Request::Table(table)) => {
             begin(&table, hook);
             match tabulate(rt, alloc, &table, reader, writer, hook, opener) {
                 Ok(done) => {
                     report(alloc, &table, &done, faults);
-                    Ended {
+                    RunOutcome {
                         status: DONE,
                         report: Some(done),
                     }
                 }
-                Err(refused) => Ended::by(tell_with_cause(rt, alloc, &table, refused, faults)),
+                Err(refused) => RunOutcome::by(tell_with_cause(rt, alloc, &table, refused, faults)),
             }
         }
         Ok(Request::Help(text)) => match write_out(writer, text.as_bytes()) {
-            Ok(()) => Ended::by(DONE),
-            Err(refused) => Ended::by(tell(faults, refused)),
+            Ok(()) => RunOutcome::by(DONE),
+            Err(refused) => RunOutcome::by(tell(faults, refused)),
         },
         Ok(Request::Version) => match write_version(writer) {
-            Ok(()) => Ended::by(DONE),
-            Err(refused) => Ended::by(tell(faults, refused)),
+            Ok(()) => RunOutcome::by(DONE),
+            Err(refused) => RunOutcome::by(tell(faults, refused)),
         },
         Ok(Request::Mistake(text)) => {
             let _untold = write_out(faults, text.as_bytes());
-            Ended::by(MISTAKE)
+            RunOutcome::by(MISTAKE)
         }
-        Err(refused) => Ended::by(tell(faults, refused)),
+        Err(refused) => RunOutcome::by(tell(faults, refused)),
     }
 }
 
 /// Has the hook tell how far a run is, where that is asked for.
-fn begin<P: Progress>(table: &TableRequest, hook: &P) {
+fn begin<P: ReadProgress>(table: &TableRequest, hook: &P) {
     if table.progress {
         hook.begin();
     }
 }
 
 /// Tells what a run did, where that is asked for.
-fn report<E: Sink>(alloc: Global, table: &TableRequest, done: &Report, faults: &mut E)
+fn report<E: Sink>(alloc: Global, table: &TableRequest, done: &RunReport, faults: &mut E)
     ensures { (E.contents faults.new ≡ E.contents faults.old) ⊎ ((table.now.stats ≡ true)
         × ((text : List ℕ) × IsTold table.now.shown table.now.sized done.now text
         × AppendsPrefix (E.contents faults.old) (E.contents faults.new) text)) }
@@ -165,7 +165,7 @@ fn write_version<W: Sink>(writer: &mut W) -> Result<(), Refused>
 pub fn tell<E: Sink>(faults: &mut E, refused: Refused) -> u8
     ensures { result ≡ 1 }
 {
-    let _untold = writeln!(Telling { sink: faults }, "fkv_cli: {refused}");
+    let _untold = writeln!(SinkWriter { sink: faults }, "fkv_cli: {refused}");
     FAULT
 }
 

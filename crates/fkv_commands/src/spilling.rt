@@ -12,12 +12,12 @@ ghost use Rattle.fkv_commands.specs.Plans.{IsPlanOf};
 
 use crate::making::{spilled_of_feeds, spilled_of_input};
 use crate::opening::Opener;
-use crate::reporting::Ran;
+use crate::reporting::SpilledReport;
 use fkv_device::{Disk, PageReader};
 use fkv_either::{EitherDevice, Keeping};
-use fkv_feeds::{Shown, SpilledRun, write_pairs};
+use fkv_feeds::{RowFields, SpilledRun, write_pairs};
 use fkv_functions::{Fixed, Mergeable, Name, OrderFree, Refused};
-use fkv_meters::{MeteredDevice, Meters, Progress};
+use fkv_meters::{MeteredDevice, Meters, ReadProgress};
 use fkv_requests::TableRequest;
 use fkv_streams::{Sink, Source};
 use std::alloc::Global;
@@ -64,11 +64,11 @@ where
 }
 
 /// Writes the table of a run from its device, and answers how much the run did.
-fn write_spilled<V: Fixed + Shown, P: PageReader, W: Sink>(
+fn write_spilled<V: Fixed + RowFields, P: PageReader, W: Sink>(
     alloc: Global,
     run: SpilledRun<V, P::Receipt, P>,
     writer: &mut W,
-) -> Result<Ran, Refused>
+) -> Result<SpilledReport, Refused>
     ensures ok { (xs : List (Name × V)) → ArePairsOf V.codec P.Receipt.keeps P.Receipt.stands run.pairs xs → OnOk result
         (Appends (W.contents writer.old) (W.contents writer.new) (table_text (fields_of V.FIELDS V.field_at) xs)) }
     ensures prefix { (xs : List (Name × V)) → ArePairsOf V.codec P.Receipt.keeps P.Receipt.stands run.pairs xs → OnErr result
@@ -85,7 +85,7 @@ fn write_spilled<V: Fixed + Shown, P: PageReader, W: Sink>(
     ensures steady { OnOk result (W.failures writer.new ≡ W.failures writer.old) }
 {
     let mut run = run;
-    let ran = Ran::of(&run);
+    let ran = SpilledReport::of(&run);
     match write_pairs(alloc, &mut run.pairs, writer) {
         Ok(()) => Ok(ran),
         Err(refused) => Err(refused),
@@ -98,7 +98,7 @@ pub(crate) fn spill_on<
     W: Sink,
     F: Mergeable + OrderFree<Key = Name, Input = i64> + Send + Sync,
     D: Disk + Send,
-    P: Progress,
+    P: ReadProgress,
     O: Opener,
     K: Keeping + Send,
     T: Threads + Wait + Clock + Sync,
@@ -113,9 +113,9 @@ pub(crate) fn spill_on<
     meters: &Meters,
     hook: &P,
     opener: &O,
-) -> Result<Ran, Refused>
+) -> Result<SpilledReport, Refused>
 where
-    F::Value: Shown + Send,
+    F::Value: RowFields + Send,
     F::Output: Send,
     O::Feed: Send,
     D::Receipt: Send,

@@ -5,7 +5,7 @@ ghost use Rattle.std.specs.Process.{exit_status};
 use crate::ending::end;
 use crate::opening::FeedFiles;
 use fkv_device::PageFile;
-use fkv_meters::{ProgressSource, Telling};
+use fkv_meters::{ProgressLine, ProgressSource};
 use fkv_requests::words_of;
 use fkv_streams::{CountedReader, CountedWriter};
 use std::env::{self, Env};
@@ -18,15 +18,15 @@ use std::thread::Threads;
 
 /// The end of a program, with its status. [`start`] alone makes one, and nobody can let one go: so a `main` that calls it ends with
 /// that status.
-pub struct End {
+pub struct ProgramEnd {
     status: ExitCode,
 }
 
-impl Termination for End {
+impl Termination for ProgramEnd {
     fn report<R: Eprint>(self, _rt: &R) -> ExitCode
         ensures { result ≡ self.status }
     {
-        let End { status } = self;
+        let ProgramEnd { status } = self;
         status
     }
 }
@@ -38,13 +38,13 @@ pub fn start<R: Env + Files + AllocGlobal + Threads + Wait + Clock + Sync>(
     input: &Stdin,
     output: &Stdout,
     faults: &Stderr,
-) -> End
+) -> ProgramEnd
 where
     R::File: PageFile + Send,
     R::Dir: Send,
     ensures { (exit_status result.status ≡ 0) ⊎ (exit_status result.status ≡ 1) ⊎ (exit_status result.status ≡ 2) }
 {
-    let hook: Telling<'_, R, Stderr> = Telling::new(rt, faults, faults.is_terminal());
+    let hook: ProgressLine<'_, R, Stderr> = ProgressLine::new(rt, faults, faults.is_terminal());
     let status = end(
         rt,
         rt.alloc(),
@@ -55,5 +55,5 @@ where
         &hook,
         &FeedFiles::new(rt, &hook).with_input(*input),
     );
-    End { status }
+    ProgramEnd { status }
 }

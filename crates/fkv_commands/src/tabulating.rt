@@ -11,13 +11,13 @@ ghost use Rattle.fkv_commands.specs.Plans.{IsPlanOf, IsUnaudited};
 use crate::making::{made_of_feeds, made_of_input};
 use crate::opening::Opener;
 use crate::peaks::peak_of;
-use crate::reporting::Report;
+use crate::reporting::RunReport;
 use crate::spilling::spill_on;
 use fkv_device::{Disk, FileDevice, PageFile};
 use fkv_either::{EitherDevice, Keeping};
-use fkv_feeds::{Run, write_table};
+use fkv_feeds::{TableRun, write_table};
 use fkv_functions::{CountFns, MaxFns, Mergeable, Name, OrderFree, Refused, SumFns};
-use fkv_meters::{MeteredDevice, Meters, Progress};
+use fkv_meters::{MeteredDevice, Meters, ReadProgress};
 use fkv_requests::{Shown, TableRequest};
 use fkv_streams::{Sink, Source};
 use fkv_summaries::SummaryFns;
@@ -34,7 +34,7 @@ fn run_with<
     F: Mergeable + OrderFree<Key = Name, Input = i64> + Send + Sync,
     D: Disk + Send,
     H: Files + Threads + Wait + Clock + Sync,
-    P: Progress + Sync,
+    P: ReadProgress + Sync,
     O: Opener,
 >(
     rt: &H,
@@ -44,7 +44,7 @@ fn run_with<
     reader: &mut R,
     device: D,
     opener: &O,
-) -> Result<Run<F::Value>, Refused>
+) -> Result<TableRun<F::Value>, Refused>
 where
     F::Value: Send,
     F::Output: Send,
@@ -73,7 +73,7 @@ fn run_on<
     F: Mergeable + OrderFree<Key = Name, Input = i64> + Send + Sync,
     D: Disk + Send,
     H: Files + Threads + Wait + Clock + Sync,
-    P: Progress + Sync,
+    P: ReadProgress + Sync,
     O: Opener,
     K: Keeping + Send,
 >(
@@ -85,7 +85,7 @@ fn run_on<
     folder: Option<D>,
     meters: &Meters,
     opener: &O,
-) -> Result<Run<F::Value>, Refused>
+) -> Result<TableRun<F::Value>, Refused>
 where
     F::Value: Send,
     F::Output: Send,
@@ -133,7 +133,7 @@ fn run_of<
     R: Source,
     F: Mergeable + OrderFree<Key = Name, Input = i64> + Send + Sync,
     H: Files + Threads + Wait + Clock + Sync,
-    P: Progress + Sync,
+    P: ReadProgress + Sync,
     O: Opener,
 >(
     rt: &H,
@@ -143,7 +143,7 @@ fn run_of<
     reader: &mut R,
     meters: &Meters,
     opener: &O,
-) -> Result<Run<F::Value>, Refused>
+) -> Result<TableRun<F::Value>, Refused>
 where
     F::Value: Send,
     F::Output: Send,
@@ -171,7 +171,7 @@ fn spill_by<
     W: Sink,
     F: Mergeable + OrderFree<Key = Name, Input = i64> + Send + Sync,
     H: Files + Threads + Wait + Clock + Sync,
-    P: Progress,
+    P: ReadProgress,
     O: Opener,
 >(
     rt: &H,
@@ -182,9 +182,9 @@ fn spill_by<
     writer: &mut W,
     hook: &P,
     opener: &O,
-) -> Result<Report, Refused>
+) -> Result<RunReport, Refused>
 where
-    F::Value: fkv_feeds::Shown + Send,
+    F::Value: fkv_feeds::RowFields + Send,
     F::Output: Send,
     H::File: PageFile + Send,
     H::Dir: Send,
@@ -220,7 +220,7 @@ where
     match spill_on::<R, W, F, _, P, O, Brand, H>(
         rt, alloc, table, functions, reader, writer, folder, &meters, hook, opener,
     ) {
-        Ok(ran) => Ok(Report::of_spilled(
+        Ok(ran) => Ok(RunReport::of_spilled(
             ran,
             meters.seen(),
             begun,
@@ -237,7 +237,7 @@ fn tabulate_by<
     W: Sink,
     F: Mergeable + OrderFree<Key = Name, Input = i64> + Send + Sync,
     H: Files + Threads + Wait + Clock + Sync,
-    P: Progress + Sync,
+    P: ReadProgress + Sync,
     O: Opener,
 >(
     rt: &H,
@@ -248,9 +248,9 @@ fn tabulate_by<
     writer: &mut W,
     hook: &P,
     opener: &O,
-) -> Result<Report, Refused>
+) -> Result<RunReport, Refused>
 where
-    F::Value: fkv_feeds::Shown + Send,
+    F::Value: fkv_feeds::RowFields + Send,
     F::Output: Send,
     H::File: PageFile + Send,
     H::Dir: Send,
@@ -285,7 +285,7 @@ where
     hook.end();
     match made {
         Ok(run) => match write_table(alloc, &run.table, writer) {
-            Ok(()) => Ok(Report::new(
+            Ok(()) => Ok(RunReport::new(
                 &run,
                 meters.seen(),
                 begun,
@@ -305,7 +305,7 @@ pub fn tabulate<
     R: Source,
     W: Sink,
     H: Files + Threads + Wait + Clock + Sync,
-    P: Progress + Sync,
+    P: ReadProgress + Sync,
     O: Opener,
 >(
     rt: &H,
@@ -315,7 +315,7 @@ pub fn tabulate<
     writer: &mut W,
     hook: &P,
     opener: &O,
-) -> Result<Report, Refused>
+) -> Result<RunReport, Refused>
 where
     H::File: PageFile + Send,
     H::Dir: Send,

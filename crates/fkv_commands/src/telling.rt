@@ -5,11 +5,11 @@ use std::io::{self, Error, ErrorKind, Write};
 /// A sink as a writer of the standard library. Nothing is said of what it takes: a text that must be known is made
 /// first, and written out then.
 #[derive(Drop)]
-pub struct Telling<'a, S> {
+pub struct SinkWriter<'a, S> {
     pub sink: &'a mut S,
 }
 
-impl<S: Sink> Write for Telling<'_, S> {
+impl<S: Sink> Write for SinkWriter<'_, S> {
     fn write(&mut self, bytes: &[u8]) -> io::Result<usize> {
         if bytes.is_empty() {
             return Ok(0);

@@ -55,7 +55,7 @@ impl Epochs {
     }
 
     /// Tells a proof what holds of epochs at any time. It does nothing when it runs.
-    pub fn known(&self)
+    pub fn facts(&self)
         ensures { IsTimely self.now }
     {
         let _epoch = self.epoch;

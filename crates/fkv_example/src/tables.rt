@@ -5,7 +5,7 @@ use crate::latest_inputs::{Latest, LatestFns};
 use crate::store::CONFIG;
 use anyhow::{Context, Result};
 use fkv_device::MemoryDevice;
-use fkv_feeds::{Shown, run_alone, write_table};
+use fkv_feeds::{RowFields, run_alone, write_table};
 use fkv_streams::{CountedReader, CountedWriter};
 use itoa::Buffer;
 use std::alloc::Global;
@@ -14,7 +14,7 @@ use std::str;
 /// The rows of a feed.
 const ROWS: &[u8] = b"apples,7\nplums,12\napples,-2\nplums,30\n";
 
-impl Shown for Latest {
+impl RowFields for Latest {
     const FIELDS: usize = 2;
 
     ghost FIELDS = { 2 };

@@ -4,7 +4,6 @@
 //! record is, [`Watched`] is a stream as what csv reads from, and [`read_feed`] hands on the rows of a feed to a [`RowSink`].
 #![tactic(auto)]
 
-pub mod amounts;
 pub mod reading;
 pub mod rows;
 pub mod sinks;

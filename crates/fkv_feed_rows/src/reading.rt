@@ -17,7 +17,7 @@ use std::marker::Brand;
 
 /// A stream that was read, whether it failed, and how the reading ended.
 #[derive(Drop)]
-struct Ended<'a, S> {
+struct ReadStream<'a, S> {
     source: &'a mut S,
     failed: bool,
     told: Result<u64, Refused>,
@@ -73,7 +73,7 @@ fn read_lent<'a, S: Source, B: Since, K: RowSink>(
     feed: u64,
     limit: u64,
     sink: &mut K,
-) -> Ended<'a, S>
+) -> ReadStream<'a, S>
     requires name { source.ghost_name ≡ B.name }
     requires count { S.failures source.old ≡ B.count }
     requires stands { (rows : List (Name × ℤ)) × K.stands sink.old rows }
@@ -93,7 +93,7 @@ fn read_lent<'a, S: Source, B: Since, K: RowSink>(
         .from_reader(alloc, Watched::<S, B>::new(source));
     let told = add_rows(alloc, &mut reader, feed, limit, sink);
     let Watched { source, failed, .. } = reader.into_inner();
-    Ended {
+    ReadStream {
         source,
         failed,
         told,

@@ -21,8 +21,8 @@ use Rattle.fkv_operations.specs.declared.operations.KeyedOp.TheVariants.{Rmw}
 use Rattle.fkv_partition.proofs.UnionLemmas.{is_at-turned}
 use Rattle.fkv_local.specs.Storing.{StoreView, plain, IsRun, IsUpdateRun, SameTerms}
 use Rattle.fkv_partition.specs.declared.limits.Config.{Config}
-use Rattle.fkv_feeds.specs.declared.modes.RowMode.{RowMode}
-use Rattle.fkv_feeds.specs.declared.modes.RowMode.TheVariants as modes
+use Rattle.fkv_feeds.specs.declared.counting.RowMode.{RowMode}
+use Rattle.fkv_feeds.specs.declared.counting.RowMode.TheVariants as modes
 use Rattle.fkv_feeds.specs.Keeping.{kept_of, unread_in}
 use Rattle.fkv_local.specs.Causing.{IsCausedBy}
 use Rattle.fkv_local.specs.Failures.{Failures, failures_of}

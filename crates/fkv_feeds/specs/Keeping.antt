@@ -2,8 +2,8 @@
 use Rattle.std.specs.Prelude.{Bool, cond, List, Option, Some, None, ◌&&◌}
 use Rattle.fkv_partition.specs.declared.limits.Config.{Config}
 use Rattle.fkv_local.specs.Storing.{StoreView}
-use Rattle.fkv_feeds.specs.declared.modes.RowMode.{RowMode}
-use Rattle.fkv_feeds.specs.declared.modes.RowMode.TheVariants as mode
+use Rattle.fkv_feeds.specs.declared.counting.RowMode.{RowMode}
+use Rattle.fkv_feeds.specs.declared.counting.RowMode.TheVariants as mode
 
 -- the configuration, how rows are made updates, whether logs are kept, and the readers that no row uses
 pub record KeptOf (P : Type 0) : Type 0 where

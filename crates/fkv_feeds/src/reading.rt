@@ -10,8 +10,7 @@ ghost use Rattle.fkv_feeds.specs.Keeping.{KeptOf, kept_of};
 ghost use Rattle.fkv_feeds.specs.Refusing.{IsRowRefusal};
 ghost use Rattle.fkv_feeds.specs.Tables.{StandsFor};
 
-use crate::counting::Plan;
-use crate::modes::RowMode;
+use crate::counting::{Plan, RowMode};
 use fkv_device::Disk;
 use fkv_feed_rows::RowSink;
 use fkv_functions::{Mergeable, Name, Refused};

@@ -16,8 +16,7 @@ ghost use Rattle.fkv_feeds.specs.Refusing.{IsRunnable, TellsStopped, TellsWhyNon
 ghost use Rattle.fkv_local.specs.Causing.{IsCausedBy};
 ghost use Rattle.fkv_local.specs.Listing.{ListsView, IsUnlisted};
 
-use crate::counting::{Counts, Run};
-use crate::modes::RowMode;
+use crate::counting::{RowMode, RunCounts, TableRun};
 use crate::reading::{RowStore, read_feed};
 use crate::tabling::table_of;
 use fkv_device::Disk;
@@ -65,7 +64,7 @@ fn finish<F: Mergeable<Key = Name, Input = i64>, D: Disk>(
     alloc: Global,
     store: RowStore<F, D>,
     rows: u64,
-) -> Result<Run<F::Value>, Refused>
+) -> Result<TableRun<F::Value>, Refused>
     ensures value { IsTrue D.Receipt.keeps → IfOk result (λ run. (rows : List (Name × ℤ))
         → StandsFor D.Receipt.keeps F.meaning F.code store.store rows
         → (k : Name) → lookup (is_at (name_cmp k)) run.table ≡ folded F.meaning k (amounts_of name_cmp k rows)) }
@@ -84,9 +83,9 @@ fn finish<F: Mergeable<Key = Name, Input = i64>, D: Disk>(
         Ok(table) => table,
         Err(refused) => return Err(refused),
     };
-    Ok(Run {
+    Ok(TableRun {
         table,
-        counts: Counts {
+        counts: RunCounts {
             rows,
             appended: Some(appended),
         },
@@ -142,7 +141,7 @@ pub fn run_one<S: Source, F: Mergeable<Key = Name, Input = i64>, D: Disk>(
     functions: F,
     config: &Config,
     device: D,
-) -> Result<Run<F::Value>, Refused>
+) -> Result<TableRun<F::Value>, Refused>
     ensures ok { IsTrue D.Receipt.keeps
         → IfOk result (λ run. IsTableOf F.meaning (map S.remaining feeds.old) run.table) }
     ensures counted { IfOk result (λ run. HaveRows (map S.remaining feeds.old) run.counts.rows) }
@@ -171,7 +170,7 @@ pub fn run_one_by<S: Source, F: Mergeable<Key = Name, Input = i64>, D: Disk>(
     config: &Config,
     mut device: D,
     mode: RowMode,
-) -> Result<Run<F::Value>, Refused>
+) -> Result<TableRun<F::Value>, Refused>
     ensures ok { IsTrue D.Receipt.keeps
         → IfOk result (λ run. IsTableOf F.meaning (map S.remaining feeds.old) run.table) }
     ensures counted { IfOk result (λ run. HaveRows (map S.remaining feeds.old) run.counts.rows) }
@@ -209,7 +208,7 @@ pub fn run_alone<S: Source, F: Mergeable<Key = Name, Input = i64>, D: Disk>(
     functions: F,
     config: &Config,
     device: D,
-) -> Result<Run<F::Value>, Refused>
+) -> Result<TableRun<F::Value>, Refused>
     ensures ok { IsTrue D.Receipt.keeps
         → IfOk result (λ run. IsTableOf F.meaning (S.remaining feed.old ∷ []) run.table) }
     ensures counted { IfOk result (λ run. HaveRows (S.remaining feed.old ∷ []) run.counts.rows) }
@@ -236,7 +235,7 @@ pub fn run_alone_by<S: Source, F: Mergeable<Key = Name, Input = i64>, D: Disk>(
     config: &Config,
     mut device: D,
     mode: RowMode,
-) -> Result<Run<F::Value>, Refused>
+) -> Result<TableRun<F::Value>, Refused>
     ensures ok { IsTrue D.Receipt.keeps
         → IfOk result (λ run. IsTableOf F.meaning (S.remaining feed.old ∷ []) run.table) }
     ensures counted { IfOk result (λ run. HaveRows (S.remaining feed.old ∷ []) run.counts.rows) }

@@ -5,7 +5,7 @@ ghost use Rattle.std.proofs.Common.{arith};
 use itoa::{Buffer, Integer};
 
 /// A value as the fields of a row, behind its key: one number, or several things that are known of a key.
-pub trait Shown {
+pub trait RowFields {
     /// How many fields it has: one at least.
     const FIELDS: usize;
 
@@ -22,7 +22,7 @@ pub trait Shown {
     ghost some: { 1 ≤ FIELDS };
 }
 
-impl<V: Integer> Shown for V {
+impl<V: Integer> RowFields for V {
     const FIELDS: usize = 1;
 
     ghost FIELDS = { 1 };

@@ -15,13 +15,12 @@ ghost use Rattle.fkv_feeds.specs.Refusing.{IsRunnable, TellsWhyNone};
 ghost use Rattle.fkv_feeds.specs.Spilling.{ArePairsOf, HasTableOf, IsSpillFault};
 ghost use Rattle.fkv_feeds.specs.Tables.{HaveRows, StandsFor, amounts_of, folded};
 
-use crate::counting::{Counts, Plan};
-use crate::modes::RowMode;
+use crate::counting::{Plan, RowMode, RunCounts};
 use crate::reading::{RowStore, read_feed};
 use crate::running::{LIMIT, MOST, opened, read_feeds};
 use fkv_device::Disk;
 use fkv_functions::{Mergeable, Name, Refused};
-use fkv_local::Lists;
+use fkv_local::Listing;
 use fkv_partition::Config;
 use fkv_spills::{ReadMerge, Spilled, SpilledPart, SpilledParts, SpilledRest, SpilledTable};
 use fkv_streams::Source;
@@ -35,7 +34,7 @@ pub struct SpilledRun<V, R, P> {
     pub pairs: ReadMerge<ReadMerge<SpilledRest<V, R, P>>>,
     /// How many keys the table has.
     pub keys: usize,
-    pub counts: Counts,
+    pub counts: RunCounts,
     pub plan: Plan,
 }
 
@@ -43,7 +42,7 @@ pub struct SpilledRun<V, R, P> {
 /// whose hash names another partition is left out: no device that keeps brings one. Refused: `NoMemory`, and as a device refuses.
 fn spilled<F: Mergeable<Key = Name>, D: Disk>(
     alloc: Global,
-    lists: &Lists<F, D>,
+    lists: &Listing<F, D>,
     map: &BTreeMap<Name, F::Value>,
     device: &mut D,
     page_size: usize,
@@ -90,7 +89,7 @@ fn spilled<F: Mergeable<Key = Name>, D: Disk>(
 /// The run of the next list, whose partition has gone before its place begins anew. Refused: `NoMemory`, and as a device refuses.
 fn next_part<F: Mergeable<Key = Name>, D: Disk>(
     alloc: Global,
-    lists: &mut Lists<F, D>,
+    lists: &mut Listing<F, D>,
     device: &mut D,
     page_size: usize,
 ) -> Result<SpilledPart<F::Value, D::Receipt, D::Reader>, Refused>
@@ -119,7 +118,7 @@ fn next_part<F: Mergeable<Key = Name>, D: Disk>(
 /// has more keys than a number counts; and as a device refuses.
 fn spilled_table_of<F: Mergeable<Key = Name>, D: Disk>(
     alloc: Global,
-    lists: Lists<F, D>,
+    lists: Listing<F, D>,
     device: &mut D,
     page_size: usize,
 ) -> Result<SpilledTable<F::Value, D::Receipt, D::Reader>, Refused>
@@ -186,7 +185,7 @@ fn finish<F: Mergeable<Key = Name, Input = i64>, D: Disk>(
     Ok(SpilledRun {
         pairs,
         keys,
-        counts: Counts {
+        counts: RunCounts {
             rows,
             appended: Some(appended),
         },

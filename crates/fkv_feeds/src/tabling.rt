@@ -11,7 +11,7 @@ ghost use Rattle.fkv_local.specs.Listing.{ListsView, IsNextList, IsUnlisted, beh
 
 use fkv_device::Disk;
 use fkv_functions::{Mergeable, Name, Refused};
-use fkv_local::Lists;
+use fkv_local::Listing;
 use fkv_runs::{Run, Table};
 use std::alloc::Global;
 
@@ -19,7 +19,7 @@ use std::alloc::Global;
 /// `NoMemory`, and as a device refuses pages.
 fn next_run<F: Mergeable<Key = Name>, D: Disk>(
     alloc: Global,
-    lists: &mut Lists<F, D>,
+    lists: &mut Listing<F, D>,
 ) -> Result<Run<F::Value>, Refused>
     requires some { 0 < length lists.old.parts }
     ensures ok { IfOk result (λ run. (pairs : List (Name × F.Value))
@@ -51,7 +51,7 @@ fn next_run<F: Mergeable<Key = Name>, D: Disk>(
 /// The table of all that is to be listed of a store. Refused: `NoMemory`, and as a device refuses pages.
 pub fn table_of<F: Mergeable<Key = Name>, D: Disk>(
     alloc: Global,
-    lists: Lists<F, D>,
+    lists: Listing<F, D>,
 ) -> Result<Table<F::Value>, Refused>
     requires all { length lists.parts ≡ lists.count }
     ensures value { IsTrue D.Receipt.keeps → IfOk result (λ table. (k : Name)

@@ -8,7 +8,7 @@ ghost use Rattle.fkv_streams.specs.Counting.{CountsOnly, one_more};
 ghost use Rattle.fkv_streams.specs.Streams.{AppendsPrefix, PassesOn};
 ghost use Rattle.fkv_feeds.specs.Writing.{IsUnwritten, fields_of, pair_text, table_text};
 
-use crate::shown::Shown;
+use crate::shown::RowFields;
 use fkv_functions::{Name, Refused};
 use fkv_runs::{Pairs, Table};
 use fkv_spills::ReadPairs;
@@ -105,7 +105,7 @@ fn put_next<W: Sink>(buffer: &mut WriteBuffer, sink: &mut W, field: &[u8]) -> Re
 }
 
 /// Puts the fields of a value, each behind a comma. Refused as [`WriteBuffer::put`].
-fn put_value<V: Shown, W: Sink>(
+fn put_value<V: RowFields, W: Sink>(
     buffer: &mut WriteBuffer,
     sink: &mut W,
     value: &V,
@@ -128,7 +128,7 @@ fn put_value<V: Shown, W: Sink>(
 }
 
 /// Puts the fields of a value, each behind a comma, and what ends a row. Refused as [`WriteBuffer::put`].
-fn put_ended<V: Shown, W: Sink>(
+fn put_ended<V: RowFields, W: Sink>(
     buffer: &mut WriteBuffer,
     sink: &mut W,
     value: &V,
@@ -147,7 +147,7 @@ fn put_ended<V: Shown, W: Sink>(
 }
 
 /// Puts a row: a key and its value. Refused as [`WriteBuffer::put`].
-fn put_row<V: Shown, W: Sink>(
+fn put_row<V: RowFields, W: Sink>(
     buffer: &mut WriteBuffer,
     sink: &mut W,
     pair: &(Name, V),
@@ -171,7 +171,7 @@ fn put_row<V: Shown, W: Sink>(
 ///
 /// `NoMemory`, and then nothing was written; `Unwritable` where the writer fails or takes no more, and then the bytes
 /// that it took are the first of the table's text.
-pub fn write_table<V: Shown + Copy, W: Sink>(
+pub fn write_table<V: RowFields + Copy, W: Sink>(
     alloc: Global,
     table: &Table<V>,
     writer: &mut W,
@@ -203,7 +203,7 @@ pub fn write_table<V: Shown + Copy, W: Sink>(
 }
 
 /// Puts the row of the next pair, and says whether there was one. Refused as [`WriteBuffer::put`], and as a pair is.
-fn put_more<V: Shown + Copy, P: ReadPairs<Value = V>, W: Sink>(
+fn put_more<V: RowFields + Copy, P: ReadPairs<Value = V>, W: Sink>(
     buffer: &mut WriteBuffer,
     pairs: &mut P,
     sink: &mut W,
@@ -240,7 +240,7 @@ fn put_more<V: Shown + Copy, P: ReadPairs<Value = V>, W: Sink>(
 ///
 /// `NoMemory`, and then nothing was written; `Unwritable` where the writer fails or takes no more; `Worn` after 2^64 - 1 rows; and
 /// what a pair is refused by. The bytes that the writer took are the first of the table's text.
-pub fn write_pairs<V: Shown + Copy, P: ReadPairs<Value = V>, W: Sink>(
+pub fn write_pairs<V: RowFields + Copy, P: ReadPairs<Value = V>, W: Sink>(
     alloc: Global,
     pairs: &mut P,
     writer: &mut W,

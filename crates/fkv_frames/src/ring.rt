@@ -71,7 +71,7 @@ impl Frames {
     }
 
     /// Tells a proof what holds of frames at any time. It does nothing when it runs.
-    pub fn known(&self)
+    pub fn facts(&self)
         ensures some { 0 < length self.now.slots }
         ensures bits { self.now.bits ≤ 20 }
         ensures sizes { (n : ℕ) → IfSome (held self.now n) (λ bytes. length bytes ≡ 2 ^ self.now.bits) }

@@ -26,8 +26,8 @@ tail_is bits size a o b e f = e ∙ ap (λ (x : Option ℕ). unwrap_or x (2 ^ 48
 -- a record that may stand at an address below 2^48
 pub sound_record : {K V : Type 0} {ksize vsize : ℕ} (key : Codec K ksize) (value : Codec V vsize) (a p : ℕ) (k : K) (v : Option V) (d : Bool) → a < 2 ^ 48 → IsPrevious a p → key.is_known k → IfSome v value.is_known → (IsTrue d → IsSome v)
     → IsRecord key value a (record { previous = p; key = k; value = v; delta = d })
-sound_record key value a p k v d below previous known held whole =
-    record { previous = previous; fits = elim previous [ inl one ↦ omega arith | inr low ↦ omega arith ]; key_known = known; value_known = held; whole = whole }
+sound_record key value a p k v d below previous facts held whole =
+    record { previous = previous; fits = elim previous [ inl one ↦ omega arith | inr low ↦ omega arith ]; key_known = facts; value_known = held; whole = whole }
 
 -- ---- the one of which something holds
 entry_code : {K V : Type 0} → Coded K → Coded V → Coded (Entry K V)

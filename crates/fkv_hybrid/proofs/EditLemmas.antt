@@ -54,7 +54,7 @@ module _ {K V : Type 0} {ksize vsize : ℕ} (key : Codec K ksize) (value : Codec
       → frozen ≤ a → entry_at text a ≡ Some own → may (record_of own) → IfSome v value.is_known → (IsTrue own.delta → IsSome v) → held old (page_at shape.page_bits a) ≡ Some page → length page ≡ 2 ^ shape.page_bits
       → IsEdited key value may v old.bits a old new page
       → IsPages key value keeps shape begin closed frozen tail receipts new (changed text a v)
-  edited keeps shape begin closed frozen tail receipts old new text a may v own page log open_here own_is allowed known whole here page_sized r =
+  edited keeps shape begin closed frozen tail receipts old new text a may v own page log open_here own_is allowed facts whole here page_sized r =
       let bits = shape.page_bits in
       let size = shape.record_size in
       let o = log.ordered in
@@ -89,7 +89,7 @@ module _ {K V : Type 0} {ksize vsize : ℕ} (key : Codec K ksize) (value : Codec
                     let bits_part : Spells key value (part_of page (offset_at old.bits a) (size_of ksize vsize)) (record_of was.entry) =
                     subst (λ (b : ℕ). Spells key value (part_of page (offset_at b a) (size_of ksize vsize)) (record_of was.entry)) (sym log.ringed.bits_same) spells in
                     rw (set_at-here a v was.entry same) (put_spelled key value keeps shape begin closed frozen tail receipts old new r.bytes text a log st.place open_here p sized (record was.entry { value = v }) same
-                    (record { previous = h.sound.previous; fits = h.sound.fits; key_known = h.sound.key_known; value_known = known; whole = subst (λ (x : Entry K V). IsTrue x.delta → IsSome v) (sym one) whole }) (r.spells (record_of was.entry) ok bits_part)))
+                    (record { previous = h.sound.previous; fits = h.sound.fits; key_known = h.sound.key_known; value_known = facts; whole = subst (λ (x : Entry K V). IsTrue x.delta → IsSome v) (sym one) whole }) (r.spells (record_of was.entry) ok bits_part)))
                 | inr ne ↦
                     (rw (set_at-other a v was.entry ne) (elim (cases_lt was.entry.address a) [
                       | inl less ↦
@@ -131,13 +131,13 @@ module _ {K V : Type 0} {ksize vsize : ℕ} (key : Codec K ksize) (value : Codec
       → IfSome (held old (page_at old.bits a)) (IsEdited key value may v old.bits a old new)
       → IsPages key value keeps shape begin regions.offsets.closed regions.offsets.safe_read_only tail receipts new (changed text a v)
       × (view_as keeps shape begin regions tail receipts new (changed text a v) ≡ with_value (view_as keeps shape begin regions tail receipts old text) a v)
-  edited_by keeps shape begin regions tail receipts old new text a may v own page log open_here own_is allowed known whole here sized w =
+  edited_by keeps shape begin regions tail receipts old new text a may v own page log open_here own_is allowed facts whole here sized w =
       let there : held old (page_at old.bits a) ≡ Some page = ap (λ (b : ℕ). held old (page_at b a)) log.ringed.bits_same ∙ here in
       let r : IsEdited key value may v old.bits a old new page =
       subst (λ (o : Option (List ℕ)). IfSome o (IsEdited key value may v old.bits a old new)) there w in
       let p = edited_puts keeps shape begin regions.offsets.closed regions.offsets.safe_read_only tail receipts old new text a may v page log open_here (rw own_is refl) here sized r in
       let waits = put_waiting key value keeps shape begin regions.offsets.closed regions.offsets.safe_read_only tail receipts old new r.bytes text a log open_here p in (
-        edited keeps shape begin regions.offsets.closed regions.offsets.safe_read_only tail receipts old new text a may v own page log open_here own_is allowed known whole here sized r,
+        edited keeps shape begin regions.offsets.closed regions.offsets.safe_read_only tail receipts old new text a may v own page log open_here own_is allowed facts whole here sized r,
         λ j. record {
           bits = shape.page_bits;
           frames = p.count_same j;
@@ -173,6 +173,6 @@ module _ {K V : Type 0} {ksize vsize : ℕ} (key : Codec K ksize) (value : Codec
       → IfSome v value.is_known → (IsTrue m.entry.delta → IsSome v) → IfSome (held old (page_at old.bits a)) (IsEdited key value may v old.bits a old new)
       → IsPages key value keeps shape begin regions.offsets.closed regions.offsets.safe_read_only tail receipts new (changed text a v)
       × (view_as keeps shape begin regions tail receipts new (changed text a v) ≡ with_value seen a v)
-  edited_seen keeps shape begin regions tail receipts old new text a may v seen is log high m allowed known whole w =
-      let l = edited_by keeps shape begin regions tail receipts old new text a may v m.entry m.here.page log (rw (← is) at high) m.is allowed known whole m.here.here m.here.sized w in
+  edited_seen keeps shape begin regions tail receipts old new text a may v seen is log high m allowed facts whole w =
+      let l = edited_by keeps shape begin regions tail receipts old new text a may v m.entry m.here.page log (rw (← is) at high) m.is allowed facts whole m.here.here m.here.sized w in
       (l.0, l.1 ∙ ap (λ (p : LogView K V). with_value p a v) is)

@@ -64,9 +64,9 @@ pub(crate) fn put_value<K: Fixed, V: Fixed>(
     ensures edited { IfSome (held frames.old (page_at frames.old.bits address))
         (IsEdited K.codec V.codec (λ r. IsSome r.value) (Some value.now)
         frames.old.bits address frames.old frames.new) }
-    ensures known { V.codec.is_known value.now }
+    ensures facts { V.codec.is_known value.now }
 {
-    frames.known();
+    frames.facts();
     let page = shape.page_of(address);
     let offset = shape.offset_of(address) + value_offset::<K, V>();
     let mut buffer = [0u8; 192];

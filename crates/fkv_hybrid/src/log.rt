@@ -1,30 +1,29 @@
 //! The log: records in frames and on a device, and the regions in which sessions see them.
-ghost use Rattle.std.specs.Prelude.{◌≡◌, ◌+◌, ◌-◌, ◌^◌, ◌<◌, ◌≤◌, ◌↔◌, ℕ, List, Ok, Err, IfOk, IfErr, IfSome, IsTrue};
-ghost use Rattle.std.specs.Prelude.{Some, None, IsSome, OnErr, length, map, slice_get};
+ghost use Rattle.std.specs.Prelude.{◌≡◌, ◌+◌, ◌-◌, ◌^◌, ◌<◌, ◌≤◌, ◌↔◌, ℕ, List, Ok, Err, IfOk, IfErr, IfSome, IsTrue, Some, None};
+ghost use Rattle.std.specs.Prelude.{IsSome, OnErr, length, map, slice_get, false};
 ghost use mathlib.Core.Equiv.{IsContr-prop};
 ghost use Rattle.fkv_records.specs.Places.{page_at};
 ghost use Rattle.fkv_records.specs.Records.{size_of, IsPrevious};
 ghost use Rattle.fkv_device.specs.Standing.{Standing};
 ghost use Rattle.fkv_texts.specs.Places.{tail_after};
-ghost use Rattle.fkv_texts.specs.Text.{entry_at};
+ghost use Rattle.fkv_texts.specs.Text.{entry_at, value_at};
 ghost use Rattle.fkv_hybrid.specs.Spelled.{TheOne, IsTextOf, IsPageOf, IsIn};
 ghost use Rattle.fkv_hybrid.specs.Pages.{page_in, receipts_from};
 ghost use Rattle.fkv_hybrid.specs.Loads.{IsHeldBy};
-ghost use Rattle.fkv_hybrid.specs.Views.{text_begin, empty_log, with_entry, IsFull};
+ghost use Rattle.fkv_hybrid.specs.Views.{text_begin, empty_log, with_entry, IsFull, with_value};
 ghost use Rattle.fkv_hybrid.specs.Logs.{IsLogOf};
+ghost use Rattle.fkv_texts.specs.declared.entries.Entry.{Entry};
 
-mod chains;
-mod edits;
 mod flushes;
 mod reads;
 mod sessions;
 mod truncation;
 
-use crate::bytes::{part, put_record};
+use crate::bytes::{part, put_record, put_tombstone, put_value};
 use fkv_device::Receipt;
 use fkv_frames::Frames;
 use fkv_functions::{Fixed, Refused};
-use fkv_records::reading::record_of;
+use fkv_records::fields::record_of;
 use fkv_records::{Address, END, FIRST, Record, Shape};
 use fkv_regions::Regions;
 use fkv_texts::Entry;
@@ -125,7 +124,7 @@ impl<K: Fixed, V: Fixed, R: Receipt> Log<K, V, R> {
         ensures value { result ≡ self.now.frames }
         ensures some { 0 < result }
     {
-        self.frames.known();
+        self.frames.facts();
         self.frames.count()
     }
 
@@ -138,7 +137,7 @@ impl<K: Fixed, V: Fixed, R: Receipt> Log<K, V, R> {
 
     /// What holds of every log: its text has one entry at each place from where it begins to below the tail, and the
     /// views of its sessions agree with its offsets. It does nothing when it runs.
-    pub fn known(&self)
+    pub fn facts(&self)
         ensures log { IsLogOf R.keeps (size_of K.SIZE V.SIZE) self.now }
         ensures receipts { (n : ℕ) (s : Standing)
             → IsHeldBy self.now.receipts n s
@@ -151,8 +150,8 @@ impl<K: Fixed, V: Fixed, R: Receipt> Log<K, V, R> {
             → IsPageOf K.codec V.codec self.now.bits (length self.now.receipts + i)
             self.now.text page }
     {
-        self.frames.known();
-        self.regions.known();
+        self.frames.facts();
+        self.regions.facts();
     }
 
     /// Whether the next record needs a page whose frame is still in use.
@@ -250,5 +249,26 @@ impl<K: Fixed, V: Fixed, R: Receipt> Log<K, V, R> {
         let page = self.shape.page_of(address);
         let offset = self.shape.offset_of(address);
         part(self.frames.bytes(page), offset, self.shape.record_size)
+    }
+}
+
+impl<K: Fixed, V: Fixed, R: Receipt> Log<K, V, R> {
+    /// Writes another value into the entry at an address that is not frozen, which has one. Nothing else changes.
+    pub fn write_value(&mut self, address: Address, value: V)
+        requires value { IsSome (value_at self.old.text address) }
+        requires mutable { self.old.regions.offsets.safe_read_only ≤ address }
+        ensures { self.new ≡ with_value self.old address (Some value) }
+    {
+        put_value::<K, V>(&mut self.frames, self.shape, address, &value);
+    }
+
+    /// Makes the entry at an address that is not frozen, which is no delta, a tombstone. Nothing else changes.
+    pub fn set_tombstone(&mut self, address: Address)
+        requires entry { IsSome (entry_at self.old.text address) }
+        requires whole { (e : Entry K V) → entry_at self.old.text address ≡ Some e → e.delta ≡ false }
+        requires mutable { self.old.regions.offsets.safe_read_only ≤ address }
+        ensures { self.new ≡ with_value self.old address None }
+    {
+        put_tombstone::<K, V>(&mut self.frames, self.shape, address);
     }
 }

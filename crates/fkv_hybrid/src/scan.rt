@@ -49,7 +49,7 @@ impl<K: Fixed, V: Fixed, R: Receipt> Log<K, V, R> {
         ensures begins { result.address ≡ self.now.begin }
         ensures scan { IsScanOf (size_of K.SIZE V.SIZE) self.now result }
     {
-        self.known();
+        self.facts();
         Scan {
             address: self.begin(),
             loaded: None,
@@ -89,7 +89,7 @@ impl<K: Fixed, V: Fixed, R: Receipt> Log<K, V, R> {
             → MayFail R.stands P.can_fail self.now.receipts self.now.bits
             (page_at self.now.bits scan.old.address)) }
     {
-        self.known();
+        self.facts();
         let address = scan.address;
         let page = self.shape().page_of(address);
         if page >= self.unflushed() {
@@ -157,7 +157,7 @@ impl<K: Fixed, V: Fixed, R: Receipt> Log<K, V, R> {
         ensures caused { IfErr result (λ e. e ≢ Refused.NoMemory
             → MayFail R.stands P.can_fail self.now.receipts self.now.bits page) }
     {
-        self.known();
+        self.facts();
         let receipt = match self.receipt(page) {
             Ok(receipt) => receipt,
             Err(refused) => return Err(refused),

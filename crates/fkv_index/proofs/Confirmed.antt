@@ -5,7 +5,7 @@ use Rattle.std.proofs.lemmas.List.Folds.{list_any_none}
 use Rattle.std.proofs.lemmas.List.{get_or_default}
 use Rattle.std.proofs.lemmas.Bool.{or_parts, cases_eq}
 use Rattle.fkv_index.specs.declared.words.Word.{Word}
-use Rattle.fkv_index.specs.declared.places.Place.{Place}
+use Rattle.fkv_index.specs.declared.words.Place.{Place}
 use Rattle.fkv_index.specs.Words.{empty, address_of, tag_of, is_final, is_final_of, is_tentative, is_entry_of}
 use Rattle.fkv_index.specs.Places.{words_of, word_at, IsPlace, with_word}
 use Rattle.fkv_index.specs.Entries.{entry_at, IsSingle, IsAlone}

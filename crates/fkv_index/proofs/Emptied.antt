@@ -4,7 +4,7 @@ use Rattle.std.specs.List.{find}
 use Rattle.std.proofs.lemmas.List.{length-map}
 use Rattle.std.proofs.lemmas.Bool.{cases_Bool, false_from_ne_true, false≢true, cond-true, cond-false}
 use Rattle.fkv_index.specs.declared.words.Word.{Word}
-use Rattle.fkv_index.specs.declared.places.Place.{Place}
+use Rattle.fkv_index.specs.declared.words.Place.{Place}
 use Rattle.fkv_index.specs.Words.{empty, address_of, is_empty, is_tentative, is_final_of, swept}
 use Rattle.fkv_index.specs.Places.{words_of, word_at}
 use Rattle.fkv_index.specs.Entries.{entry_at, IsSingle, kept}

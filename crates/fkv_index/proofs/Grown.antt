@@ -5,7 +5,7 @@ use Rattle.std.proofs.lemmas.List.{get_or-set_same, get_or-set_other, get_or_pas
 use Rattle.std.proofs.lemmas.List.Folds.{list_any_none}
 use Rattle.std.proofs.lemmas.Bool.{cases_eq, cases_lt, false≢true}
 use Rattle.fkv_index.specs.declared.words.Word.{Word}
-use Rattle.fkv_index.specs.declared.places.Place.{Place}
+use Rattle.fkv_index.specs.declared.words.Place.{Place}
 use Rattle.fkv_index.specs.Words.{empty, address_of, is_empty, is_tentative, is_final_of}
 use Rattle.fkv_index.specs.Places.{words_of, word_at, IsPlace, NonePasses, with_overflow}
 use Rattle.fkv_index.specs.Entries.{entry_at, IsSingle}

@@ -3,7 +3,7 @@ use Rattle.std.proofs.Common.{◌≡◌, ◌∷◌, ℕ, suc, List, [], Bool, tr
 use Rattle.std.specs.List.{find}
 use Rattle.std.proofs.lemmas.Bool.{cases_Bool}
 use Rattle.fkv_index.specs.declared.words.Word.{Word}
-use Rattle.fkv_index.specs.declared.places.Place.{Place}
+use Rattle.fkv_index.specs.declared.words.Place.{Place}
 use Rattle.fkv_index.specs.Words.{empty, address_of, tag_of, is_final, is_final_of}
 use Rattle.fkv_index.specs.Places.{words_of, word_at}
 use Rattle.fkv_index.specs.Entries.{entry_at, IsSingle, IsIndexMap, StandsAt}

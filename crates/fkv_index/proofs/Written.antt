@@ -6,7 +6,7 @@ use Rattle.std.proofs.lemmas.List.Folds.{find_past}
 use Rattle.std.proofs.lemmas.List.Recursion.{found_at}
 use Rattle.std.proofs.lemmas.Bool.{cases_eq, cases_lt, false_from_ne_true, false≢true}
 use Rattle.fkv_index.specs.declared.words.Word.{Word}
-use Rattle.fkv_index.specs.declared.places.Place.{Place}
+use Rattle.fkv_index.specs.declared.words.Place.{Place}
 use Rattle.fkv_index.specs.Words.{empty, address_of, tag_of, is_tentative, is_final, is_final_of}
 use Rattle.fkv_index.specs.Places.{words_of, word_at, IsPlace, with_word}
 use Rattle.fkv_index.specs.Entries.{entry_at, IsSingle}

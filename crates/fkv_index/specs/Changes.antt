@@ -2,7 +2,7 @@
 use Rattle.std.specs.Prelude.{◌≡◌, ◌<◌, ◌≤◌, false, IsTrue, ◌↔◌, ℕ, List, Some, length, map, if◌then◌else◌}
 use Rattle.std.specs.List.{list_any}
 use Rattle.fkv_index.specs.declared.words.Word.{Word}
-use Rattle.fkv_index.specs.declared.places.Place.{Place}
+use Rattle.fkv_index.specs.declared.words.Place.{Place}
 use Rattle.fkv_index.specs.Words.{address_of, is_empty, is_tentative, is_final, swept}
 use Rattle.fkv_index.specs.Places.{words_of, word_at, IsPlace, with_word, with_overflow}
 use Rattle.fkv_index.specs.Entries.{entry_at, kept}

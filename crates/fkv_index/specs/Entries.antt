@@ -2,7 +2,7 @@
 use Rattle.std.specs.Prelude.{◌≡◌, ℕ, List, false, IsTrue, Option, None, Some, option_map, find, nat_lt, if◌then◌else◌}
 use Rattle.std.specs.List.{position}
 use Rattle.fkv_index.specs.declared.words.Word.{Word}
-use Rattle.fkv_index.specs.declared.places.Place.{Place}
+use Rattle.fkv_index.specs.declared.words.Place.{Place}
 use Rattle.fkv_index.specs.Words.{address_of, tag_of, is_final, is_tentative, is_final_of}
 use Rattle.fkv_index.specs.Places.{words_of, word_at, IsPlace}
 

@@ -1,11 +1,13 @@
-//! How the words are stored: buckets of 64 bytes, and the blocks of their overflow buckets.
-ghost use Rattle.std.specs.Prelude.{◌≡◌, ◌+◌, ◌^◌, ◌<◌, ◌≤◌, IfOk, OnOk, OnErr, length, replicate, take, drop, map};
-ghost use Rattle.fkv_index.specs.Words.{empty, swept};
+//! How the words are stored: buckets of 64 bytes, and the blocks of their overflow buckets; and scans of a bucket: its first seven
+//! words, and then those of its overflow buckets.
+ghost use Rattle.std.specs.Prelude.{◌≡◌, ◌+◌, ◌^◌, ◌<◌, ◌≤◌, IfOk, OnOk, OnErr, length, replicate, take, drop, map, IfSome, IfNone};
+ghost use Rattle.std.specs.Prelude.{slice_index_or};
+ghost use Rattle.fkv_index.specs.Words.{empty, swept, is_empty, is_final_of, is_entry_of};
 ghost use Rattle.fkv_index.specs.Storage.{swept_row};
-ghost use Rattle.fkv_index.specs.Places.{words_of, word_at, IsPlace, with_word, with_overflow};
+ghost use Rattle.fkv_index.specs.Places.{words_of, word_at, IsPlace, with_word, with_overflow, IsFirst, NonePasses};
+ghost use Rattle.std.specs.List.{list_any};
 
-use crate::places::Place;
-use crate::words::Word;
+use crate::words::{Place, Word};
 use std::alloc::{AllocError, Global};
 use std::marker::Model;
 use std::mem::size_of;
@@ -178,4 +180,65 @@ fn sweep_words(words: &mut [Word], begin: u64)
     for at in 0..words.len() {
         words[at] = words[at].swept(begin);
     }
+}
+
+/// The first place of a bucket that is empty.
+pub fn first_empty(buckets: &Buckets, bucket: usize) -> Option<usize>
+    requires { bucket < length buckets.now }
+    ensures some { IfSome result (λ at. IsFirst is_empty (words_of buckets.now bucket) at) }
+    ensures none { IfNone result (NonePasses is_empty (words_of buckets.now bucket)) }
+{
+    if let Some(at) = empty_place(buckets.first(bucket)) {
+        return Some(at);
+    }
+    let at = empty_place(buckets.behind(bucket))?;
+    Some(7 + at)
+}
+
+/// The first place of a bucket with a final entry of the tag, and its word.
+#[inline(always)]
+pub fn first_final(buckets: &Buckets, bucket: usize, tag: u16) -> Option<(usize, Word)>
+    requires bucket { bucket < length buckets.now }
+    requires tag { tag < 2 ^ 15 }
+    ensures some { IfSome result (λ entry. IsFirst (is_final_of tag) (words_of buckets.now bucket) entry.0) }
+    ensures word { IfSome result (λ entry. entry.1 ≡ slice_index_or (words_of buckets.now bucket) entry.0 empty) }
+    ensures none { IfNone result (NonePasses (is_final_of tag) (words_of buckets.now bucket)) }
+{
+    let first = buckets.first(bucket);
+    if let Some(at) = final_place(first, tag) {
+        return Some((at, first[at]));
+    }
+    let behind = buckets.behind(bucket);
+    let at = final_place(behind, tag)?;
+    Some((7 + at, behind[at]))
+}
+
+/// Whether an entry of the tag stands in a bucket, final or tentative.
+pub fn has_entry(buckets: &Buckets, bucket: usize, tag: u16) -> bool
+    requires { bucket < length buckets.now }
+    ensures { result ≡ list_any (is_entry_of tag) (words_of buckets.now bucket) }
+{
+    entry_stands(buckets.first(bucket), tag) || entry_stands(buckets.behind(bucket), tag)
+}
+
+fn empty_place(words: &[Word]) -> Option<usize>
+    ensures some { IfSome result (λ at. IsFirst is_empty words.now at) }
+    ensures none { IfNone result (NonePasses is_empty words.now) }
+{
+    words.iter().position(|word| word.is_empty())
+}
+
+#[inline(always)]
+fn final_place(words: &[Word], tag: u16) -> Option<usize>
+    requires { tag < 2 ^ 15 }
+    ensures some { IfSome result (λ at. IsFirst (is_final_of tag) words.now at) }
+    ensures none { IfNone result (NonePasses (is_final_of tag) words.now) }
+{
+    words.iter().position(|word| word.is_final_of(tag))
+}
+
+fn entry_stands(words: &[Word], tag: u16) -> bool
+    ensures { result ≡ list_any (is_entry_of tag) words.now }
+{
+    words.iter().any(|word| word.is_entry_of(tag))
 }

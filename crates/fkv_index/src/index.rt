@@ -9,10 +9,8 @@ ghost use Rattle.fkv_index.specs.Places.{words_of, word_at, IsPlace};
 ghost use Rattle.fkv_index.specs.Entries.{entry_at, place_of, IsIndexMap, StandsAt, IsAlone};
 ghost use Rattle.fkv_index.specs.Changes.{Writes, Probes, Sweeps, SameEntries, SameTentative, SetsEntry, SweepsEntries};
 
-use crate::buckets::Buckets;
-use crate::places::Place;
-use crate::scans::{first_empty, first_final, has_entry};
-use crate::words::{NO_RECORD, Word};
+use crate::buckets::{Buckets, first_empty, first_final, has_entry};
+use crate::words::{NO_RECORD, Place, Word};
 use fkv_functions::Refused;
 use std::alloc::Global;
 use std::marker::Model;
@@ -41,7 +39,7 @@ impl Model for Index {
 }
 
 impl Index {
-    ghost use Rattle.fkv_index.specs.declared.places.Place.{Place};
+    ghost use Rattle.fkv_index.specs.declared.words.Place.{Place};
 
     /// An index of 2^bits empty buckets.
     pub fn new(alloc: Global, bits: u32) -> Result<Index, Refused>
@@ -59,7 +57,7 @@ impl Index {
     }
 
     /// Tells a proof what holds of an index at any time. It does nothing when it runs.
-    pub fn known(&self)
+    pub fn facts(&self)
         ensures { IsIndexMap self.now }
     {
         let _buckets = &self.buckets;

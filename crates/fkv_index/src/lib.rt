@@ -16,10 +16,7 @@
 
 mod buckets;
 mod index;
-mod places;
-mod scans;
 mod words;
 
 pub use index::Index;
-pub use places::Place;
-pub use words::{NO_RECORD, Word};
+pub use words::{NO_RECORD, Place, Word};

@@ -1,4 +1,4 @@
-//! The words of the index, by the bits of their format.
+//! The words of the index, by the bits of their format, and where one stands.
 ghost use Rattle.std.specs.Prelude.{◌≡◌, ◌+◌, ◌*◌, ◌^◌, ◌<◌, ◌↔◌, IsTrue};
 
 /// A word of the index: bits 0 to 47 are an address, bits 48 to 62 a tag, and bit 63 is set where the
@@ -119,4 +119,12 @@ impl Word {
             self
         }
     }
+}
+
+/// The place of a word: its bucket, and its number from 0 among the bucket's places. The first seven
+/// places are those of the bucket itself; those of its overflow buckets follow in order.
+#[derive(Clone, Copy, Debug, PartialEq, Eq)]
+pub struct Place {
+    pub bucket: usize,
+    pub at: usize,
 }

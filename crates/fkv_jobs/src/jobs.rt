@@ -2,7 +2,7 @@
 ghost use Rattle.std.specs.Prelude.{◌≡◌, All, Err, IfOk, IfErr};
 ghost use Rattle.fkv_jobs.specs.Runs.{HaveRun};
 
-use crate::keepers::{Keeper, Kept, keep};
+use crate::keepers::{Keeper, KeeperSnapshot, keep};
 use fkv_functions::Refused;
 use std::alloc::Global;
 use std::rt::Clock;
@@ -30,7 +30,7 @@ pub trait Job: Drop {
 
 /// What jobs gave, and how their keeper ended.
 #[derive(Drop)]
-pub struct Ran<O> {
+pub struct JobResults<O> {
     /// What each job gave, in the order of the jobs.
     pub results: Vec<O>,
     /// `Ok` where the keeper was told to stop, or why a turn of it was refused.
@@ -46,7 +46,7 @@ impl<J: Job> Promise<J::Output> for Asked<J> {
 }
 
 /// Tells the keeper to stop, since memory is short.
-fn halt<O>(stop: &AtomicBool) -> Result<Ran<O>, Refused>
+fn halt<O>(stop: &AtomicBool) -> Result<JobResults<O>, Refused>
     ensures { result ≡ Err Refused.NoMemory }
 {
     stop.store(true, Ordering::SeqCst);
@@ -64,7 +64,7 @@ pub fn run_jobs<J: Job + Send, K: Keeper + Sync, T: Threads + Wait + Clock + Syn
     alloc: Global,
     keeper: &K,
     jobs: Vec<J>,
-) -> Result<Ran<J::Output>, Refused>
+) -> Result<JobResults<J::Output>, Refused>
 where
     J::Output: Send,
     requires { All J.ready jobs.items }
@@ -76,7 +76,7 @@ where
     thread::scope(
         thread::scope_env(),
         rt,
-        |scope| -> Result<Ran<J::Output>, Refused>
+        |scope| -> Result<JobResults<J::Output>, Refused>
             requires { All J.ready jobs.items }
             ensures ok { IfOk result (HaveRun J.gives (K.fault keeper.entry.now) jobs.items) }
             ensures only { IfErr result (λ refused. refused ≡ Refused.NoMemory) }
@@ -87,7 +87,7 @@ where
             let turns = move || -> Result<(), Refused>
                 ensures { IfErr result (K.fault keeper.entry.now) }
             { keep(rt, keeper, stop) };
-            let Ok(keeping) = scope.spawn_with(Kept::by(keeper), turns) else {
+            let Ok(keeping) = scope.spawn_with(KeeperSnapshot::by(keeper), turns) else {
                 return Err(Refused::NoMemory);
             };
             for job in jobs {
@@ -109,7 +109,7 @@ where
             let Ok(results) = results else {
                 return Err(Refused::NoMemory);
             };
-            Ok(Ran { results, kept })
+            Ok(JobResults { results, kept })
         },
     )
 }

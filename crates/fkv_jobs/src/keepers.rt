@@ -26,18 +26,18 @@ pub trait Keeper {
 
 /// What a keeper was, for the promise of its thread.
 #[derive(Drop)]
-pub struct Kept<K>(Snapshot<K>);
+pub struct KeeperSnapshot<K>(Snapshot<K>);
 
-impl<K> Kept<K> {
+impl<K> KeeperSnapshot<K> {
     /// This keeper.
-    pub fn by(keeper: &K) -> Kept<K>
+    pub fn by(keeper: &K) -> KeeperSnapshot<K>
         ensures { result.0.value ≡ keeper.now }
     {
-        Kept(Snapshot::of(keeper))
+        KeeperSnapshot(Snapshot::of(keeper))
     }
 }
 
-impl<K: Keeper> Promise<Result<(), Refused>> for Kept<K> {
+impl<K: Keeper> Promise<Result<(), Refused>> for KeeperSnapshot<K> {
     ghost kept_by = { λ p r. IfErr r (K.fault p.0.value) };
 }
 

@@ -9,6 +9,6 @@ mod jobs;
 mod keepers;
 mod spread;
 
-pub use jobs::{Job, Ran, run_jobs};
+pub use jobs::{Job, JobResults, run_jobs};
 pub use keepers::Keeper;
 pub use spread::run_spread;

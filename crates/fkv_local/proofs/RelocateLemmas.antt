@@ -212,8 +212,8 @@ wanted-here (IsWanted.of_page x wanted s here awaits held) = subst IsSome (sym h
 
 -- where a page is kept by receipts, each by that of its page, it stands for its page's
 pub wanted-held : {K V I : Type 0} {v : PartitionView K V I} {c : ℕ} {s : Standing} → ((n : ℕ) (t : Standing) → IsHeldBy v.records.log.receipts n t → (t.page ≡ n) × (t.length ≡ 2 ^ v.records.log.bits)) → IsWanted v c (Some s) → IsHeldBy v.records.log.receipts s.page s
-wanted-held {K} {V} {I} {v} {c} known (IsWanted.of_page x wanted s here awaits held) =
-    subst (λ n. IsHeldBy v.records.log.receipts n s) (sym (known (page_at v.records.log.bits wanted) s held).0) held
+wanted-held {K} {V} {I} {v} {c} facts (IsWanted.of_page x wanted s here awaits held) =
+    subst (λ n. IsHeldBy v.records.log.receipts n s) (sym (facts (page_at v.records.log.bits wanted) s held).0) held
 
 -- so the page that stands for the wanted one is the one that is kept, of any page that is waited for
 pub own-waits : {K V I : Type 0} {v : PartitionView K V I} {c page : ℕ} {s t : Standing} → t ≡ s → IsWanted v c (Some s) → WaitsOn v 0 c page → IsHeldBy v.records.log.receipts page t

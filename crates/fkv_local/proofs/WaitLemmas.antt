@@ -9,7 +9,7 @@ use Rattle.fkv_regions.specs.Offsets.{region_of}
 use Rattle.fkv_operations.specs.declared.operations.KeyedOp.{KeyedOp}
 use Rattle.fkv_operations.specs.declared.operations.KeyedOp.TheVariants.{Read, Upsert, Rmw, Delete, Merge}
 use Rattle.fkv_hybrid.specs.Views.{IsFull}
-use Rattle.fkv_lookups.specs.Decisions.{met_in, met_last, met_on, replaced, parted, merged, decision}
+use Rattle.fkv_lookups.specs.Decisions.{met_in, met_last, met_on, replaced, appended_delta, merged, decision}
 use Rattle.fkv_lookups.specs.Meeting.{met_from}
 use Rattle.fkv_lookups.specs.declared.decisions.LookupResult.{LookupResult}
 use Rattle.fkv_lookups.specs.declared.decisions.LookupResult.TheVariants.{NoEntry, NoValue, ReadOnly, Fuzzy, Mutable, OnDisk}
@@ -58,9 +58,9 @@ module _ {K V I O : Type 0} (f : Meanings K V I O) where
   not-replaced k i None h = absurd (cc)
   not-replaced k i (Some v) h = absurd (cc)
 
-  not-parted : (o : Option V) → ◌≡◌ {A = Decision V I O} (parted o) decided.Wait → ⊥
-  not-parted None h = absurd (cc)
-  not-parted (Some v) h = absurd (cc)
+  not-appended : (o : Option V) → ◌≡◌ {A = Decision V I O} (appended_delta o) decided.Wait → ⊥
+  not-appended None h = absurd (cc)
+  not-appended (Some v) h = absurd (cc)
 
   not-merged : (o : Option V) → ◌≡◌ {A = Decision V I O} (merged o) decided.Wait → ⊥
   not-merged None h = absurd (cc)
@@ -92,11 +92,11 @@ module _ {K V I O : Type 0} (f : Meanings K V I O) where
   never-waits (Delete k) (Mutable w) n h = absurd (cc)
   never-waits (Delete k) (OnDisk b c) n h = absurd (cc)
   never-waits (Merge k i) NoEntry n h = absurd (cc)
-  never-waits (Merge k i) NoValue n h = not-parted (f.first k i) h
-  never-waits (Merge k i) (ReadOnly w) n h = not-parted (f.first k i) h
+  never-waits (Merge k i) NoValue n h = not-appended (f.first k i) h
+  never-waits (Merge k i) (ReadOnly w) n h = not-appended (f.first k i) h
   never-waits (Merge k i) (Fuzzy w) n h = absurd n
   never-waits (Merge k i) (Mutable w) n h = not-merged (f.next k w i) h
-  never-waits (Merge k i) (OnDisk b c) n h = not-parted (f.first k i) h
+  never-waits (Merge k i) (OnDisk b c) n h = not-appended (f.first k i) h
 
 module _ {K V I O : Type 0} (cmp : K → K → Ordering) (join : V → V → V) (f : Meanings K V I O) (code : K → ℕ) (v : PartitionView K V I) (slot : ℕ) (same : (seen_at v slot).safe_read_only ≡ (seen_at v slot).read_only) where
   met-safe : (k : K) (o : Option ℕ) → IsSafe (met_from cmp join code v.records (seen_at v slot) k o)

@@ -16,7 +16,7 @@ ghost use Rattle.fkv_local.specs.Refusing.{IsWorkRefusal};
 ghost use Rattle.fkv_local.specs.Moving.{IsPassed, IsOnward};
 
 use crate::moving::{page_of, tidy};
-use crate::parts::{Part, SLOT, Shard, Terms};
+use crate::parts::{PagedPartition, SLOT, Shard, Terms};
 use fkv_device::{Disk, Loaded, PageReader, PageWriter, Receipt};
 use fkv_functions::{Mergeable, Refused};
 use fkv_operations::{Clock, Op};
@@ -61,13 +61,13 @@ impl<R: Receipt> Wanted<R> {
 
 /// The page of the place that is relocated: the next place stands in it too, but at the page's end.
 #[derive(Drop)]
-struct Kept<R: Receipt> {
+struct KeptPage<R: Receipt> {
     page: Option<Loaded<R>>,
     /// Whether it is the log's own for sure: no page has moved since it was read, or was compared.
     is_sure: bool,
 }
 
-impl<R: Receipt> Kept<R> {
+impl<R: Receipt> KeptPage<R> {
     /// Whether it is the page of this receipt of the log.
     fn has(&self, receipt: &R) -> bool
         ensures same { (receipts : List (Option Standing)) → IsTrue result
@@ -152,7 +152,7 @@ fn moment_before_another(clock: &mut Clock) -> Result<u64, Refused>
 fn event<F: Mergeable, D: Disk>(
     functions: &F,
     shard: &mut Shard<F, D>,
-    kept: &mut Kept<D::Receipt>,
+    kept: &mut KeptPage<D::Receipt>,
     context: usize,
     wanted: &Wanted<D::Receipt>,
     clock: &mut Clock,
@@ -194,7 +194,7 @@ fn event<F: Mergeable, D: Disk>(
                 Err(refused) => return Err(refused),
             };
             // which says which page each receipt is of
-            shard.part.partition.pages_known();
+            shard.part.partition.page_facts();
             shard
                 .part
                 .partition
@@ -207,7 +207,7 @@ fn event<F: Mergeable, D: Disk>(
 fn go_on<F: Mergeable, D: Disk>(
     functions: &F,
     shard: &mut Shard<F, D>,
-    kept: &mut Kept<D::Receipt>,
+    kept: &mut KeptPage<D::Receipt>,
     context: usize,
     clock: &mut Clock,
 ) -> Result<Relocated, Refused>
@@ -275,7 +275,7 @@ fn give_up<F: Mergeable, R: Receipt>(
 fn relocate<F: Mergeable, D: Disk>(
     functions: &F,
     shard: &mut Shard<F, D>,
-    kept: &mut Kept<D::Receipt>,
+    kept: &mut KeptPage<D::Receipt>,
     clock: &mut Clock,
 ) -> Result<Relocated, Refused>
     requires idle { IsIdle shard.old.part.partition 0 }
@@ -304,7 +304,7 @@ fn relocate<F: Mergeable, D: Disk>(
         Ok(now) => now,
         Err(refused) => return Err(refused),
     };
-    shard.part.partition.known();
+    shard.part.partition.facts();
     let context = match shard
         .part
         .partition
@@ -383,7 +383,7 @@ fn clear<F: Mergeable, D: Disk>(
 {
     let size = shard.part.partition.page_size();
     let (start, tail) = (shard.part.partition.cleared(), shard.part.partition.tail());
-    let mut kept = Kept {
+    let mut kept = KeptPage {
         page: None,
         is_sure: false,
     };
@@ -469,7 +469,7 @@ pub fn compact<F: Mergeable, D: Disk>(
         (failures_of D.Writer.failures D.Reader.failures shard.new.part.writer shard.new.reader)) }
 {
     // which says, here and at the end, that regions have its pages' size
-    shard.part.partition.known();
+    shard.part.partition.facts();
     match tidy(terms.alloc, &mut shard.part, clock) {
         Ok(()) => {}
         Err(refused) => return Err(refused),
@@ -479,7 +479,7 @@ pub fn compact<F: Mergeable, D: Disk>(
     let cut = cut(&mut shard.part.partition, clock);
     let begin = page_of(&shard.part.partition, shard.part.partition.begin());
     shard.part.writer.drop_below(begin);
-    shard.part.partition.known();
+    shard.part.partition.facts();
     match cleared {
         Ok(()) => cut,
         Err(refused) => Err(refused),
@@ -488,7 +488,7 @@ pub fn compact<F: Mergeable, D: Disk>(
 
 /// Whether Head has moved 64 pages since a log was compacted, and as far as what was left of it below Head then, so that each byte
 /// is appended again a bounded number of times.
-fn is_due<F: Mergeable, D: Disk>(part: &Part<F, D>) -> bool {
+fn is_due<F: Mergeable, D: Disk>(part: &PagedPartition<F, D>) -> bool {
     let span = (part.partition.page_size() as u64).saturating_mul(PAGES);
     let moved = part.partition.head().saturating_sub(part.compacted);
     moved >= span.max(part.left)

@@ -9,7 +9,7 @@ use fkv_records::{FIRST, record_size};
 
 /// How much a store holds, all partitions together.
 #[derive(Clone, Copy, Debug, PartialEq, Eq)]
-pub struct Counts {
+pub struct StoreCounts {
     /// The bytes of the logs, from their beginnings to their tails.
     pub bytes: u64,
     /// Those of them that left memory, or are about to: they stand below Head.

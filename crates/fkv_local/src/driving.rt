@@ -18,7 +18,7 @@ ghost use Rattle.fkv_local.specs.Refusing.{IsStopped, IsRefusedBy};
 
 use crate::compacting::compact_where_due;
 use crate::moving::tidy;
-use crate::parts::{Part, SLOT, Shard, Terms};
+use crate::parts::{PagedPartition, SLOT, Shard, Terms};
 use fkv_alone::run_alone;
 use fkv_device::{Disk, PageReader};
 use fkv_functions::{Mergeable, Refused};
@@ -34,7 +34,7 @@ const NO_LIMIT: u64 = u64::MAX;
 /// Makes an operation in a session that has nothing open, by the events of its partition, until it is done, waits or is refused.
 fn once<F: Mergeable, D: Disk, P: PageReader<Receipt = D::Receipt>>(
     functions: &F,
-    part: &mut Part<F, D>,
+    part: &mut PagedPartition<F, D>,
     reader: &mut P,
     op: KeyedOpOf<F>,
     clock: &mut Clock,
@@ -73,7 +73,7 @@ fn once<F: Mergeable, D: Disk, P: PageReader<Receipt = D::Receipt>>(
 /// `None` where it has to wait, which is for room alone, and then it is given up, which is without effect.
 fn try_by_events<F: Mergeable, D: Disk, P: PageReader<Receipt = D::Receipt>>(
     functions: &F,
-    part: &mut Part<F, D>,
+    part: &mut PagedPartition<F, D>,
     reader: &mut P,
     op: KeyedOpOf<F>,
     clock: &mut Clock,
@@ -105,7 +105,7 @@ fn try_by_events<F: Mergeable, D: Disk, P: PageReader<Receipt = D::Receipt>>(
         (failures_of D.Writer.failures P.failures part.new.writer reader.new)) }
 {
     // which says that no operation waits to confirm an entry
-    part.partition.known();
+    part.partition.facts();
     let told = match once(functions, part, reader, op, clock) {
         Ok(told) => told,
         Err(refused) => return Err(refused),
@@ -124,7 +124,7 @@ fn try_by_events<F: Mergeable, D: Disk, P: PageReader<Receipt = D::Receipt>>(
 /// or read. Where it finds no room it is given up, which is without effect, pages move on, and it begins anew: then there is.
 pub fn run_by_events<F: Mergeable, D: Disk, P: PageReader<Receipt = D::Receipt>>(
     terms: &Terms<F>,
-    part: &mut Part<F, D>,
+    part: &mut PagedPartition<F, D>,
     reader: &mut P,
     op: KeyedOpOf<F>,
     clock: &mut Clock,
@@ -171,7 +171,7 @@ pub fn run_by_events<F: Mergeable, D: Disk, P: PageReader<Receipt = D::Receipt>>
 #[inline(always)]
 pub fn try_write_in_place<F: Mergeable, D: Disk>(
     functions: &F,
-    part: &mut Part<F, D>,
+    part: &mut PagedPartition<F, D>,
     op: &KeyedOpOf<F>,
     clock: &mut Clock,
 ) -> Result<Option<AnswerOf<F>>, Refused>
@@ -194,7 +194,7 @@ pub fn try_write_in_place<F: Mergeable, D: Disk>(
         Ok(moments) => moments,
         Err(refused) => return Err(refused),
     };
-    part.partition.known();
+    part.partition.facts();
     match part
         .partition
         .try_write_in_place(SLOT, op, functions, issued, now)

@@ -17,6 +17,6 @@ mod moving;
 mod parts;
 pub mod stores;
 
-pub use counting::Counts;
-pub use listing::Lists;
+pub use counting::StoreCounts;
+pub use listing::Listing;
 pub use stores::LocalStore;

@@ -15,14 +15,14 @@ use std::marker::Model;
 /// plain map; each list takes the keys of its partition out of it. A partition with its frames, its index and its receipts goes as
 /// its list is given, so that no two lists need be held at once.
 #[derive(Drop)]
-pub struct Lists<F: Mergeable, D: Disk> {
+pub struct Listing<F: Mergeable, D: Disk> {
     terms: Terms<F>,
     shards: Vec<Shard<F, D>>,
     /// How many partitions the store had.
     count: usize,
 }
 
-impl<F: Mergeable, D: Disk> Model for Lists<F, D> {
+impl<F: Mergeable, D: Disk> Model for Listing<F, D> {
     ghost use Rattle.std.specs.Prelude.{map};
     ghost use Rattle.fkv_local.specs.Listing.{ListsView, AreLeft};
 
@@ -37,16 +37,16 @@ impl<F: Mergeable, D: Disk> Model for Lists<F, D> {
     ghost invariant = { λ l. AreLeft (map (λ shard. shard.part.partition) l.shards.items) l.count };
 }
 
-impl<F: Mergeable, D: Disk> Lists<F, D> {
+impl<F: Mergeable, D: Disk> Listing<F, D> {
     /// The lists of these partitions, all of a store.
-    pub(crate) fn of(terms: Terms<F>, shards: Vec<Shard<F, D>>) -> Lists<F, D>
+    pub(crate) fn of(terms: Terms<F>, shards: Vec<Shard<F, D>>) -> Listing<F, D>
         requires { AreLeft (map (λ shard. shard.part.partition) shards.items) (length shards.items) }
         ensures parts { result.parts ≡ map (λ shard. shard.part.partition) shards.items }
         ensures readers { result.readers ≡ map (λ shard. shard.reader) shards.items }
         ensures count { result.count ≡ length shards.items }
     {
         let count = shards.len();
-        Lists {
+        Listing {
             terms,
             shards,
             count,

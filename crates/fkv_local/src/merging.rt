@@ -12,7 +12,7 @@ ghost use Rattle.fkv_local.specs.Refusing.{IsStopped, IsRefusedBy};
 
 use crate::barring::NoPages;
 use crate::driving::{run_by_events, tidy_at_times, try_write_in_place};
-use crate::parts::{Part, SLOT, Shard, Terms};
+use crate::parts::{PagedPartition, SLOT, Shard, Terms};
 use fkv_device::Disk;
 use fkv_functions::{Mergeable, Refused};
 use fkv_operations::{Answer, Clock, KeyedOp, KeyedOpOf};
@@ -21,7 +21,7 @@ use fkv_operations::{Answer, Clock, KeyedOp, KeyedOpOf};
 /// given up, which is without effect. None of a merge has to be.
 fn run_in_memory<F: Mergeable, D: Disk>(
     terms: &Terms<F>,
-    part: &mut Part<F, D>,
+    part: &mut PagedPartition<F, D>,
     op: KeyedOpOf<F>,
     clock: &mut Clock,
 ) -> Result<Option<Answer<F::Output>>, Refused>
@@ -65,7 +65,7 @@ fn run_in_memory<F: Mergeable, D: Disk>(
 /// to be read when that was appended.
 fn merge_for_page<F: Mergeable, D: Disk>(
     terms: &Terms<F>,
-    part: &mut Part<F, D>,
+    part: &mut PagedPartition<F, D>,
     key: &F::Key,
     input: &F::Input,
     clock: &mut Clock,

@@ -13,7 +13,7 @@ ghost use Rattle.fkv_alone.specs.Causes.{CanFailToRead, CanFailToWrite};
 ghost use Rattle.fkv_local.specs.Causing.{IsCausedBy};
 ghost use Rattle.fkv_local.specs.Moving.{IsTidied, IsOnward, StaysSettled, IsSameLog, IsWritten, IsPassed, IsMoveRefusal};
 
-use crate::parts::{Part, SLOT};
+use crate::parts::{PagedPartition, SLOT};
 use fkv_device::{Disk, Receipt, Written};
 use fkv_functions::{Mergeable, Refused};
 use fkv_operations::Clock;
@@ -31,7 +31,7 @@ fn refresh<F: Mergeable, R: Receipt>(partition: &mut Partition<F, R>, now: u64)
     ensures same_log { IsSameLog R.keeps partition.old partition.new }
     ensures moment { partition.new.moment ≤ now }
 {
-    partition.known();
+    partition.facts();
     let _refreshed = partition.refresh(SLOT, now);
 }
 
@@ -58,7 +58,7 @@ fn freeze<F: Mergeable, R: Receipt>(
         Ok(moments) => moments,
         Err(refused) => return Err(refused),
     };
-    partition.known();
+    partition.facts();
     let _passed = partition.shift_read_only(page, shifted);
     refresh(partition, refreshed);
     Ok(())
@@ -87,7 +87,7 @@ fn evict<F: Mergeable, R: Receipt>(
         Ok(moments) => moments,
         Err(refused) => return Err(refused),
     };
-    partition.known();
+    partition.facts();
     let _passed = partition.shift_head(page, shifted);
     refresh(partition, refreshed);
     Ok(())
@@ -97,7 +97,7 @@ fn evict<F: Mergeable, R: Receipt>(
 /// and as the device refuses the page.
 fn flush<F: Mergeable, D: Disk>(
     alloc: Global,
-    part: &mut Part<F, D>,
+    part: &mut PagedPartition<F, D>,
     clock: &mut Clock,
 ) -> Result<bool, Refused>
     requires past { part.old.partition.moment ≤ clock.old }
@@ -125,8 +125,8 @@ fn flush<F: Mergeable, D: Disk>(
         Ok(job) => job,
         Err(Refused::NotDue) => {
             // which says how many pages wait
-            part.partition.known();
-            part.partition.pages_known();
+            part.partition.facts();
+            part.partition.page_facts();
             return Ok(false);
         }
         Err(refused) => return Err(refused),
@@ -148,7 +148,7 @@ fn flush<F: Mergeable, D: Disk>(
 /// Writes the pages that wait. Refused as [`flush`] is.
 fn flush_all<F: Mergeable, D: Disk>(
     alloc: Global,
-    part: &mut Part<F, D>,
+    part: &mut PagedPartition<F, D>,
     clock: &mut Clock,
 ) -> Result<(), Refused>
     requires past { part.old.partition.moment ≤ clock.old }
@@ -183,7 +183,7 @@ pub fn page_of<F: Mergeable, R: Receipt>(partition: &Partition<F, R>, address: A
     ensures value { result ≡ page_at partition.now.records.log.bits address }
 {
     // which says that a page has bytes
-    partition.known();
+    partition.facts();
     address / partition.page_size() as u64
 }
 
@@ -193,7 +193,7 @@ pub fn page_of<F: Mergeable, R: Receipt>(partition: &Partition<F, R>, address: A
 /// device refuses a page.
 pub fn tidy<F: Mergeable, D: Disk>(
     alloc: Global,
-    part: &mut Part<F, D>,
+    part: &mut PagedPartition<F, D>,
     clock: &mut Clock,
 ) -> Result<(), Refused>
     requires entered { IsEntered part.old.partition 0 }
@@ -214,7 +214,7 @@ pub fn tidy<F: Mergeable, D: Disk>(
         (D.Writer.failures part.new.writer)) }
 {
     // which says that regions have its pages' size
-    part.partition.known();
+    part.partition.facts();
     let frames = part.partition.frames();
     let tail = page_of(&part.partition, part.partition.tail());
     match freeze(&mut part.partition, read_only_page(frames, tail), clock) {

@@ -26,7 +26,7 @@ pub struct Terms<F: Mergeable> {
 
 /// One partition, with what writes its pages to the device.
 #[derive(Drop)]
-pub struct Part<F: Mergeable, D: Disk> {
+pub struct PagedPartition<F: Mergeable, D: Disk> {
     pub partition: Partition<F, D::Receipt>,
     pub writer: D::Writer,
     /// The operations that came here, as far as a byte counts.
@@ -41,7 +41,7 @@ pub struct Part<F: Mergeable, D: Disk> {
 /// A part of a store: one partition, with what writes its pages and what reads them back.
 #[derive(Drop)]
 pub struct Shard<F: Mergeable, D: Disk> {
-    pub part: Part<F, D>,
+    pub part: PagedPartition<F, D>,
     pub reader: D::Reader,
 }
 
@@ -93,7 +93,7 @@ fn placed<F: Mergeable, D: Disk>(
     };
     match device.reader(number) {
         Ok(reader) => Ok(Shard {
-            part: Part {
+            part: PagedPartition {
                 partition,
                 writer,
                 operations: 0,

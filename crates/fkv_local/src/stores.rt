@@ -18,10 +18,10 @@ ghost use Rattle.fkv_local.specs.Refusing.{IsRefusal, IsUncompacted, IsUncompact
 ghost use Rattle.fkv_local.specs.Listing.{IsUnlisted, lists_of, left};
 
 use crate::compacting::{Effort, compact};
-use crate::counting::{Counts, appended_records, held_bytes};
+use crate::counting::{StoreCounts, appended_records, held_bytes};
 use crate::driving::operate;
 use crate::gathering::gather;
-use crate::listing::Lists;
+use crate::listing::Listing;
 use crate::merging::update_or_merge;
 use crate::parts::{Shard, Terms, all_placed};
 use fkv_device::Disk;
@@ -296,12 +296,12 @@ impl<F: Mergeable, D: Disk> LocalStore<F, D> {
 
     /// The lists of its live pairs, one a partition, of which none is made yet; and the end of the store. So there is never a
     /// list, and never a map, of all keys.
-    pub fn into_lists(self) -> Lists<F, D>
+    pub fn into_lists(self) -> Listing<F, D>
         ensures all { result ≡ lists_of self }
         ensures map { Same (left F.Key.cmp F.code result) (plain F.Key.cmp F.code self) }
     {
         let LocalStore { terms, shards, .. } = self;
-        Lists::of(terms, shards)
+        Listing::of(terms, shards)
     }
 
     /// Appends what lives in the pages that left memory again, and drops those pages: in memory they are freed, and the places that
@@ -358,13 +358,13 @@ impl<F: Mergeable, D: Disk> LocalStore<F, D> {
     }
 
     /// How much the store holds.
-    pub fn counts(&self) -> Counts
+    pub fn counts(&self) -> StoreCounts
         ensures bytes { result.bytes ≡ min (sum_by log_bytes self.now.parts) (2 ^ 64 - 1) }
         ensures evicted { result.evicted ≡ min (sum_by evicted_bytes self.now.parts) (2 ^ 64 - 1) }
         ensures moments { result.moments ≡ self.now.moments }
     {
         let (bytes, evicted) = held_bytes(&self.shards);
-        Counts {
+        StoreCounts {
             bytes,
             evicted,
             records: appended_records(&self.shards),
@@ -378,7 +378,7 @@ impl<F: Mergeable, D: Disk> LocalStore<F, D> {
         ensures within { result < length self.now.parts }
     {
         // which says that their number is a power of two
-        self.shards[0].part.partition.known();
+        self.shards[0].part.partition.facts();
         let count = self.shards.len() as u64;
         partition_at(self.terms.functions.hash(key), count) as usize
     }

@@ -85,70 +85,70 @@ not-relocate : {K V I : Type 0} (op : KeyedOp K V I) → op_of op ≡ Relocate �
 not-relocate op h = let bad : Some op ≡ None = sym (keyed-op op) ∙ ap keyed h in absurd (cc)
 
 module _ {K V I O R : Type 0} (stands : R → Standing) (entry : ℕ → List ℕ → ℕ → Entry K V → Type 0) (cmp : K → K → Ordering) (join : V → V → V) (f : Meanings K V I O) (code : K → ℕ)
-    (old new : PartitionView K V I) (mine : OpenOperation K V I) (came : Result (Joined R) Refused) (now : ℕ)
-    (asks : asked old mine.session.slot mine.context ≡ Some (question_of mine))
-    (early : (p : Pending V) → pending cmp old mine.session.slot mine.context ≡ Some p → p.moment ≤ old.moment)
+    (old new : PartitionView K V I) (operation : OpenOperation K V I) (came : Result (Joined R) Refused) (now : ℕ)
+    (asks : asked old operation.session.slot operation.context ≡ Some (question_of operation))
+    (early : (p : Pending V) → pending cmp old operation.session.slot operation.context ≡ Some p → p.moment ≤ old.moment)
     (later : old.moment < now) where
-  core-loads : (r : Result (Progress K V I O R) Refused) → Loads stands entry cmp join f code old new mine.session.slot mine.context came now r
-      → core_loading.Loads stands entry cmp join f old new mine.session.slot mine.context came now r
+  core-loads : (r : Result (Progress K V I O R) Refused) → Loads stands entry cmp join f code old new operation.session.slot operation.context came now r
+      → core_loading.Loads stands entry cmp join f old new operation.session.slot operation.context came now r
   core-loads r (Loads.on_key none does passed) = does
   core-loads r (Loads.relocation x h does) =
-      let both : Some (question_of mine) ≡ Some (record { number = x.number; op = Relocate }) = sym asks ∙ relocation-asked old mine.session.slot mine.context x h in
-      let same : question_of mine ≡ record { number = x.number; op = Relocate } = cc in
-      let op : op_of mine.op ≡ Relocate = ap (λ (y : Asked K V I). y.op) same in
-      absurd (not-relocate mine.op op)
+      let both : Some (question_of operation) ≡ Some (record { number = x.number; op = Relocate }) = sym asks ∙ relocation-asked old operation.session.slot operation.context x h in
+      let same : question_of operation ≡ record { number = x.number; op = Relocate } = cc in
+      let op : op_of operation.op ≡ Relocate = ap (λ (y : Asked K V I). y.op) same in
+      absurd (not-relocate operation.op op)
 
-  looked-now : IsLookedUp (pending cmp old mine.session.slot mine.context) now → ⊥
+  looked-now : IsLookedUp (pending cmp old operation.session.slot operation.context) now → ⊥
   looked-now l =
       let le = early l.found l.is in
       let at = l.at in
       absurd (omega arith)
 
-  op-is : (x : Asked K V I) → asked old mine.session.slot mine.context ≡ Some x → x ≡ question_of mine
-  op-is x was = let both : Some x ≡ Some (question_of mine) = sym was ∙ asks in cc
+  op-is : (x : Asked K V I) → asked old operation.session.slot operation.context ≡ Some x → x ≡ question_of operation
+  op-is x was = let both : Some x ≡ Some (question_of operation) = sym was ∙ asks in cc
 
-  loaded-come : (p : Progress K V I O R) → IsLoaded cmp f old new mine.session.slot mine.context now p
-      → HasCome f mine (asked new mine.session.slot mine.context) (pending cmp old mine.session.slot mine.context) (pending cmp new mine.session.slot mine.context) p
+  loaded-come : (p : Progress K V I O R) → IsLoaded cmp f old new operation.session.slot operation.context now p
+      → HasCome f operation (asked new operation.session.slot operation.context) (pending cmp old operation.session.slot operation.context) (pending cmp new operation.session.slot operation.context) p
   loaded-come (Done a effect) l =
       let found = l.effect.1 in
       let read = found.3 in
-      let x_op : op_of mine.op ≡ Read read.0 read.1 = sym (ap (λ (x : Asked K V I). x.op) (op-is l.question l.was)) ∙ read.2 in
-      (l.effect.0, (found.0, found.1, (read.0, read.1, op-same mine.op (on_key.Read read.0 read.1) x_op, read.3)))
+      let x_op : op_of operation.op ≡ Read read.0 read.1 = sym (ap (λ (x : Asked K V I). x.op) (op-is l.question l.was)) ∙ read.2 in
+      (l.effect.0, (found.0, found.1, (read.0, read.1, op-same operation.op (on_key.Read read.0 read.1) x_op, read.3)))
   loaded-come Next l = l.effect.2
   loaded-come (NeedsBuild ask) l = l.effect.1
   loaded-come (NeedsLoad r a) l = (l.effect.0 ∙ ap Some (op-is l.question l.was), l.effect.1)
   loaded-come (Waits why) l = absurd l.effect
 
-  event-come : (p : Progress K V I O R) → core_loading.Loads stands entry cmp join f old new mine.session.slot mine.context came now (Ok p)
-      → IsEvent cmp f old new mine.session.slot mine.context now p
-      → Finds cmp old new mine.session.slot mine.context now p
-      → HasCome f mine (asked new mine.session.slot mine.context) (pending cmp old mine.session.slot mine.context) (pending cmp new mine.session.slot mine.context) p
+  event-come : (p : Progress K V I O R) → core_loading.Loads stands entry cmp join f old new operation.session.slot operation.context came now (Ok p)
+      → IsEvent cmp f old new operation.session.slot operation.context now p
+      → Finds cmp old new operation.session.slot operation.context now p
+      → HasCome f operation (asked new operation.session.slot operation.context) (pending cmp old operation.session.slot operation.context) (pending cmp new operation.session.slot operation.context) p
   event-come (Done a effect) does ev finds =
-      absurd (looked-now (subst (IsLookedUp (pending cmp old mine.session.slot mine.context)) ev.effect.1
-      (loads-done stands entry cmp join f old new mine.session.slot mine.context came now a effect does)))
+      absurd (looked-now (subst (IsLookedUp (pending cmp old operation.session.slot operation.context)) ev.effect.1
+      (loads-done stands entry cmp join f old new operation.session.slot operation.context came now a effect does)))
   event-come Next does ev finds = finds
   event-come (NeedsBuild ask) does ev finds = finds
   event-come (NeedsLoad r a) does ev finds =
       let y = op-is finds.question finds.was in
-      let asking = finds.asks ∙ (ap (λ (z : Asked K V I). to_find cmp old now (keyed z.op)) y ∙ ap (to_find cmp old now) (keyed-op mine.op)) in
-      absurd (looked-now (loads-further stands entry cmp join f old new mine.session.slot mine.context came now r a now does (record { found = _; is = asking; at = refl })))
+      let asking = finds.asks ∙ (ap (λ (z : Asked K V I). to_find cmp old now (keyed z.op)) y ∙ ap (to_find cmp old now) (keyed-op operation.op)) in
+      absurd (looked-now (loads-further stands entry cmp join f old new operation.session.slot operation.context came now r a now does (record { found = _; is = asking; at = refl })))
   event-come (Waits why) does ev finds = finds
 
-  event-live : (p : Progress K V I O R) → core_loading.Loads stands entry cmp join f old new mine.session.slot mine.context came now (Ok p)
-      → IsEvent cmp f old new mine.session.slot mine.context now p
+  event-live : (p : Progress K V I O R) → core_loading.Loads stands entry cmp join f old new operation.session.slot operation.context came now (Ok p)
+      → IsEvent cmp f old new operation.session.slot operation.context now p
       → Same (live_of cmp new) (live_of cmp old)
   event-live (Done a effect) does ev =
-      absurd (looked-now (subst (IsLookedUp (pending cmp old mine.session.slot mine.context)) ev.effect.1
-      (loads-done stands entry cmp join f old new mine.session.slot mine.context came now a effect does)))
+      absurd (looked-now (subst (IsLookedUp (pending cmp old operation.session.slot operation.context)) ev.effect.1
+      (loads-done stands entry cmp join f old new operation.session.slot operation.context came now a effect does)))
   event-live Next does ev = ev.effect.1
   event-live (NeedsBuild ask) does ev = ev.effect.1
   event-live (NeedsLoad r a) does ev = ev.effect.1
   event-live (Waits why) does ev = ev.effect.1
 
-  pub load_comes : (p : Progress K V I O R) → Loads stands entry cmp join f code old new mine.session.slot mine.context came now (Ok p)
-      → IsLoad cmp f old new mine.session.slot mine.context now p
-      → OthersPend cmp old new mine.session.slot mine.context
-      → IsCome cmp f old new mine p
+  pub load_comes : (p : Progress K V I O R) → Loads stands entry cmp join f code old new operation.session.slot operation.context came now (Ok p)
+      → IsLoad cmp f old new operation.session.slot operation.context now p
+      → OthersPend cmp old new operation.session.slot operation.context
+      → IsCome cmp f old new operation p
   load_comes p does (IsLoad.on_key l) others =
       let at = l.frame.moment in
       record { asks = asks; later = omega arith; effect = loaded-come p l; live = l.live; rest = l.frame.others; others = others }

@@ -62,91 +62,91 @@ module _ {K V I O : Type 0} (cmp : K → K → Ordering) (f : Meanings K V I O) 
       rest others es lows looks book k none lives
 
 module _ {K V I O R : Type 0} (cmp : K → K → Ordering) (f : Meanings K V I O) (old new : PartitionView K V I) (es : List (Entry K V I O)) (lows looks : List ℕ) (book now : ℕ)
-    (k : IsFaithful cmp f (seen cmp old) es lows looks book) (mine : OpenOperation K V I) where
-  pub went_next : IsGone {R = R} cmp f old new mine now Next → IsFaithful cmp f (seen cmp new) es lows looks book
+    (k : IsFaithful cmp f (seen cmp old) es lows looks book) (operation : OpenOperation K V I) where
+  pub went_next : IsGone {R = R} cmp f old new operation now Next → IsFaithful cmp f (seen cmp new) es lows looks book
   went_next e =
       let at = e.event.frame.moment in
       let later = e.later in
-      kept_still cmp f (seen cmp old) (seen cmp new) (omega arith) (orderly cmp old) (orderly cmp new) mine.session.slot mine.context (asked-low old mine.session.slot mine.context (question_of mine) e.asks)
+      kept_still cmp f (seen cmp old) (seen cmp new) (omega arith) (orderly cmp old) (orderly cmp new) operation.session.slot operation.context (asked-low old operation.session.slot operation.context (question_of operation) e.asks)
       e.event.frame.others e.others es lows looks book k e.finds e.event.effect.1
 
-  pub went_build : (ask : Ask K V I) → IsGone {R = R} cmp f old new mine now (NeedsBuild ask) → IsFaithful cmp f (seen cmp new) es lows looks book
+  pub went_build : (ask : Ask K V I) → IsGone {R = R} cmp f old new operation now (NeedsBuild ask) → IsFaithful cmp f (seen cmp new) es lows looks book
   went_build ask e =
       let at = e.event.frame.moment in
       let later = e.later in
-      kept_still cmp f (seen cmp old) (seen cmp new) (omega arith) (orderly cmp old) (orderly cmp new) mine.session.slot mine.context (asked-low old mine.session.slot mine.context (question_of mine) e.asks)
+      kept_still cmp f (seen cmp old) (seen cmp new) (omega arith) (orderly cmp old) (orderly cmp new) operation.session.slot operation.context (asked-low old operation.session.slot operation.context (question_of operation) e.asks)
       e.event.frame.others e.others es lows looks book k e.finds e.event.effect.1
 
-  pub went_wait : (why : Wait) → IsGone {R = R} cmp f old new mine now (Waits why) → IsFaithful cmp f (seen cmp new) es lows looks book
+  pub went_wait : (why : Wait) → IsGone {R = R} cmp f old new operation now (Waits why) → IsFaithful cmp f (seen cmp new) es lows looks book
   went_wait why e =
       let at = e.event.frame.moment in
       let later = e.later in
-      kept_still cmp f (seen cmp old) (seen cmp new) (omega arith) (orderly cmp old) (orderly cmp new) mine.session.slot mine.context (asked-low old mine.session.slot mine.context (question_of mine) e.asks)
+      kept_still cmp f (seen cmp old) (seen cmp new) (omega arith) (orderly cmp old) (orderly cmp new) operation.session.slot operation.context (asked-low old operation.session.slot operation.context (question_of operation) e.asks)
       e.event.frame.others e.others es lows looks book k e.finds e.event.effect.1
 
-  pub went_load : (r : R) (a : ℕ) (looks' : List ℕ) → IsGone cmp f old new mine now (NeedsLoad r a)
-      → looks' ≡ slice_set looks (place_of mine.session.slot mine.context) (length (updates es))
-      → place_of mine.session.slot mine.context < length looks
+  pub went_load : (r : R) (a : ℕ) (looks' : List ℕ) → IsGone cmp f old new operation now (NeedsLoad r a)
+      → looks' ≡ slice_set looks (place_of operation.session.slot operation.context) (length (updates es))
+      → place_of operation.session.slot operation.context < length looks
       → IsFaithful cmp f (seen cmp new) es lows looks' book
   went_load r a looks' e set within =
       let at = e.event.frame.moment in
       let later = e.later in
       let x = e.event.question in
       let y = e.finds.question in
-      let first : Some x ≡ Some (question_of mine) = sym e.event.was ∙ e.asks in
-      let second : Some y ≡ Some (question_of mine) = sym e.finds.was ∙ e.asks in
-      let is : asked new mine.session.slot mine.context ≡ Some (question_of mine) = e.event.effect.0 ∙ first in
-      let y_is : y ≡ question_of mine = cc in
-      let finds = e.finds.asks ∙ (ap (λ (z : Asked K V I). to_find cmp old now (keyed z.op)) y_is ∙ ap (to_find cmp old now) (keyed-op mine.op)) in
-      kept_asks cmp f (seen cmp old) (seen cmp new) (omega arith) (orderly cmp old) (orderly cmp new) mine.session.slot mine.context (asked-low old mine.session.slot mine.context (question_of mine) e.asks)
-      e.event.frame.others e.others es lows looks book k mine.number mine.op now looks' (omega arith) is finds e.event.effect.1 set within
+      let first : Some x ≡ Some (question_of operation) = sym e.event.was ∙ e.asks in
+      let second : Some y ≡ Some (question_of operation) = sym e.finds.was ∙ e.asks in
+      let is : asked new operation.session.slot operation.context ≡ Some (question_of operation) = e.event.effect.0 ∙ first in
+      let y_is : y ≡ question_of operation = cc in
+      let finds = e.finds.asks ∙ (ap (λ (z : Asked K V I). to_find cmp old now (keyed z.op)) y_is ∙ ap (to_find cmp old now) (keyed-op operation.op)) in
+      kept_asks cmp f (seen cmp old) (seen cmp new) (omega arith) (orderly cmp old) (orderly cmp new) operation.session.slot operation.context (asked-low old operation.session.slot operation.context (question_of operation) e.asks)
+      e.event.frame.others e.others es lows looks book k operation.number operation.op now looks' (omega arith) is finds e.event.effect.1 set within
 
-  pub went_done : (a : Answer O) (effect : ℕ) (entry : Entry K V I O) (es' : List (Entry K V I O)) → IsGone {R = R} cmp f old new mine now (Done a effect)
-      → entry.op ≡ mine.op
+  pub went_done : (a : Answer O) (effect : ℕ) (entry : Entry K V I O) (es' : List (Entry K V I O)) → IsGone {R = R} cmp f old new operation now (Done a effect)
+      → entry.op ≡ operation.op
       → entry.answer ≡ a
       → entry.at ≡ length (updates es)
       → entry.high ≡ length (updates es)
-      → entry.low ≡ slice_index lows (place_of mine.session.slot mine.context)
+      → entry.low ≡ slice_index lows (place_of operation.session.slot operation.context)
       → es' ≡ es ++ entry ∷ []
       → IsFaithful cmp f (seen cmp new) es' lows looks (book + 1)
   went_done a effect entry es' e op_is told at high low_is grown =
       let moment = e.event.frame.moment in
       let later = e.later in
       let x = e.event.question in
-      let same : Some x ≡ Some (question_of mine) = sym e.event.was ∙ e.asks in
-      let x_is : x ≡ question_of mine = cc in
-      let key : keyed x.op ≡ Some entry.op = ap (λ (z : Asked K V I). keyed z.op) x_is ∙ (keyed-op mine.op ∙ ap Some (sym op_is)) in
-      rw grown (kept_done cmp f (seen cmp old) (seen cmp new) (omega arith) (orderly cmp old) (orderly cmp new) mine.session.slot mine.context (asked-low old mine.session.slot mine.context (question_of mine) e.asks)
+      let same : Some x ≡ Some (question_of operation) = sym e.event.was ∙ e.asks in
+      let x_is : x ≡ question_of operation = cc in
+      let key : keyed x.op ≡ Some entry.op = ap (λ (z : Asked K V I). keyed z.op) x_is ∙ (keyed-op operation.op ∙ ap Some (sym op_is)) in
+      rw grown (kept_done cmp f (seen cmp old) (seen cmp new) (omega arith) (orderly cmp old) (orderly cmp new) operation.session.slot operation.context (asked-low old operation.session.slot operation.context (question_of operation) e.asks)
       e.event.frame.others e.others es lows looks book k entry e.event.effect.0
       (subst (λ t. Same (live_of cmp new) (after_keyed cmp f (live_of cmp old) t)) key e.event.effect.2)
       (told ∙ (e.event.effect.3 ∙ ap (answer_keyed f (live_of cmp old)) key)) at high low_is)
 
   -- a page came
-  pub came_next : IsCome {R = R} cmp f old new mine Next → IsFaithful cmp f (seen cmp new) es lows looks book
-  came_next e = came_still cmp f old new es lows looks book now k mine.session.slot mine.context (question_of mine) e.effect e.later e.asks e.rest e.others e.live
+  pub came_next : IsCome {R = R} cmp f old new operation Next → IsFaithful cmp f (seen cmp new) es lows looks book
+  came_next e = came_still cmp f old new es lows looks book now k operation.session.slot operation.context (question_of operation) e.effect e.later e.asks e.rest e.others e.live
 
-  pub came_build : (ask : Ask K V I) → IsCome {R = R} cmp f old new mine (NeedsBuild ask) → IsFaithful cmp f (seen cmp new) es lows looks book
-  came_build ask e = came_still cmp f old new es lows looks book now k mine.session.slot mine.context (question_of mine) e.effect e.later e.asks e.rest e.others e.live
+  pub came_build : (ask : Ask K V I) → IsCome {R = R} cmp f old new operation (NeedsBuild ask) → IsFaithful cmp f (seen cmp new) es lows looks book
+  came_build ask e = came_still cmp f old new es lows looks book now k operation.session.slot operation.context (question_of operation) e.effect e.later e.asks e.rest e.others e.live
 
-  pub came_wait : (why : Wait) → IsCome {R = R} cmp f old new mine (Waits why) → IsFaithful cmp f (seen cmp new) es lows looks book
-  came_wait why e = came_still cmp f old new es lows looks book now k mine.session.slot mine.context (question_of mine) e.effect e.later e.asks e.rest e.others e.live
+  pub came_wait : (why : Wait) → IsCome {R = R} cmp f old new operation (Waits why) → IsFaithful cmp f (seen cmp new) es lows looks book
+  came_wait why e = came_still cmp f old new es lows looks book now k operation.session.slot operation.context (question_of operation) e.effect e.later e.asks e.rest e.others e.live
 
-  pub came_further : (r : R) (a : ℕ) → IsCome cmp f old new mine (NeedsLoad r a) → IsFaithful cmp f (seen cmp new) es lows looks book
+  pub came_further : (r : R) (a : ℕ) → IsCome cmp f old new operation (NeedsLoad r a) → IsFaithful cmp f (seen cmp new) es lows looks book
   came_further r a e =
-      kept_further cmp f (seen cmp old) (seen cmp new) e.later (orderly cmp old) (orderly cmp new) mine.session.slot mine.context (asked-low old mine.session.slot mine.context (question_of mine) e.asks)
+      kept_further cmp f (seen cmp old) (seen cmp new) e.later (orderly cmp old) (orderly cmp new) operation.session.slot operation.context (asked-low old operation.session.slot operation.context (question_of operation) e.asks)
       e.rest e.others es lows looks book k (e.effect.0 ∙ sym e.asks) e.effect.1 e.live
 
-  pub came_done : (a : Answer O) (effect : ℕ) (entry : Entry K V I O) (es' : List (Entry K V I O)) → IsCome {R = R} cmp f old new mine (Done a effect)
-      → entry.op ≡ mine.op
+  pub came_done : (a : Answer O) (effect : ℕ) (entry : Entry K V I O) (es' : List (Entry K V I O)) → IsCome {R = R} cmp f old new operation (Done a effect)
+      → entry.op ≡ operation.op
       → entry.answer ≡ a
-      → entry.at ≡ slice_index looks (place_of mine.session.slot mine.context)
+      → entry.at ≡ slice_index looks (place_of operation.session.slot operation.context)
       → entry.high ≡ length (updates es)
-      → entry.low ≡ slice_index lows (place_of mine.session.slot mine.context)
+      → entry.low ≡ slice_index lows (place_of operation.session.slot operation.context)
       → es' ≡ es ++ entry ∷ []
       → IsFaithful cmp f (seen cmp new) es' lows looks (book + 1)
   came_done a effect entry es' e op_is told at high low_is grown =
       let found = e.effect.1 in
       let read = found.2 in
-      rw grown (kept_loaded cmp f (seen cmp old) (seen cmp new) e.later (orderly cmp old) (orderly cmp new) mine.session.slot mine.context (asked-low old mine.session.slot mine.context (question_of mine) e.asks)
-      e.rest e.others es lows looks book k entry found.0 mine.number read.0 read.1 e.effect.0
-      (e.asks ∙ ap (λ o. Some (record { number = mine.number; op = op_of o })) (sym op_is)) found.1 e.live (op_is ∙ read.2) (told ∙ read.3) at high low_is)
+      rw grown (kept_loaded cmp f (seen cmp old) (seen cmp new) e.later (orderly cmp old) (orderly cmp new) operation.session.slot operation.context (asked-low old operation.session.slot operation.context (question_of operation) e.asks)
+      e.rest e.others es lows looks book k entry found.0 operation.number read.0 read.1 e.effect.0
+      (e.asks ∙ ap (λ o. Some (record { number = operation.number; op = op_of o })) (sym op_is)) found.1 e.live (op_is ∙ read.2) (told ∙ read.3) at high low_is)

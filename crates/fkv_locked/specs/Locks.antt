@@ -47,7 +47,7 @@ module _ {K V I O : Type 0} where
 
   -- where this operation looks now: so many updates are kept to have stood at the last look-up of its context
   abbrev pub looks_now : LockedView K V I O → OpenOperation K V I → List ℕ
-  looks_now l mine = slice_set l.looks (place_of mine.session.slot mine.context) l.count
+  looks_now l operation = slice_set l.looks (place_of operation.session.slot operation.context) l.count
 
   -- a session is entered
   abbrev pub with_session : LockedView K V I O → PartitionView K V I → LockedView K V I O
@@ -58,7 +58,7 @@ module _ {K V I O : Type 0} where
   with_issue l v slot c = record (with_partition l v) { lows = slice_set l.lows (place_of slot c) l.count }
 
   -- a page did not come, or is damaged: a moment has passed, and the operation is ended without effect, or goes on waiting
-  pub record IsLoadRefused (old new : LockedView K V I O) (mine : OpenOperation K V I) : Type 0 where
+  pub record IsLoadRefused (old new : LockedView K V I O) (operation : OpenOperation K V I) : Type 0 where
     pub ended : (new.partition ≡ old.partition)
-        ⊎ IsGiveUp old.partition new.partition mine.session.slot mine.context (old.clock + 1)
+        ⊎ IsGiveUp old.partition new.partition operation.session.slot operation.context (old.clock + 1)
     pub rest : new ≡ with_partition old new.partition

@@ -18,17 +18,17 @@ module _ {K V I O : Type 0} where
 
   -- a caller's operation is open in its context
   abbrev pub IsOpen : OpenOperation K V I → LockedView K V I O → Type 0
-  IsOpen mine l = asked l.partition mine.session.slot mine.context ≡ Some (question_of mine)
+  IsOpen operation l = asked l.partition operation.session.slot operation.context ≡ Some (question_of operation)
 
   -- the mark of its context
   abbrev pub mark_of : OpenOperation K V I → LockedView K V I O → ℕ
-  mark_of mine l = slice_index l.lows (place_of mine.session.slot mine.context)
+  mark_of operation l = slice_index l.lows (place_of operation.session.slot operation.context)
 
   -- events of whatever kind follow one another, before each of which a caller's operation was open
-  pub data IsOpenFrom (mine : OpenOperation K V I) (start : LockedView K V I O) : LockedView K V I O → Type 0 where
-    none : IsOpenFrom mine start start
+  pub data IsOpenFrom (operation : OpenOperation K V I) (start : LockedView K V I O) : LockedView K V I O → Type 0 where
+    none : IsOpenFrom operation start start
     more : {before end : LockedView K V I O}
-        → IsOpenFrom mine start before
-        → IsOpen mine before
+        → IsOpenFrom operation start before
+        → IsOpen operation before
         → Marks before end
-        → IsOpenFrom mine start end
+        → IsOpenFrom operation start end

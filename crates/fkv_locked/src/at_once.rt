@@ -101,7 +101,7 @@ impl<F: Mergeable, R: Receipt, H: Recorder<F>> Locked<F, R, H> {
             Err(refused) => return Err(refused),
             Ok(ready) => ready,
         };
-        partition.known();
+        partition.facts();
         let AtOnce { at, now } = ready;
         let issued = now - 1;
         let Some(answer) = partition.try_write_in_place(session.slot, op, functions, issued, now)

@@ -9,11 +9,11 @@ ghost use Rattle.fkv_locked.specs.Turns.{Adds};
 /// The mark of an operation stays for as long as it is open, whatever events come. So an entry's `low` is how many updates stood
 /// at the operation's issue, where the issue marked so many.
 pub fn marks_stay<K, V, I, O>()
-    ensures stays { (mine : OpenOperation K V I) (start end : LockedView K V I O) → IsOpenFrom mine start end
-        → mark_of mine end ≡ mark_of mine start }
-    ensures low { (mine : OpenOperation K V I) (issued last end : LockedView K V I O) (e : Entry K V I O) (keeps : Bool) (count at : ℕ)
-        → mark_of mine issued ≡ count
-        → IsOpenFrom mine issued last
-        → Adds keeps at (noted last) (noted end) mine e
+    ensures stays { (operation : OpenOperation K V I) (start end : LockedView K V I O) → IsOpenFrom operation start end
+        → mark_of operation end ≡ mark_of operation start }
+    ensures low { (operation : OpenOperation K V I) (issued last end : LockedView K V I O) (e : Entry K V I O) (keeps : Bool) (count at : ℕ)
+        → mark_of operation issued ≡ count
+        → IsOpenFrom operation issued last
+        → Adds keeps at (noted last) (noted end) operation e
         → e.low ≡ count }
 {}

@@ -23,7 +23,7 @@ pub mod sessions;
 pub mod turns;
 
 pub use finished::{Finished, FinishedOf};
-pub use locked::{Locked, Part};
+pub use locked::{EndedPartition, Locked};
 pub use open_operations::{OpenOperation, OpenOperationOf, SessionId};
 pub use owns::Owns;
 pub use turns::{Turn, TurnOf};

@@ -62,7 +62,7 @@ pub(crate) fn next_moment(clock: &Clock) -> Option<u64>
 
 /// What is left of a locked partition at its end.
 #[derive(Drop)]
-pub struct Part<F: Mergeable, R: Receipt> {
+pub struct EndedPartition<F: Mergeable, R: Receipt> {
     pub partition: Partition<F, R>,
     pub history: Vec<EntryOf<F>>,
     pub book: u64,
@@ -70,17 +70,17 @@ pub struct Part<F: Mergeable, R: Receipt> {
 
 impl<F: Mergeable, R: Receipt, H: Recorder<F>> Locked<F, R, H> {
     /// What holds whenever the lock is free. It does nothing when it runs.
-    pub fn known(&self)
+    pub fn facts(&self)
         ensures sound { IsSound R.keeps F.Key.cmp F.parts.joined F.code self.now.partition }
         ensures compacting { IsCompacting R.keeps F.Key.cmp F.parts.joined F.code self.now.partition }
         ensures kept { H.keeps ≡ true → IsTrue R.keeps → IsFaithful F.Key.cmp F.meaning (seen F.Key.cmp self.now.partition)
             self.now.entries self.now.lows self.now.looks self.now.book }
     {
-        self.partition.known();
+        self.partition.facts();
     }
 
     /// Ends it: the partition as it was, its history, and its book.
-    pub fn end(self, alloc: Global) -> Part<F, R>
+    pub fn end(self, alloc: Global) -> EndedPartition<F, R>
         ensures kept { H.keeps ≡ true → IsTrue R.keeps → IsEnded F.Key.cmp F.meaning (seen F.Key.cmp result.partition)
             result.history.items result.book }
         ensures partition { result.partition ≡ self.partition }
@@ -93,7 +93,7 @@ impl<F: Mergeable, R: Receipt, H: Recorder<F>> Locked<F, R, H> {
             book,
             ..
         } = self;
-        Part {
+        EndedPartition {
             partition,
             history: history.lists(alloc),
             book,

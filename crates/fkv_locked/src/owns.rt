@@ -1,5 +1,5 @@
 //! What a caller was answered in each partition.
-ghost use Rattle.std.specs.Prelude.{◌≡◌, ◌+◌, ◌-◌, ◌^◌, ◌<◌, ◌≤◌, ◌⊎◌, true, None, [], ◌∷◌, ◌++◌, length, map, replicate, vec_len, slice_index, slice_index_or, slice_set, IfOk, IfErr, OnOk};
+ghost use Rattle.std.specs.Prelude.{◌≡◌, ◌+◌, ◌-◌, ◌^◌, ◌<◌, ◌≤◌, ◌⊎◌, true, None, [], ◌∷◌, ◌++◌, length, map, max, replicate, vec_len, slice_index, slice_index_or, slice_set, IfOk, IfErr, OnOk};
 ghost use Rattle.fkv_locked.specs.Owns.{Takes, told_after};
 
 use crate::finished::{FinishedOf, entry_of};
@@ -10,7 +10,8 @@ use std::alloc::Global;
 use std::marker::Model;
 
 /// What a caller was answered: for each partition the list of the entries and of how many updates it was told there; how many
-/// they are, its share; and the answer of the last. It grows by what events finished under a lock, and by nothing else ([`Owns::take`]).
+/// they are, its share; and the answer of the last. It grows by what events finished under a lock, and by nothing else ([`Owns::take`]);
+/// of how many updates it was told it hears from other callers too ([`Owns::hear`]).
 #[derive(Drop)]
 pub struct Owns<F: Mergeable, H: Recorder<F>> {
     lists: Vec<H>,
@@ -126,6 +127,16 @@ impl<F: Mergeable, H: Recorder<F>> Owns<F, H> {
         ensures { result ≡ slice_index self.now.told place }
     {
         self.told[place]
+    }
+
+    /// Hears of how many updates of a partition another caller was told: then this one was told of so many, at least.
+    pub fn hear(&mut self, place: usize, told: u64)
+        requires { place < length self.old.told }
+        ensures { self.new ≡ record self.old {
+          told = slice_set self.old.told place (max (slice_index self.old.told place) told);
+        } }
+    {
+        self.told[place] = self.told[place].max(told);
     }
 
     /// How many entries it took.

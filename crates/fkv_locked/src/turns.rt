@@ -48,31 +48,31 @@ pub(crate) fn make_ready<F: Mergeable, R: Receipt, H: Recorder<F>>(
     history: &mut H,
     clock: &Clock,
     book: u64,
-    mine: &OpenOperationOf<F>,
+    operation: &OpenOperationOf<F>,
 ) -> Result<u64, Refused>
     ensures entries { H.entries history.new ≡ H.entries history.old }
     ensures count { H.count history.new ≡ H.count history.old }
     ensures spare { OnOk result (1 ≤ H.spare history.new) }
-    ensures asks { OnOk result (asked partition.now mine.now.session.slot mine.now.context ≡ Some (question_of mine.now)) }
-    ensures within { OnOk result ((mine.now.session.slot < 16) × (mine.now.context < 8)) }
+    ensures asks { OnOk result (asked partition.now operation.now.session.slot operation.now.context ≡ Some (question_of operation.now)) }
+    ensures within { OnOk result ((operation.now.session.slot < 16) × (operation.now.context < 8)) }
     ensures now { IfOk result (λ now. now ≡ clock.now + 1) }
     ensures room { OnOk result ((H.count history.old < 2 ^ 64 - 1) × (book < 2 ^ 64 - 1)) }
-    ensures told { OnOk result (mine.now.told ≤ H.count history.old) }
-    ensures only { IfErr result (IsUnready (asked partition.now mine.now.session.slot mine.now.context)
-        (H.count history.old) book clock.now mine.now) }
+    ensures told { OnOk result (operation.now.told ≤ H.count history.old) }
+    ensures only { IfErr result (IsUnready (asked partition.now operation.now.session.slot operation.now.context)
+        (H.count history.old) book clock.now operation.now) }
 {
-    let Ok((number, op)) = partition.asked(mine.session.slot, mine.context) else {
+    let Ok((number, op)) = partition.asked(operation.session.slot, operation.context) else {
         return Err(Refused::Unknown);
     };
-    if number != mine.number || !is_same_op::<F>(&op, &mine.op.op()) {
+    if number != operation.number || !is_same_op::<F>(&op, &operation.op.op()) {
         return Err(Refused::Unknown);
     }
     let held = history.updates();
-    if held < mine.told {
+    if held < operation.told {
         return Err(Refused::Stranger {
             what: What::Pass,
             held,
-            came: mine.told,
+            came: operation.told,
         });
     }
     if held == u64::MAX || book == u64::MAX {
@@ -94,22 +94,22 @@ pub(crate) fn note<F: Mergeable, R: Receipt, H: Recorder<F>>(
     lows: &Vec<u64>,
     looks: &mut Vec<u64>,
     book: &mut u64,
-    mine: &OpenOperationOf<F>,
+    operation: &OpenOperationOf<F>,
     progress: ProgressOf<F, R>,
 ) -> TurnOf<F, R>
     requires spare { 1 ≤ H.spare history.old }
     requires room { (H.count history.old < 2 ^ 64 - 1) × (book.old < 2 ^ 64 - 1) }
-    requires told { mine.now.told ≤ H.count history.old }
-    requires within { (mine.now.session.slot < 16) × (mine.now.context < 8) }
+    requires told { operation.now.told ≤ H.count history.old }
+    requires within { (operation.now.session.slot < 16) × (operation.now.context < 8) }
     requires marks { (length lows.now.items ≡ 128) × (length looks.old.items ≡ 128) }
     ensures kept { H.keeps ≡ true → (old new : PartitionView F.Key F.Value F.Input) (now : ℕ)
-        → IsGone {R = R} F.Key.cmp F.meaning old new mine.now now progress
+        → IsGone {R = R} F.Key.cmp F.meaning old new operation.now now progress
         → IsFaithful F.Key.cmp F.meaning (seen F.Key.cmp old) (H.entries history.old) lows.now.items looks.old.items book.old
         → IsFaithful F.Key.cmp F.meaning (seen F.Key.cmp new) (H.entries history.new) lows.now.items looks.new.items
         book.new }
     ensures marks { length looks.new.items ≡ 128 }
     ensures turns { Turns H.keeps (H.count history.old)
-        (slice_set looks.old.items (place_of mine.now.session.slot mine.now.context) (H.count history.old))
+        (slice_set looks.old.items (place_of operation.now.session.slot operation.now.context) (H.count history.old))
         (record {
           entries = H.entries history.old;
           count = H.count history.old;
@@ -123,7 +123,7 @@ pub(crate) fn note<F: Mergeable, R: Receipt, H: Recorder<F>>(
           lows = lows.now.items;
           looks = looks.new.items;
           book = book.new;
-        }) mine.now result }
+        }) operation.now result }
     ensures tells { IsToldBy progress result }
 {
     let at = history.updates();
@@ -132,16 +132,16 @@ pub(crate) fn note<F: Mergeable, R: Receipt, H: Recorder<F>>(
         Progress::NeedsBuild(ask) => Turn::NeedsBuild(ask),
         Progress::Waits(why) => Turn::Waits(why),
         Progress::NeedsLoad(receipt, address) => {
-            set_mark(looks, mine.session.slot, mine.context, at);
+            set_mark(looks, operation.session.slot, operation.context, at);
             Turn::NeedsLoad(receipt, address)
         }
         Progress::Done(answer, _effect) => {
             let entry = Entry {
-                session: mine.session.number,
-                number: mine.number,
-                op: mine.op,
+                session: operation.session.number,
+                number: operation.number,
+                op: operation.op,
                 answer,
-                low: mark_at(lows, mine.session.slot, mine.context),
+                low: mark_at(lows, operation.session.slot, operation.context),
                 at,
                 high: at,
             };
@@ -157,17 +157,17 @@ pub(crate) fn note_loaded<F: Mergeable, R: Receipt, H: Recorder<F>>(
     lows: &Vec<u64>,
     look: u64,
     book: &mut u64,
-    mine: &OpenOperationOf<F>,
+    operation: &OpenOperationOf<F>,
     progress: ProgressOf<F, R>,
 ) -> TurnOf<F, R>
     requires spare { 1 ≤ H.spare history.old }
     requires room { (H.count history.old < 2 ^ 64 - 1) × (book.old < 2 ^ 64 - 1) × (look < 2 ^ 64 - 1) }
-    requires told { mine.now.told ≤ look }
-    requires within { (mine.now.session.slot < 16) × (mine.now.context < 8) }
+    requires told { operation.now.told ≤ look }
+    requires within { (operation.now.session.slot < 16) × (operation.now.context < 8) }
     requires marks { length lows.now.items ≡ 128 }
     ensures kept { H.keeps ≡ true → (old new : PartitionView F.Key F.Value F.Input) (looks : List ℕ)
-        → look ≡ slice_index looks (place_of mine.now.session.slot mine.now.context)
-        → IsCome {R = R} F.Key.cmp F.meaning old new mine.now progress
+        → look ≡ slice_index looks (place_of operation.now.session.slot operation.now.context)
+        → IsCome {R = R} F.Key.cmp F.meaning old new operation.now progress
         → IsFaithful F.Key.cmp F.meaning (seen F.Key.cmp old) (H.entries history.old) lows.now.items looks book.old
         → IsFaithful F.Key.cmp F.meaning (seen F.Key.cmp new) (H.entries history.new) lows.now.items looks book.new }
     ensures turns { (looks : List ℕ) → Turns H.keeps look looks
@@ -184,7 +184,7 @@ pub(crate) fn note_loaded<F: Mergeable, R: Receipt, H: Recorder<F>>(
           lows = lows.now.items;
           looks = looks;
           book = book.new;
-        }) mine.now result }
+        }) operation.now result }
     ensures tells { IsToldBy progress result }
 {
     let high = history.updates();
@@ -195,11 +195,11 @@ pub(crate) fn note_loaded<F: Mergeable, R: Receipt, H: Recorder<F>>(
         Progress::NeedsLoad(receipt, address) => Turn::NeedsLoad(receipt, address),
         Progress::Done(answer, _effect) => {
             let entry = Entry {
-                session: mine.session.number,
-                number: mine.number,
-                op: mine.op,
+                session: operation.session.number,
+                number: operation.number,
+                op: operation.op,
                 answer,
-                low: mark_at(lows, mine.session.slot, mine.context),
+                low: mark_at(lows, operation.session.slot, operation.context),
                 at: look,
                 high,
             };

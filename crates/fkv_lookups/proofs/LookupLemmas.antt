@@ -16,7 +16,7 @@ use Rattle.fkv_functions.specs.Plain.{IsKeyOrder}
 use Rattle.std.proofs.lemmas.Bool.{ltb-true, lt-ltb, leb-true, le-leb, and_parts, eqb-true}
 use Rattle.std.specs.List.{find, fold}
 use Rattle.fkv_texts.specs.Text.{entry_at, last_where, has_key, newest, value_of, text_from}
-use Rattle.fkv_texts.specs.Deltas.{onto, risen, stood, gathered, AreValued}
+use Rattle.fkv_texts.specs.Deltas.{combined, value_after, resolved, gathered, AreValued}
 use Rattle.fkv_texts.specs.Chains.{IsIn, IsChainFrom, has_class, last_of_class, last_below, Leads, falling, leads_to, reached}
 use Rattle.fkv_texts.specs.Chains.IsChainFrom.{ends, goes}
 use Rattle.fkv_texts.proofs.CutLemmas.{filter-in, filter-one, highest, cut-rising, cut-from, cut-leads, cut-chained}
@@ -37,7 +37,7 @@ use Rattle.fkv_operations.proofs.ClassLemmas.{class_test}
 use Rattle.fkv_lookups.specs.RecordsViews.{RecordsView, class_in, entry_of}
 use Rattle.fkv_lookups.specs.Lookups.{falling_from, newest_above, IsOfClass, ComesTo, end_of, at_of, StartsAt}
 use Rattle.fkv_lookups.proofs.TracedLemmas.{leads_of}
-use Rattle.fkv_lookups.specs.Traced.{IsTraced, IsStood}
+use Rattle.fkv_lookups.specs.Traced.{IsTraced, IsResolved}
 
 -- ---- the records as pages spell them
 -- in place of what they stand for
@@ -45,7 +45,7 @@ abbrev pub raw : {K V : Type 0} → RecordsView K V → RecordsView K V
 raw v = record v { text = v.log.text }
 
 -- they are traced too
-pub raw-traced : {K V : Type 0} {keeps : Bool} {code : K → ℕ} (cmp : K → K → Ordering) (join : V → V → V) (v : RecordsView K V) → v.text ≡ stood cmp join v.log.text → IsTraced keeps code v → IsTraced keeps code (raw v)
+pub raw-traced : {K V : Type 0} {keeps : Bool} {code : K → ℕ} (cmp : K → K → Ordering) (join : V → V → V) (v : RecordsView K V) → v.text ≡ resolved cmp join v.log.text → IsTraced keeps code v → IsTraced keeps code (raw v)
 raw-traced {code = code} cmp join v is t =
     let back = subst (λ (es : List (Entry _ _)). AreAlike es v.log.text) (sym is) (alike_back cmp join v.log.text) in
     record {
@@ -93,21 +93,21 @@ module _ {K V : Type 0} (cmp : K → K → Ordering) (join : V → V → V) (k :
   stops h whole = ap (λ l. at_end (leads_to e.previous es) (gathered join l parts)) (filter-one (has_key cmp k) e es true h) ∙ rw whole refl
 
   -- the part of a delta is joined before the others
-  pub collects : has_key cmp k e ≡ true → e.delta ≡ true → over cmp join k parts a (e ∷ es) ≡ over cmp join k (onto join e.value parts) e.previous es
+  pub collects : has_key cmp k e ≡ true → e.delta ≡ true → over cmp join k parts a (e ∷ es) ≡ over cmp join k (combined join e.value parts) e.previous es
   collects h delta = ap (λ l. at_end (leads_to e.previous es) (gathered join l parts)) (filter-one (has_key cmp k) e es true h) ∙ rw delta refl
 
 -- ---- the first record of the key, and what is gathered
 module _ {K V : Type 0} (cmp : K → K → Ordering) (join : V → V → V) (k : K) where
-  pub some-onto : (u w : Option V) → IsSome w → IsSome (onto join u w)
-  some-onto None w h = h
-  some-onto (Some u) None h = absurd (cc)
-  some-onto (Some u) (Some w) h = refl
+  pub some-combined : (u w : Option V) → IsSome w → IsSome (combined join u w)
+  some-combined None w h = h
+  some-combined (Some u) None h = absurd (cc)
+  some-combined (Some u) (Some w) h = refl
 
   some-gathered : (es : List (Entry K V)) (parts : Option V) → IsSome parts → IsSome (gathered join es parts).0
   some-gathered [] parts h = h
-  some-gathered (e ∷ es) parts h = by_delta e.delta (some-gathered es (onto join e.value parts) (some-onto e.value parts h))
+  some-gathered (e ∷ es) parts h = by_delta e.delta (some-gathered es (combined join e.value parts) (some-combined e.value parts h))
     where
-      by_delta : (b : Bool) → IsSome (gathered join es (onto join e.value parts)).0 → IsSome (cond b (gathered join es (onto join e.value parts)) (parts, Some e)).0
+      by_delta : (b : Bool) → IsSome (gathered join es (combined join e.value parts)).0 → IsSome (cond b (gathered join es (combined join e.value parts)) (parts, Some e)).0
       by_delta true rest = rest
       by_delta false rest = h
 
@@ -122,10 +122,10 @@ module _ {K V : Type 0} (cmp : K → K → Ordering) (join : V → V → V) (k :
           subst (λ p. StartsAt p (over cmp join k None a (e ∷ ds))) (sym first) (
             λ whole. stops cmp join k None a e ds own whole,
             λ delta. subst (λ (r : ChainResult K V). IsSome r.parts) (sym (collects cmp join k None a e ds own delta))
-                (some-gathered (filter (has_key cmp k) ds) (onto join e.value None) (some-part e.value (valued here.place e here.here delta))),
+                (some-gathered (filter (has_key cmp k) ds) (combined join e.value None) (some-part e.value (valued here.place e here.here delta))),
           )
         where
-          some-part : (o : Option V) → IsSome o → IsSome (onto join o None)
+          some-part : (o : Option V) → IsSome o → IsSome (combined join o None)
           some-part None h = absurd (cc)
           some-part (Some u) h = refl
 
@@ -338,7 +338,7 @@ module _ {K V : Type 0} {keeps : Bool} (cmp : K → K → Ordering) (code : K �
       by_key h true false own delta rest =
           subst (ComesTo cmp join code v k low a parts) (sym (stops cmp join k parts a e ds own delta)) (found (here_newest a e h true own) (entry_at-in v.log.text t.rising e here e.address refl) level delta)
       by_key h true true own delta rest =
-          subst (ComesTo cmp join code v k low a parts) (sym (collects cmp join k parts a e ds own delta)) (joins (here_newest a e h true own) level delta (rest (onto join e.value parts)))
+          subst (ComesTo cmp join code v k low a parts) (sym (collects cmp join k parts a e ds own delta)) (joins (here_newest a e h true own) level delta (rest (combined join e.value parts)))
 
   -- one page, or memory, tells how the way goes on
   pub step_tells : (low : ℕ) → v.log.from ≤ low → (a : ℕ) → (v.log.from ≤ a → IsOfClass code v k a) → {E : Type 0} (result : Result (ChainPosition K V) E)
@@ -428,7 +428,7 @@ module _ {K V : Type 0} {keeps : Bool} (cmp : K → K → Ordering) (code : K �
   between_tells join low a parts r (found {e = d} is stands high whole) e m own up above = absurd (let most = newest_high a d is e m own up in omega arith)
   between_tells join low a parts r (below {b = b} less is class) e m own up above = absurd (let most = newest_low a b is e m own up in omega arith)
   between_tells join low a parts r (joins {d = d} is high delta rest) e m own up above =
-      by_level (nat_lt e.address d.address) refl (λ lower. between_tells join low d.previous (onto join d.value parts) r rest e m own lower above)
+      by_level (nat_lt e.address d.address) refl (λ lower. between_tells join low d.previous (combined join d.value parts) r rest e m own lower above)
     where
       w : IsIn v.log.text d × (has_key cmp k d ≡ true) × (d.address ≤ a)
       w = delta_class a d is
@@ -454,7 +454,7 @@ record_falls cmp code v order t e m = by_from (nat_lt e.previous v.log.from) ref
         next_low cmp code v e.key order t e.address (record { entry = e; here = entry_at-in v.log.text t.rising e m e.address refl; class = refl }) above
 
 -- ---- what a look-up tells of what the key has
-module _ {K V : Type 0} {keeps : Bool} (cmp : K → K → Ordering) (join : V → V → V) (code : K → ℕ) (v : RecordsView K V) (k : K) (order : IsKeyOrder cmp) (t : IsTraced keeps code v) (s : IsStood cmp join v) where
+module _ {K V : Type 0} {keeps : Bool} (cmp : K → K → Ordering) (join : V → V → V) (code : K → ℕ) (v : RecordsView K V) (k : K) (order : IsKeyOrder cmp) (t : IsTraced keeps code v) (s : IsResolved cmp join v) where
   traced : IsTraced keeps code (raw v)
   traced = raw-traced cmp join v s.is t
 
@@ -462,8 +462,8 @@ module _ {K V : Type 0} {keeps : Bool} (cmp : K → K → Ordering) (join : V �
   abbrev value : ℕ → Option V
   value a = value_of (newest cmp v.text k a)
 
-  stood_value : (a : ℕ) → value a ≡ value_of (newest cmp (stood cmp join v.log.text) k a)
-  stood_value a = ap (λ (es : List (Entry K V)). value_of (newest cmp es k a)) s.is
+  value_resolved : (a : ℕ) → value a ≡ value_of (newest cmp (resolved cmp join v.log.text) k a)
+  value_resolved a = ap (λ (es : List (Entry K V)). value_of (newest cmp es k a)) s.is
 
   -- it is the same where the same records of the key stand at or below
   same_value : (a b : ℕ)
@@ -471,13 +471,13 @@ module _ {K V : Type 0} {keeps : Bool} (cmp : K → K → Ordering) (join : V �
       → ((e : Entry K V) → IsIn v.log.text e → has_key cmp k e ≡ true → e.address ≤ b → e.address ≤ a)
       → value a ≡ value b
   same_value a b down up =
-      stood_value a
+      value_resolved a
       ∙ newest-fold cmp join order v.log.text traced.rising k a
-      ∙ ap (fold (risen join) None) (filter-same (λ e. nat_le e.address a && has_key cmp k e) (λ e. nat_le e.address b && has_key cmp k e) v.log.text
+      ∙ ap (fold (value_after join) None) (filter-same (λ e. nat_le e.address a && has_key cmp k e) (λ e. nat_le e.address b && has_key cmp k e) v.log.text
       (λ i e h. alike (nat_le e.address a) (nat_le e.address b) (has_key cmp k e)
       (λ own low. le-leb e.address b (down e (record { place = i; here = h }) own (leb-true e.address a low)))
       (λ own low. le-leb e.address a (up e (record { place = i; here = h }) own (leb-true e.address b low)))))
-      ∙ sym (stood_value b ∙ newest-fold cmp join order v.log.text traced.rising k b)
+      ∙ sym (value_resolved b ∙ newest-fold cmp join order v.log.text traced.rising k b)
     where
       alike : (x y z : Bool) → (z ≡ true → x ≡ true → y ≡ true) → (z ≡ true → y ≡ true → x ≡ true) → (x && z) ≡ (y && z)
       alike true true z f g = refl
@@ -491,7 +491,7 @@ module _ {K V : Type 0} {keeps : Bool} (cmp : K → K → Ordering) (join : V �
   newest_value a b same = same_value a b (newest_low cmp code v k order traced a b same) (newest_low cmp code v k order traced b a (sym same))
 
   -- a delta joins its part to what the key had
-  delta_value : (a : ℕ) (d : Entry K V) → newest cmp v.log.text k a ≡ Some d → d.delta ≡ true → (parts : Option V) → onto join (value a) parts ≡ onto join (value d.previous) (onto join d.value parts)
+  delta_value : (a : ℕ) (d : Entry K V) → newest cmp v.log.text k a ≡ Some d → d.delta ≡ true → (parts : Option V) → combined join (value a) parts ≡ combined join (value d.previous) (combined join d.value parts)
   delta_value a d is delta parts =
       let w = delta_class cmp code v k order traced a d is in
       let begun : v.log.from ≤ d.address = traced.from w.0.place d w.0.here in
@@ -499,19 +499,19 @@ module _ {K V : Type 0} {keeps : Bool} (cmp : K → K → Ordering) (join : V �
       let chain : IsChainFrom d.address v.log.text d.address (d ∷ []) = goes (omega arith) w.0 refl (ends (record_falls cmp code v order traced d w.0)) in
       let own : (x : Entry K V) → IsIn v.log.text x → x.address ≡ d.address → d.address ≤ d.address → class_in code v x.key ≡ class_in code v k =
       λ x m at up. ap (λ (y : Entry K V). class_in code v y.key) (one_address v.log.text traced.rising m.place w.0.place x d m.here w.0.here at) ∙ ap (class_in code v) (order.same d.key k w.1) in
-      ap (λ u. onto join u parts) (level ∙ stood_value d.address)
+      ap (λ u. combined join u parts) (level ∙ value_resolved d.address)
       ∙ read-chain cmp join order s.joins (class_in code v) same_class class_test v.log.from d.address begun v.log.text traced.rising traced.chained k d.address (d ∷ []) chain own parts
-      ∙ ap (joined_end join s.joins (value_of (newest cmp (stood cmp join v.log.text) k d.previous))) (ap (λ l. gathered join l parts) (filter-one (has_key cmp k) d [] true w.1) ∙ one_part)
-      ∙ ap (λ u. onto join u (onto join d.value parts)) (sym (stood_value d.previous))
+      ∙ ap (joined_end join s.joins (value_of (newest cmp (resolved cmp join v.log.text) k d.previous))) (ap (λ l. gathered join l parts) (filter-one (has_key cmp k) d [] true w.1) ∙ one_part)
+      ∙ ap (λ u. combined join u (combined join d.value parts)) (sym (value_resolved d.previous))
     where
-      one_part : gathered join (d ∷ []) parts ≡ (onto join d.value parts, None)
+      one_part : gathered join (d ∷ []) parts ≡ (combined join d.value parts, None)
       one_part = rw delta refl
 
-  pub values_tell : (low a : ℕ) (parts : Option V) (r : ChainResult K V) → ComesTo cmp join code v k low a parts r → onto join (value a) parts ≡ onto join (end_of cmp v k r.position) r.parts
+  pub values_tell : (low a : ℕ) (parts : Option V) (r : ChainResult K V) → ComesTo cmp join code v k low a parts r → combined join (value a) parts ≡ combined join (end_of cmp v k r.position) r.parts
   values_tell low a parts r (found {e = e} is stands high whole) =
-      ap (λ u. onto join u parts) (stood_value a ∙ whole-last join cmp v.log.text (λ x. nat_le x.address a && has_key cmp k x) (λ x u. refl) e is whole)
-  values_tell low a parts r (below {b = b} less is class) = ap (λ u. onto join u parts) (newest_value a b is)
-  values_tell low a parts r (joins {d = d} is high delta rest) = delta_value a d is delta parts ∙ values_tell low d.previous (onto join d.value parts) r rest
+      ap (λ u. combined join u parts) (value_resolved a ∙ whole-last join cmp v.log.text (λ x. nat_le x.address a && has_key cmp k x) (λ x u. refl) e is whole)
+  values_tell low a parts r (below {b = b} less is class) = ap (λ u. combined join u parts) (newest_value a b is)
+  values_tell low a parts r (joins {d = d} is high delta rest) = delta_value a d is delta parts ∙ values_tell low d.previous (combined join d.value parts) r rest
 
 -- ---- the page of what is wanted begins no lower than Begin
 pub page_begun : (bits size begin a : ℕ) → IsShape bits size → IsMark bits begin → begin ≤ a → begin ≤ first_place bits (page_at bits a)

@@ -15,12 +15,12 @@ use Rattle.fkv_texts.specs.declared.entries.ChainPosition.{ChainPosition}
 use Rattle.fkv_texts.specs.declared.entries.ChainPosition.TheVariants.{Found, Below}
 use Rattle.fkv_texts.specs.Text.{entry_at, has_key, value_of, last_of, newest}
 use Rattle.fkv_texts.specs.Chains.{IsIn}
-use Rattle.fkv_texts.specs.Deltas.{onto, having}
+use Rattle.fkv_texts.specs.Deltas.{combined, with_other_value}
 use Rattle.fkv_texts.proofs.LastWhere.{last_where-in, none-passes}
 use Rattle.fkv_texts.proofs.TextLemmas.{entry_at-in}
 use Rattle.fkv_texts.proofs.CutLemmas.{highest}
-use Rattle.fkv_texts.proofs.StoodLemmas.{stood-last, whole-last}
-use Rattle.fkv_texts.proofs.ValueLemmas.{onto-none}
+use Rattle.fkv_texts.proofs.StoodLemmas.{resolved-last, whole-last}
+use Rattle.fkv_texts.proofs.ValueLemmas.{combined-none}
 use Rattle.fkv_operations.specs.Still.{IsStill}
 use Rattle.fkv_lookups.specs.declared.decisions.LookupResult.{LookupResult}
 use Rattle.fkv_lookups.specs.declared.decisions.LookupResult.TheVariants.{NoEntry, NoValue, ReadOnly, Fuzzy, Mutable, OnDisk}
@@ -31,9 +31,9 @@ use Rattle.fkv_lookups.specs.Lookups.{falling_from, newest_above, looked_up, IsO
 use Rattle.fkv_lookups.specs.Lookups.ComesTo.{found, below, joins}
 use Rattle.fkv_lookups.specs.Meeting.{met_from, met_at, IsMetAt, IsWanted}
 use Rattle.fkv_lookups.specs.RecordsViews.{RecordsView, class_in, entry_of}
-use Rattle.fkv_lookups.specs.Traced.{IsTraced, IsStood}
+use Rattle.fkv_lookups.specs.Traced.{IsTraced, IsResolved}
 use Rattle.fkv_lookups.proofs.TracedLemmas.{traced-held, traced-none, from_first}
-use Rattle.fkv_lookups.proofs.LookupLemmas.{raw, raw-traced, some-onto, chain_first, begun, newest_below, leads_class, gathers_on, up_chain, first_is, delta_class, between_tells, values_tell}
+use Rattle.fkv_lookups.proofs.LookupLemmas.{raw, raw-traced, some-combined, chain_first, begun, newest_below, leads_class, gathers_on, up_chain, first_is, delta_class, between_tells, values_tell}
 
 -- a session is entered at an epoch
 at_epoch : (o : Option (Option ℕ)) → is_some (option_flatten o) ≡ true → (e : ℕ) × (o ≡ Some (Some e))
@@ -64,7 +64,7 @@ low_under begin view b = by_begin (nat_le begin view.head) refl
     by_begin true h under high = under
     by_begin false h under high = absurd (omega arith)
 
-module _ {K V : Type 0} {keeps : Bool} (cmp : K → K → Ordering) (join : V → V → V) (code : K → ℕ) (v : RecordsView K V) (k : K) (order : IsKeyOrder cmp) (t : IsTraced keeps code v) (s : IsStood cmp join v) where
+module _ {K V : Type 0} {keeps : Bool} (cmp : K → K → Ordering) (join : V → V → V) (code : K → ℕ) (v : RecordsView K V) (k : K) (order : IsKeyOrder cmp) (t : IsTraced keeps code v) (s : IsResolved cmp join v) where
   traced : IsTraced keeps code (raw v)
   traced = raw-traced cmp join v s.is t
 
@@ -84,7 +84,7 @@ module _ {K V : Type 0} {keeps : Bool} (cmp : K → K → Ordering) (join : V �
   goes-some : (low a : ℕ) (parts : Option V) (r : ChainResult K V) → ComesTo cmp join code v k low a parts r → IsSome parts → IsSome r.parts
   goes-some low a parts r (found is stands high whole) some = some
   goes-some low a parts r (below less is class) some = some
-  goes-some low a parts r (joins {d = d} is high delta rest) some = goes-some low d.previous (onto join d.value parts) r rest (some-onto cmp join k d.value parts some)
+  goes-some low a parts r (joins {d = d} is high delta rest) some = goes-some low d.previous (combined join d.value parts) r rest (some-combined cmp join k d.value parts some)
 
   -- with no parts in the end, it is the newest record of the key that it came to, or none above
   abbrev IsAlone : ℕ → ℕ → ChainPosition K V → Type 0
@@ -96,13 +96,13 @@ module _ {K V : Type 0} {keeps : Bool} (cmp : K → K → Ordering) (join : V �
   alone low a r (below {b = b} less is class) none p at = subst (IsAlone low a) at is
   alone low a r (joins {d = d} is high delta rest) none p at = absurd (
       let m = (delta_class cmp code v k order traced a d is).0 in
-      let part = some-onto-none d.value (s.valued m.place d m.here delta) in
-      let some = goes-some low d.previous (onto join d.value None) r rest part in
+      let part = some-combined-none d.value (s.valued m.place d m.here delta) in
+      let some = goes-some low d.previous (combined join d.value None) r rest part in
       let no : IsSome {T = V} None = rw none at some in
       cc)
     where
-      some-onto-none : (o : Option V) → IsSome o → IsSome (onto join o None)
-      some-onto-none o h = subst IsSome (sym (onto-none join o)) h
+      some-combined-none : (o : Option V) → IsSome o → IsSome (combined join o None)
+      some-combined-none o h = subst IsSome (sym (combined-none join o)) h
 
   -- with parts, the newest is a delta
   joined : (low a : ℕ) (r : ChainResult K V) → ComesTo cmp join code v k low a None r → (p : V) → r.parts ≡ Some p → (d : Entry K V) × (newest cmp v.log.text k a ≡ Some d) × (d.delta ≡ true)
@@ -120,25 +120,25 @@ module _ {K V : Type 0} {keeps : Bool} (cmp : K → K → Ordering) (join : V �
   below_at low a parts r (below {b = d} under is class) b same =
       let one : d ≡ b = cc in
       subst (IsBelowAt low) one (record { under = under; class = class })
-  below_at low a parts r (joins {d = d} is high delta rest) b same = below_at low d.previous (onto join d.value parts) r rest b same
+  below_at low a parts r (joins {d = d} is high delta rest) b same = below_at low d.previous (combined join d.value parts) r rest b same
 
   -- ---- the last record of the key
   -- what the key has
   pub value_tells : (low : ℕ) → v.log.from ≤ low → (a : ℕ) → entry_of v (class_in code v k) ≡ Some a
-      → value_of (last_of cmp v.text k) ≡ onto join (end_of cmp v k (looked_up cmp join code v low k a).position) (looked_up cmp join code v low k a).parts
+      → value_of (last_of cmp v.text k) ≡ combined join (end_of cmp v k (looked_up cmp join code v low k a).position) (looked_up cmp join code v low k a).parts
   value_tells low up a entry =
       ap value_of (sym (traced-held cmp code v k order t a entry))
-      ∙ sym (onto-none join (value_of (newest cmp v.text k a)))
+      ∙ sym (combined-none join (value_of (newest cmp v.text k a)))
       ∙ values_tell cmp join code v k order t s low a None (looked_up cmp join code v low k a) (tells low up a entry)
 
   -- it is the newest below the entry, with what the key has then
-  last_stands : (a : ℕ) → entry_of v (class_in code v k) ≡ Some a → (o : Option (Entry K V)) → newest cmp v.log.text k a ≡ o → last_of cmp v.text k ≡ option_map (having (value_of (last_of cmp v.text k))) o
+  last_stands : (a : ℕ) → entry_of v (class_in code v k) ≡ Some a → (o : Option (Entry K V)) → newest cmp v.log.text k a ≡ o → last_of cmp v.text k ≡ option_map (with_other_value (value_of (last_of cmp v.text k))) o
   last_stands a entry o is =
       let p = λ (e : Entry K V). nat_le e.address a && has_key cmp k e in
       let held = traced-held cmp code v k order t a entry in
-      let there : newest cmp v.text k a ≡ option_map (having (value_of (newest cmp v.text k a))) (newest cmp v.log.text k a) =
-      subst (λ (es : List (Entry K V)). newest cmp es k a ≡ option_map (having (value_of (newest cmp es k a))) (newest cmp v.log.text k a)) (sym s.is) (stood-last cmp join v.log.text p (λ e w. refl)) in
-      subst (λ (l : Option (Entry K V)). l ≡ option_map (having (value_of l)) o) held (there ∙ ap (option_map (having (value_of (newest cmp v.text k a)))) is)
+      let there : newest cmp v.text k a ≡ option_map (with_other_value (value_of (newest cmp v.text k a))) (newest cmp v.log.text k a) =
+      subst (λ (es : List (Entry K V)). newest cmp es k a ≡ option_map (with_other_value (value_of (newest cmp es k a))) (newest cmp v.log.text k a)) (sym s.is) (resolved-last cmp join v.log.text p (λ e w. refl)) in
+      subst (λ (l : Option (Entry K V)). l ≡ option_map (with_other_value (value_of l)) o) held (there ∙ ap (option_map (with_other_value (value_of (newest cmp v.text k a)))) is)
 
   pub record IsFoundAt (e : Entry K V) : Type 0 where
     pub last : last_of cmp v.text k ≡ Some e
@@ -153,7 +153,7 @@ module _ {K V : Type 0} {keeps : Bool} (cmp : K → K → Ordering) (join : V �
       let held = traced-held cmp code v k order t a entry in
       let value : value_of (newest cmp v.text k a) ≡ e.value =
       ap (λ (es : List (Entry K V)). value_of (newest cmp es k a)) s.is ∙ whole-last join cmp v.log.text p (λ x w. refl) e one.0 one.1 in
-      let last : last_of cmp v.text k ≡ Some e = last_stands a entry (Some e) one.0 ∙ ap (λ u. Some (having u e)) (ap value_of (sym held) ∙ value) in
+      let last : last_of cmp v.text k ≡ Some e = last_stands a entry (Some e) one.0 ∙ ap (λ u. Some (with_other_value u e)) (ap value_of (sym held) ∙ value) in
       record { last = last; stands = entry_at-in v.text t.rising e (last_where-in (has_key cmp k) v.text e last) e.address refl; whole = one.1 }
 
   -- none stands where the look-up came below Begin
@@ -219,10 +219,10 @@ module _ {K V : Type 0} {keeps : Bool} (cmp : K → K → Ordering) (join : V �
             let r = looked_up cmp join code v low k a in
             let has = value_tells low up a entry in
             held-met join v.log.begin (view_at v.log.regions.views slot) (Some a) r (value_of (last_of cmp v.text k)) (λ none. absurd (cc))
-            (λ e is. has ∙ ap (λ (p : ChainPosition K V). onto join (end_of cmp v k p) r.parts) is)
+            (λ e is. has ∙ ap (λ (p : ChainPosition K V). combined join (end_of cmp v k p) r.parts) is)
             (λ b is under.
             let from = from_first t in
-            has ∙ ap (λ (p : ChainPosition K V). onto join (end_of cmp v k p) r.parts) is ∙ ap (λ (o : Option (Entry K V)). onto join (value_of o) r.parts) (newest_below cmp code v k order t b (omega arith)))
+            has ∙ ap (λ (p : ChainPosition K V). combined join (end_of cmp v k p) r.parts) is ∙ ap (λ (o : Option (Entry K V)). combined join (value_of o) r.parts) (newest_below cmp code v k order t b (omega arith)))
 
     -- a value is met in the region of the key's last record
     met-in : (o : Option ℕ) → entry_of v (class_in code v k) ≡ o → (m : LookupResult V) → met_from cmp join code v (view_at v.log.regions.views slot) k o ≡ m → (w : V) (g : Region)
@@ -262,7 +262,7 @@ module _ {K V : Type 0} {keeps : Bool} (cmp : K → K → Ordering) (join : V �
             record {
               begun = d.high;
               low = omega arith;
-              newest = value_tells low up a entry ∙ ap (λ (p : ChainPosition K V). onto join (end_of cmp v k p) r.parts) d.is ∙ ap (onto join (value_of (newest cmp v.text k b))) d.parts;
+              newest = value_tells low up a entry ∙ ap (λ (p : ChainPosition K V). combined join (end_of cmp v k p) r.parts) d.is ∙ ap (combined join (value_of (newest cmp v.text k b))) d.parts;
               between = λ e m own above. between_tells cmp code v k order traced join low a None r g e m own (held_low a entry e m own) (subst (λ (p : ChainPosition K V). at_of p < e.address) (sym d.is) above);
               still = by_parts r g entry d.is r.parts refl v.log.regions.offsets.safe_read_only (omega arith);
               class = w.class;

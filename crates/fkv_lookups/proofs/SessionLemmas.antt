@@ -3,7 +3,7 @@ use Rattle.std.proofs.Common.{◌≡◌, ℕ, Bool, List, refl, ap}
 use Rattle.std.specs.Prelude.{Result, Ok, Err, IfOk, IfErr, OnOk, OnErr}
 use Rattle.std.specs.declared.cmp.Ordering.{Ordering}
 use Rattle.fkv_device.specs.Standing.{Standing}
-use Rattle.fkv_texts.specs.Deltas.{stood}
+use Rattle.fkv_texts.specs.Deltas.{resolved}
 use Rattle.fkv_regions.specs.RegionsView.{RegionsView}
 use Rattle.fkv_hybrid.specs.Views.{LogView}
 use Rattle.fkv_hybrid.specs.Views as log
@@ -44,8 +44,8 @@ pub records-moved : {K V T E : Type 0} (r : Result T E) (cmp : K → K → Order
     → OnOk r (IsMoved keeps made (view_of cmp join p k size old words) (view_of cmp join p k size new words))
 records-moved {K} {V} (Ok x) cmp join keeps p k size words made old new m = record {
   more = m.more;
-  is = ap (λ (l : LogView K V). record (view_of cmp join p k size l words) { text = stood cmp join new.text }) m.is;
-  kept = λ keep. ap (stood cmp join) (m.kept keep);
+  is = ap (λ (l : LogView K V). record (view_of cmp join p k size l words) { text = resolved cmp join new.text }) m.is;
+  kept = λ keep. ap (resolved cmp join) (m.kept keep);
   entries = m.kept;
 }
 records-moved (Err e) cmp join keeps p k size words made old new m = tt

@@ -9,16 +9,16 @@ use Rattle.fkv_records.specs.Records.{IsPrevious}
 use Rattle.fkv_texts.specs.declared.entries.Entry.{Entry}
 use Rattle.fkv_texts.specs.Places.{IsLaidOut}
 use Rattle.fkv_texts.specs.Text.{last_where, has_key, last_of, newest, live, AllAbove, IsRising, IsFrom, IsBelow}
-use Rattle.fkv_texts.specs.Deltas.{stood, risen}
+use Rattle.fkv_texts.specs.Deltas.{resolved, value_after}
 use Rattle.fkv_texts.specs.Chains.{has_class, last_of_class, Leads, IsChained, IsIn}
 use Rattle.fkv_functions.proofs.ListLemmas.{get-append_last}
 use Rattle.fkv_regions.specs.RegionsView.{RegionsView}
 use Rattle.fkv_texts.proofs.ChangeLemmas.{laid_out-changed, rising-changed, from-changed, below-changed, chained-changed, leads-changed}
 use Rattle.fkv_texts.proofs.StoodLemmas.{AreAlike, alike, alike_back, alike-laid_out, alike-rising, alike-from, alike-below, alike-leads, alike-chained}
-use Rattle.fkv_texts.proofs.ValueLemmas.{stood-append}
+use Rattle.fkv_texts.proofs.ValueLemmas.{resolved-append}
 use Rattle.fkv_texts.proofs.LastWhere.{last_where-append, last_where-found, last_where-in, none-passes, last_where-narrow, last_where-narrow_none}
 use Rattle.fkv_index.specs.declared.words.Word.{Word}
-use Rattle.fkv_index.specs.declared.places.Place.{Place}
+use Rattle.fkv_index.specs.declared.words.Place.{Place}
 use Rattle.fkv_index.specs.Words.{empty, final_word, address_of, tag_of, is_final}
 use Rattle.fkv_index.specs.Places.{word_at, with_word}
 use Rattle.fkv_index.specs.Entries.{entry_at, StandsAt, IsIndexMap}
@@ -32,7 +32,7 @@ use Rattle.fkv_lookups.specs.RecordsViews.{ChangesAt}
 use Rattle.fkv_lookups.specs.declared.payloads.Payload.{Payload}
 use Rattle.fkv_lookups.specs.declared.payloads.Payload.TheVariants.{Whole, Part}
 use Rattle.fkv_lookups.specs.Payloads.{value_in, is_part, standing}
-use Rattle.fkv_lookups.specs.Traced.{AreRegionsBelow, IsTraced, IsStood}
+use Rattle.fkv_lookups.specs.Traced.{AreRegionsBelow, IsTraced, IsResolved}
 use Rattle.fkv_operations.proofs.ClassLemmas.{class_test, entry-set}
 use Rattle.std.specs.Prelude.{Result, Ok, Err, OnOk, OnErr}
 use Rattle.fkv_texts.proofs.CutLemmas.{cut-leads, cut-chained}
@@ -98,7 +98,7 @@ traced-alike {code = code} v text same t = record {
 
 pub traced-raw : {K V : Type 0} {keeps : Bool} {code : K → ℕ} {cmp : K → K → Ordering} {join : V → V → V} {v : RecordsView K V}
     → IsTraced keeps code v
-    → IsStood cmp join v
+    → IsResolved cmp join v
     → IsTraced keeps code (raw v)
 traced-raw {cmp = cmp} {join = join} {v = v} t s = traced-alike v v.log.text (rw s.is (alike_back cmp join v.log.text)) t
 
@@ -119,7 +119,7 @@ pub traced-by : {K V : Type 0} {keeps : Bool} {code : K → ℕ} (cmp : K → K 
     → ((c : Class) → Leads l.from (last_of_class (class_in code (view_of cmp join p k size l words)) same_class l.text c) (leads_to (entry_at words c.bucket c.tag)))
     → ((c : Class) → IsPrevious l.tail (leads_to (entry_at words c.bucket c.tag)))
     → IsTraced keeps code (view_of cmp join p k size l words)
-traced-by cmp join p k size words l few small log chained buckets map leads placed = traced-alike (raw (view_of cmp join p k size l words)) (stood cmp join l.text) (alike cmp join l.text) (record {
+traced-by cmp join p k size words l few small log chained buckets map leads placed = traced-alike (raw (view_of cmp join p k size l words)) (resolved cmp join l.text) (alike cmp join l.text) (record {
   partition_bits = few;
   bucket_bits = small;
   shape = log.shape;
@@ -252,13 +252,13 @@ moved_log : {K V : Type 0} {keeps : Bool} {code : K → ℕ} (cmp : K → K → 
     → IsLogOf keeps size new
     → IsTraced keeps code (view_of cmp join p k size old words)
     → IsTraced keeps code (view_of cmp join p k size new words)
-moved_log {K} {V} {keeps} {code} cmp join p k size words old new made m up known t =
+moved_log {K} {V} {keeps} {code} cmp join p k size words old new made m up facts t =
     let class = class_in code (view_of cmp join p k size old words) in
     let r = log-raw cmp join p k size words old t in
     let closes : old.from ≤ text_begin keeps old.begin made.offsets.closed =
     subst (λ n. n ≤ text_begin keeps old.begin made.offsets.closed) (sym t.begins) (begin_rises keeps old.begin old.regions.offsets.closed made.offsets.closed up) in
     let now : new ≡ log.moved keeps old made m.more = m.is in
-    traced-by cmp join p k size words new t.partition_bits t.bucket_bits known
+    traced-by cmp join p k size words new t.partition_bits t.bucket_bits facts
     (rw now (cut-chained class same_class old.from (text_begin keeps old.begin made.offsets.closed) old.text r.rising closes r.chained))
     t.buckets
     t.map
@@ -272,10 +272,10 @@ pub traced-moved : {K V T E : Type 0} {keeps : Bool} {code : K → ℕ} (r : Res
     → IsLogOf keeps size new
     → IsTraced keeps code (view_of cmp join p k size old words)
     → IsTraced keeps code (view_of cmp join p k size new words)
-traced-moved {K} {V} {T} {E} {keeps} {code} (Ok x) cmp join p k size words old new made ok err up known t =
+traced-moved {K} {V} {T} {E} {keeps} {code} (Ok x) cmp join p k size words old new made ok err up facts t =
     let same : new.regions ≡ made = ap (λ (l : LogView K V). l.regions) ok.is in
-    moved_log cmp join p k size words old new made ok (subst (λ (g : RegionsView). old.regions.offsets.closed ≤ g.offsets.closed) same up) known t
-traced-moved {K} {V} {T} {E} {keeps} {code} (Err e) cmp join p k size words old new made ok err up known t =
+    moved_log cmp join p k size words old new made ok (subst (λ (g : RegionsView). old.regions.offsets.closed ≤ g.offsets.closed) same up) facts t
+traced-moved {K} {V} {T} {E} {keeps} {code} (Err e) cmp join p k size words old new made ok err up facts t =
     subst (λ (l : LogView K V). IsTraced keeps code (view_of cmp join p k size l words)) (sym err) t
 
 -- a session enters, or a page is flushed: the text is as it was
@@ -286,9 +286,9 @@ pub traced-same : {K V : Type 0} {keeps : Bool} {code : K → ℕ} (cmp : K → 
     → IsLogOf keeps size new
     → IsTraced keeps code (view_of cmp join p k size old words)
     → IsTraced keeps code (view_of cmp join p k size new words)
-traced-same cmp join p k size words old new text from tail known t =
+traced-same cmp join p k size words old new text from tail facts t =
     let r = log-raw cmp join p k size words old t in
-    traced-by cmp join p k size words new t.partition_bits t.bucket_bits known (rw (text, from) r.chained) t.buckets t.map (rw (text, from) r.leads) (rw tail t.placed)
+    traced-by cmp join p k size words new t.partition_bits t.bucket_bits facts (rw (text, from) r.chained) t.buckets t.map (rw (text, from) r.leads) (rw tail t.placed)
 
 -- ---- a record gets another value, or becomes a tombstone
 pub traced-value : {K V : Type 0} {keeps : Bool} {code : K → ℕ} (v : RecordsView K V) (a : ℕ) (value : Option V)
@@ -345,7 +345,7 @@ pub record IsTextOf {K V : Type 0} (code : K → ℕ) (w : RecordsView K V) : Ty
 
 -- what a record that is written stands for: a value for itself, and a part joined with what the key had
 rises-to : {K V : Type 0} (join : V → V → V) (held : Option V) (a previous : ℕ) (key : K) (payload : Payload V)
-    → risen join held (record { address = a; previous = previous; key = key; value = value_in payload; delta = is_part payload }) ≡ standing join held payload
+    → value_after join held (record { address = a; previous = previous; key = key; value = value_in payload; delta = is_part payload }) ≡ standing join held payload
 rises-to join held a previous key (Whole o) = refl
 rises-to join held a previous key (Part part) = refl
 
@@ -360,15 +360,15 @@ module _ {K V : Type 0} (cmp : K → K → Ordering) (join : V → V → V) (p k
   written = record { address = old.tail; previous = address_of e.word; key = key; value = value_in payload; delta = is_part payload }
 
   abbrev has : Option V
-  has = standing join (live cmp (stood cmp join old.text) key) payload
+  has = standing join (live cmp (resolved cmp join old.text) key) payload
 
   abbrev stands : Entry K V
   stands = record { address = old.tail; previous = address_of e.word; key = key; value = has; delta = is_part payload }
 
-  written-append : stood cmp join (old.text ++ written ∷ []) ≡ stood cmp join old.text ++ stands ∷ []
+  written-append : resolved cmp join (old.text ++ written ∷ []) ≡ resolved cmp join old.text ++ stands ∷ []
   written-append =
-      stood-append cmp join old.text written
-      ∙ ap (λ v. stood cmp join old.text ++ record written { value = v } ∷ []) (rises-to join (live cmp (stood cmp join old.text) key) old.tail (address_of e.word) key payload)
+      resolved-append cmp join old.text written
+      ∙ ap (λ v. resolved cmp join old.text ++ record written { value = v } ∷ []) (rises-to join (live cmp (resolved cmp join old.text) key) old.tail (address_of e.word) key payload)
 
   module _ (words : List (List Word)) (is : new ≡ log.with_entry size old (address_of e.word) key (value_in payload) (is_part payload)) where
     pub records-appended : (made : List (List Word)) → made ≡ with_word words e.place (final_word (tag_of e.word) old.tail)
@@ -383,8 +383,8 @@ module _ {K V : Type 0} (cmp : K → K → Ordering) (join : V → V → V) (p k
         → IsLogOf keeps size new
         → IsChained (class_in code (view_of cmp join p k size old words)) same_class old.from (old.text ++ written ∷ [])
         → IsTextOf code (with_written (view_of cmp join p k size old words) e key payload has)
-    text_then {keeps} {code} known chained =
-        let l : IsLogOf keeps size (log.with_entry size old (address_of e.word) key (value_in payload) (is_part payload)) = subst (IsLogOf keeps size) is known in
+    text_then {keeps} {code} facts chained =
+        let l : IsLogOf keeps size (log.with_entry size old (address_of e.word) key (value_in payload) (is_part payload)) = subst (IsLogOf keeps size) is facts in
         let w : RecordsView K V = with_written (view_of cmp join p k size old words) e key payload has in
         let same : AreAlike (old.text ++ written ∷ []) w.text = rw (← written-append) (alike cmp join (old.text ++ written ∷ [])) in
         record {

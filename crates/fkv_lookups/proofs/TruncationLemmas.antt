@@ -56,15 +56,15 @@ pub traced-truncated : {K V : Type 0} {keeps : Bool} {code : K → ℕ} (cmp : K
     → IsIndexMap made
     → IsTraced keeps code (view_of cmp join p k size old words)
     → IsTraced keeps code (view_of cmp join p k size new made)
-traced-truncated {K} {V} {keeps} {code} cmp join p k size begin words made old new is up known sweeps buckets map t =
+traced-truncated {K} {V} {keeps} {code} cmp join p k size begin words made old new is up facts sweeps buckets map t =
     let class = class_in code (view_of cmp join p k size old words) in
     let r = log-raw cmp join p k size words old t in
     let from : ℕ = text_begin keeps begin old.regions.offsets.closed in
     let cut : old.from ≤ from = subst (λ n. n ≤ from) (sym t.begins) (begins_rise keeps old.begin old.regions.offsets.closed begin old.regions.offsets.closed up (omega arith)) in
     let same : new.begin ≡ begin = ap (λ (l : LogView K V). l.begin) is in
-    let first : 64 ≤ begin = subst (λ n. 64 ≤ n) same known.first in
+    let first : 64 ≤ begin = subst (λ n. 64 ≤ n) same facts.first in
     let low : begin ≤ from = begins_high keeps begin old.regions.offsets.closed in
-    traced-by cmp join p k size made new t.partition_bits t.bucket_bits known
+    traced-by cmp join p k size made new t.partition_bits t.bucket_bits facts
     (rw is (cut-chained class same_class old.from from old.text r.rising cut r.chained))
     (rw buckets t.buckets)
     map

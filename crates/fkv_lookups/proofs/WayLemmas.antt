@@ -11,7 +11,7 @@ use Rattle.fkv_texts.specs.declared.entries.ChainPosition.TheVariants.{Found, Be
 use Rattle.fkv_texts.specs.Text.{entry_at, has_key, newest}
 use Rattle.fkv_texts.specs.Chains.{IsIn, IsChainFrom}
 use Rattle.fkv_texts.specs.Chains.IsChainFrom.{ends, goes}
-use Rattle.fkv_texts.specs.Deltas.{onto, stood}
+use Rattle.fkv_texts.specs.Deltas.{combined, resolved}
 use Rattle.fkv_records.specs.Places.{page_at, IsShape}
 use Rattle.fkv_records.specs.Records.{size_of}
 use Rattle.fkv_hybrid.specs.Spelled.{IsEntryIn}
@@ -42,7 +42,7 @@ record IsMetOn {K V : Type 0} (cmp : K → K → Ordering) (join : V → V → V
   pub rest : List (Entry K V)
   pub chain : IsChainFrom low text d.previous rest
   pub stands : IsIn text d
-  pub collects : d.delta ≡ true → (parts : Option V) → over cmp join k parts a es ≡ over cmp join k (onto join d.value parts) d.previous rest
+  pub collects : d.delta ≡ true → (parts : Option V) → over cmp join k parts a es ≡ over cmp join k (combined join d.value parts) d.previous rest
   pub stops : d.delta ≡ false → (parts : Option V) → over cmp join k parts a es ≡ record { parts = parts; position = Found d }
 
 module _ {K V : Type 0} (cmp : K → K → Ordering) (join : V → V → V) (text : List (Entry K V)) (k : K) (low : ℕ) where
@@ -89,7 +89,7 @@ module _ {K V : Type 0} (cmp : K → K → Ordering) (join : V → V → V) (cod
   way-chain d is = let m = way-met d is in (m.rest, m.chain)
 
   pub way-on : (d : Entry K V) → position ≡ Found d → d.delta ≡ true → (next : ChainPosition K V) → ((es : List (Entry K V)) → IsChainFrom low v.log.text d.previous es → next ≡ first_on cmp k d.previous es)
-      → IsOnWay cmp join code v k low entry (onto join d.value parts) next
+      → IsOnWay cmp join code v k low entry (combined join d.value parts) next
   way-on d is delta next reads =
       let m = way-met d is in
       record { at = d.previous; rest = m.rest; chain = m.chain; first = reads m.rest m.chain; same = w.same ∙ m.collects delta parts }
@@ -139,7 +139,7 @@ module _ {K V : Type 0} {keeps : Bool} (cmp : K → K → Ordering) (join : V �
 
 -- ---- in one loaded page, as a device that keeps gave it
 -- each step tells
-pub kept-told : {K V : Type 0} {keeps : Bool} (cmp : K → K → Ordering) (join : V → V → V) (code : K → ℕ) (v : RecordsView K V) (k : K) → IsKeyOrder cmp → IsTraced keeps code v → v.text ≡ stood cmp join v.log.text → (low from : ℕ)
+pub kept-told : {K V : Type 0} {keeps : Bool} (cmp : K → K → Ordering) (join : V → V → V) (code : K → ℕ) (v : RecordsView K V) (k : K) → IsKeyOrder cmp → IsTraced keeps code v → v.text ≡ resolved cmp join v.log.text → (low from : ℕ)
     → IsTrue keeps
     → v.log.begin ≤ from
     → first_place v.log.bits (page_at v.log.bits from) ≤ low
@@ -173,7 +173,7 @@ module _ {K V : Type 0} (cmp : K → K → Ordering) (join : V → V → V) (cod
     kept-class order t d is = newest_next cmp code v k order t w.at d (first-met w.at position w.goes d is).0
 
     pub kept-on : (d : Entry K V) → position ≡ Found d → d.delta ≡ true → (next : ChainPosition K V) → FirstComesTo cmp code v k low d.previous next
-        → IsKeptOn cmp join code v k low from before (onto join d.value parts) next
+        → IsKeptOn cmp join code v k low from before (combined join d.value parts) next
     kept-on d is delta next told =
         let m = first-met w.at position w.goes d is in
         record { at = d.previous; goes = told; same = λ r g. w.same r (goes_joins m.0 m.2 delta g) }
@@ -243,7 +243,7 @@ module _ {K V : Type 0} {ksize vsize : ℕ} (join : V → V → V) (key : Codec 
         let here = ap at_of is in
         omega (arith, less, low, here)
 
-    pub read-on : d.delta ≡ true → (next : ChainPosition K V) → IsReached entry cmp k bits low d.previous (Ok next) → IsReadOn join entry cmp k bits low from before (onto join d.value parts) next
+    pub read-on : d.delta ≡ true → (next : ChainPosition K V) → IsReached entry cmp k bits low d.previous (Ok next) → IsReadOn join entry cmp k bits low from before (combined join d.value parts) next
     read-on delta next reached =
         let less = read-falls in
         let low = read-low in

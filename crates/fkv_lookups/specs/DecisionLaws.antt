@@ -14,11 +14,11 @@ use Rattle.fkv_regions.specs.declared.offsets.Region.{Region}
 use Rattle.fkv_regions.specs.declared.offsets.Region.TheVariants as region
 use Rattle.fkv_regions.specs.Offsets.{region_of}
 use Rattle.fkv_operations.specs.After.{key_of, is_merge, after, after_update, answer, shown_of, told_of}
-use Rattle.fkv_texts.specs.Deltas.{onto}
+use Rattle.fkv_texts.specs.Deltas.{combined}
 use Rattle.fkv_lookups.specs.declared.chain_results.ChainResult.{ChainResult}
 use Rattle.fkv_lookups.specs.declared.payloads.Payload.{Payload}
 use Rattle.fkv_lookups.specs.Payloads.{standing}
-use Rattle.fkv_lookups.specs.Decisions.{met_in, met_last, met_on, met_by, joined_to, held_of, IsHeld, replaced, parted, merged, decision}
+use Rattle.fkv_lookups.specs.Decisions.{met_in, met_last, met_on, met_by, joined_to, held_of, IsHeld, replaced, appended_delta, merged, decision}
 use Rattle.fkv_operations.specs.declared.operations.KeyedOp.{KeyedOp}
 use Rattle.fkv_operations.specs.declared.operations.KeyedOp.TheVariants.{Read, Upsert, Rmw, Delete, Merge}
 use Rattle.fkv_operations.specs.declared.operations.Answer.{Answer}
@@ -37,14 +37,14 @@ pub joined-update : {K V I O : Type 0} (f : Meanings K V I O) (p : Parts K V I) 
     → (k : K) (i : I) (part : V)
     → f.first k i ≡ Some part
     → (held : Option V)
-    → updated f k i held ≡ onto p.joined held (Some part)
+    → updated f k i held ≡ combined p.joined held (Some part)
 joined-update f p merges k i part first None = first
 joined-update f p merges k i part first (Some v) =
     let same : p.delta k i ≡ part = (let both : Some (p.delta k i) ≡ Some part = sym (merges.first k i) ∙ first in cc) in
     merges.next k v i ∙ ap (λ d. Some (p.joined v d)) same
 
 joined-some : {K V : Type 0} (cmp : K → K → Ordering) (join : V → V → V) (m : PlainMap K V) (k : K) (held : Option V) (part : V)
-    → after_update cmp m k (onto join held (Some part)) ≡ with_at cmp m k (onto join held (Some part))
+    → after_update cmp m k (combined join held (Some part)) ≡ with_at cmp m k (combined join held (Some part))
 joined-some cmp join m k None part = refl
 joined-some cmp join m k (Some v) part = refl
 
@@ -61,7 +61,7 @@ module _ {K V I O : Type 0} (cmp : K → K → Ordering) (f : Meanings K V I O) 
   Does op met (Load b c) = Unit {0}
 
   -- a merge appends the part of its input, or replaces a value by the next one
-  does-part : Merges f p → (k : K) (i : I) (met : LookupResult V) (o : Option V) → f.first k i ≡ o → Does (Merge k i) met (parted o)
+  does-part : Merges f p → (k : K) (i : I) (met : LookupResult V) (o : Option V) → f.first k i ≡ o → Does (Merge k i) met (appended_delta o)
   does-part merges k i met None e = absurd (let no : Some (p.delta k i) ≡ None = sym (merges.first k i) ∙ e in cc)
   does-part merges k i met (Some part) e =
       (ap (after_update cmp m k) (joined-update f p merges k i part e (m k)) ∙ joined-some cmp p.joined m k (m k) part, refl)
@@ -178,17 +178,17 @@ module _ {K V I O : Type 0} (f : Meanings K V I O) where
   is-decided (Merge k i) NoEntry = refl
   is-decided (Merge k i) NoValue = by_first (f.first k i)
     where
-      by_first : (o : Option V) → IsDecided (Merge k i) NoValue (parted o)
+      by_first : (o : Option V) → IsDecided (Merge k i) NoValue (appended_delta o)
       by_first None = tt
       by_first (Some part) = λ e. cc
   is-decided (Merge k i) (ReadOnly w) = by_first (f.first k i)
     where
-      by_first : (o : Option V) → IsDecided (Merge k i) (ReadOnly w) (parted o)
+      by_first : (o : Option V) → IsDecided (Merge k i) (ReadOnly w) (appended_delta o)
       by_first None = tt
       by_first (Some part) = λ e. cc
   is-decided (Merge k i) (Fuzzy w) = by_first (f.first k i)
     where
-      by_first : (o : Option V) → IsDecided (Merge k i) (Fuzzy w) (parted o)
+      by_first : (o : Option V) → IsDecided (Merge k i) (Fuzzy w) (appended_delta o)
       by_first None = tt
       by_first (Some part) = λ e. cc
   is-decided (Merge k i) (Mutable w) = by_next (f.next k w i)
@@ -198,7 +198,7 @@ module _ {K V I O : Type 0} (f : Meanings K V I O) where
       by_next (Some v) = (w, refl)
   is-decided (Merge k i) (OnDisk b c) = by_first (f.first k i)
     where
-      by_first : (o : Option V) → IsDecided (Merge k i) (OnDisk b c) (parted o)
+      by_first : (o : Option V) → IsDecided (Merge k i) (OnDisk b c) (appended_delta o)
       by_first None = tt
       by_first (Some part) = λ e. cc
 
@@ -316,31 +316,31 @@ absent-none region.Fuzzy v h = cc
 absent-none region.Mutable v h = cc
 
 -- a part is joined to what came before it, and where there is none, that stays
-joined-onto : {V : Type 0} (join : V → V → V) (v : Option V) (p : V) → onto join v (Some p) ≡ Some (joined_to join v p)
-joined-onto join None p = refl
-joined-onto join (Some v) p = refl
+joined-combined : {V : Type 0} (join : V → V → V) (v : Option V) (p : V) → combined join v (Some p) ≡ Some (joined_to join v p)
+joined-combined join None p = refl
+joined-combined join (Some v) p = refl
 
-onto-none : {V : Type 0} (join : V → V → V) (v : Option V) → onto join v None ≡ v
-onto-none join None = refl
-onto-none join (Some v) = refl
+combined-none : {V : Type 0} (join : V → V → V) (v : Option V) → combined join v None ≡ v
+combined-none join None = refl
+combined-none join (Some v) = refl
 
 module _ {K V : Type 0} (join : V → V → V) (begin : ℕ) (view : View) where
   -- what is met says what the key holds, where the look-up tells: it comes to the last record of the key that is no delta,
   -- and below Begin there is none
   pub held-met : (entry : Option ℕ) (came : ChainResult K V) (o : Option V)
       → (entry ≡ None → o ≡ None)
-      → ((e : Entry K V) → came.position ≡ Found e → o ≡ onto join e.value came.parts)
+      → ((e : Entry K V) → came.position ≡ Found e → o ≡ combined join e.value came.parts)
       → ((b : ℕ) → came.position ≡ Below b → b < begin → o ≡ came.parts)
       → IsHeld (met_by join entry begin view came) o
   held-met None came o none found below = none refl
   held-met (Some a) came o none found below = on came.parts came.position found below
     where
       on : (c : Option V) (r : ChainPosition K V)
-          → ((e : Entry K V) → r ≡ Found e → o ≡ onto join e.value c)
+          → ((e : Entry K V) → r ≡ Found e → o ≡ combined join e.value c)
           → ((b : ℕ) → r ≡ Below b → b < begin → o ≡ c)
           → IsHeld (met_on join begin view c r) o
-      on None (Found e) found below = held-last view e.address e.value o (found e refl ∙ onto-none join e.value)
-      on (Some p) (Found e) found below = found e refl ∙ joined-onto join e.value p
+      on None (Found e) found below = held-last view e.address e.value o (found e refl ∙ combined-none join e.value)
+      on (Some p) (Found e) found below = found e refl ∙ joined-combined join e.value p
       on None (Below b) found below = by_begin (nat_lt b begin) refl
         where
           by_begin : (t : Bool) → nat_lt b begin ≡ t → IsHeld (cond t NoValue (OnDisk b None)) o

@@ -80,9 +80,9 @@ replaced f k i (Some v) = Replace (Some v) (Value (f.shown k i v))
 
 -- what a merge does: it appends the part that its input is, which is the first value that the input gives; or, over a value
 -- that may be changed in place, it replaces that by the next one. Functions that merge never decline
-abbrev pub parted : {V I O : Type 0} → Option V → Decision V I O
-parted None = Done Declined
-parted (Some p) = Append (Part p) Stored
+abbrev pub appended_delta : {V I O : Type 0} → Option V → Decision V I O
+appended_delta None = Done Declined
+appended_delta (Some p) = Append (Part p) Stored
 
 abbrev pub merged : {V I O : Type 0} → Option V → Decision V I O
 merged None = Done Declined
@@ -115,8 +115,8 @@ decision f (Delete k) (Fuzzy w) = Append (Whole None) Deleted
 decision f (Delete k) (Mutable w) = Replace None Deleted
 decision f (Delete k) (OnDisk b c) = Append (Whole None) Deleted
 decision f (Merge k i) NoEntry = Claim
-decision f (Merge k i) NoValue = parted (f.first k i)
-decision f (Merge k i) (ReadOnly w) = parted (f.first k i)
-decision f (Merge k i) (Fuzzy w) = parted (f.first k i)
+decision f (Merge k i) NoValue = appended_delta (f.first k i)
+decision f (Merge k i) (ReadOnly w) = appended_delta (f.first k i)
+decision f (Merge k i) (Fuzzy w) = appended_delta (f.first k i)
 decision f (Merge k i) (Mutable w) = merged (f.next k w i)
-decision f (Merge k i) (OnDisk b c) = parted (f.first k i)
+decision f (Merge k i) (OnDisk b c) = appended_delta (f.first k i)

@@ -1,7 +1,7 @@
 -- The fields behind a `RecordsView`.
 use Rattle.std.specs.Prelude.{ℕ, List}
 use Rattle.std.specs.declared.cmp.Ordering.{Ordering}
-use Rattle.fkv_texts.specs.Deltas.{stood}
+use Rattle.fkv_texts.specs.Deltas.{resolved}
 use Rattle.fkv_index.specs.declared.words.Word.{Word}
 use Rattle.fkv_hybrid.specs.Views.{LogView}
 use Rattle.fkv_lookups.specs.RecordsViews.{RecordsView}
@@ -14,6 +14,6 @@ view_of cmp join partition_bits bucket_bits record_size log words = record {
   bucket_bits = bucket_bits;
   record_size = record_size;
   log = log;
-  text = stood cmp join log.text;
+  text = resolved cmp join log.text;
   words = words;
 }

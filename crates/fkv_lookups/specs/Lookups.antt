@@ -7,7 +7,7 @@ use Rattle.fkv_texts.specs.declared.entries.ChainPosition.{ChainPosition}
 use Rattle.fkv_texts.specs.declared.entries.ChainPosition.TheVariants.{Found, Below}
 use Rattle.fkv_texts.specs.Text.{entry_at, has_key, last_of, newest, value_of, text_from}
 use Rattle.fkv_texts.specs.Chains.{falling, leads_to, reached}
-use Rattle.fkv_texts.specs.Deltas.{onto, gathered}
+use Rattle.fkv_texts.specs.Deltas.{combined, gathered}
 use Rattle.fkv_hybrid.specs.Loads.{IsReached}
 use Rattle.fkv_operations.specs.Classes.{same_class}
 use Rattle.fkv_lookups.specs.declared.chain_results.ChainResult.{ChainResult}
@@ -62,7 +62,7 @@ pub data ComesTo {K V : Type 0} (cmp : K → K → Ordering) (join : V → V →
       → newest cmp v.log.text k a ≡ Some d
       → low ≤ d.address
       → d.delta ≡ true
-      → ComesTo cmp join code v k low d.previous (onto join d.value parts) r
+      → ComesTo cmp join code v k low d.previous (combined join d.value parts) r
       → ComesTo cmp join code v k low a parts r
 
 -- what the key has at an address, by what a look-up comes to from there
@@ -99,5 +99,5 @@ pub data ComesToInPage {K V : Type 0} (join : V → V → V) (entry : ℕ → En
   joins : {a : ℕ} {parts : Option V} {d : Entry K V} {r : Result (ChainResult K V) Refused}
       → IsReached entry cmp k bits low a (Ok (Found d))
       → d.delta ≡ true
-      → ComesToInPage join entry cmp k bits low d.previous (onto join d.value parts) r
+      → ComesToInPage join entry cmp k bits low d.previous (combined join d.value parts) r
       → ComesToInPage join entry cmp k bits low a parts r

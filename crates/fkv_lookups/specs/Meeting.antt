@@ -8,7 +8,7 @@ use Rattle.fkv_texts.specs.declared.entries.Entry.{Entry}
 use Rattle.fkv_texts.specs.declared.entries.ChainPosition.TheVariants.{Found}
 use Rattle.fkv_texts.specs.Text.{entry_at, has_key, last_of, newest, value_of}
 use Rattle.fkv_texts.specs.Chains.{IsIn}
-use Rattle.fkv_texts.specs.Deltas.{onto}
+use Rattle.fkv_texts.specs.Deltas.{combined}
 use Rattle.fkv_operations.specs.Still.{IsStill}
 use Rattle.fkv_lookups.specs.declared.decisions.LookupResult.{LookupResult}
 use Rattle.fkv_lookups.specs.declared.decisions.LookupResult.TheVariants.{NoEntry}
@@ -47,7 +47,7 @@ pub record IsWanted {K V : Type 0} (cmp : K → K → Ordering) (join : V → V 
     (b : ℕ) (parts : Option V) : Type 0 where
   pub begun : v.log.begin ≤ b
   pub low : b < v.log.regions.offsets.head
-  pub newest : value_of (last_of cmp v.text k) ≡ onto join (value_of (newest cmp v.text k b)) parts
+  pub newest : value_of (last_of cmp v.text k) ≡ combined join (value_of (newest cmp v.text k b)) parts
   pub between : (e : Entry K V) → IsIn v.log.text e → has_key cmp k e ≡ true → b < e.address → e.delta ≡ true
   pub still : IsStill v.log.regions.offsets.safe_read_only (last_of cmp v.text k)
   pub class : v.log.from ≤ b → IsOfClass code v k b

@@ -1,6 +1,6 @@
 -- What a record carries that is written: a value, none, or a part of a value.
 use Rattle.std.specs.Prelude.{Bool, true, false, Option, Some}
-use Rattle.fkv_texts.specs.Deltas.{onto}
+use Rattle.fkv_texts.specs.Deltas.{combined}
 use Rattle.fkv_lookups.specs.declared.payloads.Payload.{Payload}
 use Rattle.fkv_lookups.specs.declared.payloads.Payload.TheVariants.{Whole, Part}
 
@@ -17,4 +17,4 @@ is_part (Part p) = true
 -- what the key has once the record stands, from what it had: the value, or what it had with the part joined
 abbrev pub standing : {V : Type 0} → (V → V → V) → Option V → Payload V → Option V
 standing join held (Whole o) = o
-standing join held (Part p) = onto join held (Some p)
+standing join held (Part p) = combined join held (Some p)

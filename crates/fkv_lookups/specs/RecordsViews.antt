@@ -10,7 +10,7 @@ use Rattle.fkv_texts.specs.Text.{changed}
 use Rattle.fkv_texts.specs.Text as text
 use Rattle.fkv_regions.specs.RegionsView.{RegionsView}
 use Rattle.fkv_index.specs.declared.words.Word.{Word}
-use Rattle.fkv_index.specs.declared.places.Place.{Place}
+use Rattle.fkv_index.specs.declared.words.Place.{Place}
 use Rattle.fkv_index.specs.Words.{empty, final_word, tentative_word, address_of, tag_of, is_final, swept}
 use Rattle.fkv_index.specs.Places.{word_at, IsPlace, with_word}
 use Rattle.fkv_index.specs.Entries.{entry_at, place_of, StandsAt}

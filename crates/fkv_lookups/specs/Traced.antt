@@ -8,7 +8,7 @@ use Rattle.fkv_records.specs.Records.{IsPrevious}
 use Rattle.fkv_texts.specs.Places.{IsLaidOut}
 use Rattle.fkv_texts.specs.Text.{IsRising, IsFrom, IsBelow}
 use Rattle.std.specs.declared.cmp.Ordering.{Ordering}
-use Rattle.fkv_texts.specs.Deltas.{IsAssociative, stood, AreValued}
+use Rattle.fkv_texts.specs.Deltas.{IsAssociative, resolved, AreValued}
 use Rattle.fkv_texts.specs.Chains.{last_of_class, Leads, IsChained}
 use Rattle.fkv_epoch.specs.Timely.{IsTimely}
 use Rattle.fkv_regions.specs.RegionsView.{RegionsView}
@@ -60,7 +60,7 @@ pub record IsTraced {K V : Type 0} (keeps : Bool) (code : K → ℕ) (v : Record
 
 -- the text has the records, each with what its key has once it stands, in this order of keys and by this join; a delta has a
 -- part, and parts may be joined first
-pub record IsStood {K V : Type 0} (cmp : K → K → Ordering) (join : V → V → V) (v : RecordsView K V) : Type 0 where
-  pub is : v.text ≡ stood cmp join v.log.text
+pub record IsResolved {K V : Type 0} (cmp : K → K → Ordering) (join : V → V → V) (v : RecordsView K V) : Type 0 where
+  pub is : v.text ≡ resolved cmp join v.log.text
   pub valued : AreValued v.log.text
   pub joins : IsAssociative join

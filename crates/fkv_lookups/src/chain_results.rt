@@ -1,7 +1,7 @@
 //! What a look-up gathers on its way.
 ghost use Rattle.std.specs.Prelude.{◌≡◌, ⊤, true, false, None, IfSome};
 ghost use Rattle.fkv_texts.specs.declared.entries.Entry.{Entry};
-ghost use Rattle.fkv_texts.specs.Deltas.{onto};
+ghost use Rattle.fkv_texts.specs.Deltas.{combined};
 ghost use Rattle.fkv_lookups.specs.Decisions.{joined_to};
 
 use fkv_functions::Mergeable;
@@ -39,12 +39,12 @@ pub(crate) fn delta_at<K: Copy, V: Copy>(position: &ChainPosition<K, V>) -> Opti
 }
 
 /// A value or part, if any, with the part that comes after it, if any.
-pub fn onto<F: Mergeable>(
+pub fn combined<F: Mergeable>(
     functions: &F,
     before: Option<F::Value>,
     after: Option<F::Value>,
 ) -> Option<F::Value>
-    ensures { result ≡ onto F.parts.joined before after }
+    ensures { result ≡ combined F.parts.joined before after }
 {
     match (before, after) {
         (None, after) => after,

@@ -12,10 +12,10 @@ ghost use Rattle.fkv_texts.specs.declared.entries.Entry.{Entry};
 ghost use Rattle.fkv_texts.specs.Places.{tail_after};
 ghost use Rattle.fkv_texts.specs.Text.{entry_at, value_of, newest, live, text_from};
 ghost use Rattle.fkv_operations.specs.declared.entries.IndexEntry.{IndexEntry};
-ghost use Rattle.fkv_texts.specs.Deltas.{stood, IsCovered, IsSuperseded, IsCleared};
+ghost use Rattle.fkv_texts.specs.Deltas.{resolved, IsCovered, IsSuperseded, IsCleared};
 ghost use Rattle.fkv_lookups.specs.RecordsViews.{RecordsView, with_record, with_value, with_written};
 ghost use Rattle.fkv_lookups.specs.declared.payloads.Payload.{Payload};
-ghost use Rattle.fkv_lookups.specs.Traced.{IsTraced, IsStood};
+ghost use Rattle.fkv_lookups.specs.Traced.{IsTraced, IsResolved};
 ghost use Rattle.fkv_lookups.specs.WrongCleared.{LastIsNotSuperseded, TombstoneIsSuperseded, ClearsNoLast};
 
 /// What is cleared stays so, whatever is done above; how it is cleared further; and what dropping it leaves.
@@ -38,7 +38,7 @@ pub fn cleared_stay<K, V>()
     // where the record at the limit is superseded too, the limit goes on to the next place
     ensures raised { (keeps : Bool) (cmp : K → K → Ordering) (join : V → V → V) (code : K → ℕ) (v : RecordsView K V)
         (limit : ℕ)
-        → IsTraced keeps code v → IsStood cmp join v
+        → IsTraced keeps code v → IsResolved cmp join v
         → IsRecordStart v.log.bits v.record_size limit
         → limit < v.log.tail
         → IsCleared cmp v.log.text limit
@@ -47,7 +47,7 @@ pub fn cleared_stay<K, V>()
     // a record is superseded once a value of its key is appended
     ensures renewed { (keeps : Bool) (cmp : K → K → Ordering) (join : V → V → V) (code : K → ℕ) (v : RecordsView K V)
         (entry : IndexEntry) (limit : ℕ) (e : Entry K V) (value : Option V)
-        → IsKeyOrder cmp → IsTraced keeps code v → IsStood cmp join v
+        → IsKeyOrder cmp → IsTraced keeps code v → IsResolved cmp join v
         → entry_at v.log.text limit ≡ Some e
         → IsSuperseded cmp (with_record v entry e.key value).log.text e }
     // and where its key has that value, no key's value changes by that
@@ -58,7 +58,7 @@ pub fn cleared_stay<K, V>()
     // what a record says that is not superseded, where all below it are, is what its key has there
     ensures lowest { (keeps : Bool) (cmp : K → K → Ordering) (join : V → V → V) (code : K → ℕ) (v : RecordsView K V)
         (e : Entry K V)
-        → IsKeyOrder cmp → IsTraced keeps code v → IsStood cmp join v
+        → IsKeyOrder cmp → IsTraced keeps code v → IsResolved cmp join v
         → entry_at v.log.text e.address ≡ Some e
         → IsCleared cmp v.log.text e.address
         → (IsCovered cmp v.log.text e → ⊥)
@@ -66,10 +66,10 @@ pub fn cleared_stay<K, V>()
     // no key's value goes with what is dropped where the text is cleared
     ensures lives { (keeps : Bool) (cmp : K → K → Ordering) (join : V → V → V) (code : K → ℕ) (v : RecordsView K V)
         (low limit : ℕ)
-        → IsKeyOrder cmp → IsTraced keeps code v → IsStood cmp join v
+        → IsKeyOrder cmp → IsTraced keeps code v → IsResolved cmp join v
         → IsCleared cmp v.log.text limit
         → low ≤ limit
-        → Same (live cmp (stood cmp join (text_from low v.log.text))) (live cmp v.text) }
+        → Same (live cmp (resolved cmp join (text_from low v.log.text))) (live cmp v.text) }
 {}
 
 /// What is superseded and cleared, and what is not, shown on small texts.

@@ -9,7 +9,7 @@ ghost use Rattle.fkv_regions.specs.Offsets.{view_at};
 ghost use Rattle.fkv_texts.specs.declared.entries.Entry.{Entry};
 ghost use Rattle.fkv_texts.specs.Text.{entry_at, has_key, value_of, last_of, newest, live};
 ghost use Rattle.fkv_texts.specs.Chains.{IsIn};
-ghost use Rattle.fkv_texts.specs.Deltas.{onto};
+ghost use Rattle.fkv_texts.specs.Deltas.{combined};
 ghost use Rattle.fkv_index.specs.Words.{address_of};
 ghost use Rattle.fkv_operations.specs.declared.classes.Class.{Class};
 ghost use Rattle.fkv_operations.specs.declared.entries.IndexEntry.{IndexEntry};
@@ -21,7 +21,7 @@ ghost use Rattle.fkv_lookups.specs.declared.payloads.Payload.{Payload};
 ghost use Rattle.fkv_lookups.specs.Lookups.{newest_above, looked_up, IsOfClass, ComesTo, StartsAt, end_of, at_of};
 ghost use Rattle.fkv_lookups.specs.Meeting.{met_at, IsMetAt, IsWanted};
 ghost use Rattle.fkv_lookups.specs.RecordsViews.{RecordsView, class_in, indexed, entry_of, IsEntryOf, IsReplaceable, with_value, with_written};
-ghost use Rattle.fkv_lookups.specs.Traced.{IsTraced, IsStood};
+ghost use Rattle.fkv_lookups.specs.Traced.{IsTraced, IsResolved};
 ghost use Rattle.fkv_operations.specs.Still.{IsStill};
 
 use fkv_regions::laws::by_region;
@@ -83,22 +83,22 @@ pub fn records_change<K, V>()
 /// What a look-up comes to, from the entry of the key's class down to an address at or above which the text has begun.
 pub fn lookups_tell<K, V>()
     ensures goes { (keeps : Bool) (cmp : K → K → Ordering) (join : V → V → V) (code : K → ℕ) (v : RecordsView K V) (k : K) (low a : ℕ)
-        → IsKeyOrder cmp → IsTraced keeps code v → IsStood cmp join v
+        → IsKeyOrder cmp → IsTraced keeps code v → IsResolved cmp join v
         → v.log.from ≤ low
         → entry_of v (class_in code v k) ≡ Some a
         → ComesTo cmp join code v k low a None (looked_up cmp join code v low k a) }
     // what the key has at the address, joined with the parts from above, is what it has at the end, joined with all of them
     ensures values { (keeps : Bool) (cmp : K → K → Ordering) (join : V → V → V) (code : K → ℕ) (v : RecordsView K V) (k : K) (low a : ℕ)
         (parts : Option V) (r : ChainResult K V)
-        → IsKeyOrder cmp → IsTraced keeps code v → IsStood cmp join v
+        → IsKeyOrder cmp → IsTraced keeps code v → IsResolved cmp join v
         → v.log.from ≤ low
         → (v.log.from ≤ a → IsOfClass code v k a)
         → ComesTo cmp join code v k low a parts r
-        → onto join (value_of (newest cmp v.text k a)) parts ≡ onto join (end_of cmp v k r.position) r.parts }
+        → combined join (value_of (newest cmp v.text k a)) parts ≡ combined join (end_of cmp v k r.position) r.parts }
     // the key's records on the way are deltas, but the one at the end
     ensures between { (keeps : Bool) (cmp : K → K → Ordering) (join : V → V → V) (code : K → ℕ) (v : RecordsView K V) (k : K) (low a : ℕ)
         (parts : Option V) (r : ChainResult K V)
-        → IsKeyOrder cmp → IsTraced keeps code v → IsStood cmp join v
+        → IsKeyOrder cmp → IsTraced keeps code v → IsResolved cmp join v
         → v.log.from ≤ low
         → (v.log.from ≤ a → IsOfClass code v k a)
         → ComesTo cmp join code v k low a parts r
@@ -106,7 +106,7 @@ pub fn lookups_tell<K, V>()
         → (at_of r.position < e.address) → e.delta ≡ true }
     // where the last record of the key that is read is no delta, it is what the look-up comes to; else parts are collected
     ensures first { (keeps : Bool) (cmp : K → K → Ordering) (join : V → V → V) (code : K → ℕ) (v : RecordsView K V) (k : K) (low a : ℕ)
-        → IsKeyOrder cmp → IsTraced keeps code v → IsStood cmp join v
+        → IsKeyOrder cmp → IsTraced keeps code v → IsResolved cmp join v
         → entry_of v (class_in code v k) ≡ Some a
         → v.log.from ≤ low
         → StartsAt (newest_above cmp code v low k a) (looked_up cmp join code v low k a) }
@@ -116,31 +116,31 @@ pub fn lookups_tell<K, V>()
 pub fn meetings_tell<K, V>()
     // what is met is what the key holds, unless a page has to be loaded
     ensures held { (keeps : Bool) (cmp : K → K → Ordering) (join : V → V → V) (code : K → ℕ) (v : RecordsView K V) (k : K) (slot : ℕ)
-        → IsKeyOrder cmp → IsTraced keeps code v → IsStood cmp join v → IsTrue (is_entered v.log.regions.epochs slot)
+        → IsKeyOrder cmp → IsTraced keeps code v → IsResolved cmp join v → IsTrue (is_entered v.log.regions.epochs slot)
         → IsHeld (met_at cmp join code v (view_at v.log.regions.views slot) k) (value_of (last_of cmp v.text k)) }
     // what is mutable is not frozen
     ensures mutable { (keeps : Bool) (cmp : K → K → Ordering) (join : V → V → V) (code : K → ℕ) (v : RecordsView K V) (k : K) (slot : ℕ) (w : V)
-        → IsKeyOrder cmp → IsTraced keeps code v → IsStood cmp join v → IsTrue (is_entered v.log.regions.epochs slot)
+        → IsKeyOrder cmp → IsTraced keeps code v → IsResolved cmp join v → IsTrue (is_entered v.log.regions.epochs slot)
         → met_at cmp join code v (view_at v.log.regions.views slot) k ≡ Mutable w
         → IsMetAt cmp join code v (view_at v.log.regions.views slot) k w region.Mutable }
     ensures unfrozen { (keeps : Bool) (cmp : K → K → Ordering) (join : V → V → V) (code : K → ℕ) (v : RecordsView K V) (k : K) (slot : ℕ) (w : V)
-        → IsTraced keeps code v → IsStood cmp join v → IsTrue (is_entered v.log.regions.epochs slot)
+        → IsTraced keeps code v → IsResolved cmp join v → IsTrue (is_entered v.log.regions.epochs slot)
         → (m : IsMetAt cmp join code v (view_at v.log.regions.views slot) k w region.Mutable)
         → v.log.regions.offsets.safe_read_only ≤ m.entry.address }
     ensures fuzzy { (keeps : Bool) (cmp : K → K → Ordering) (join : V → V → V) (code : K → ℕ) (v : RecordsView K V) (k : K) (slot : ℕ) (w : V)
-        → IsKeyOrder cmp → IsTraced keeps code v → IsStood cmp join v → IsTrue (is_entered v.log.regions.epochs slot)
+        → IsKeyOrder cmp → IsTraced keeps code v → IsResolved cmp join v → IsTrue (is_entered v.log.regions.epochs slot)
         → met_at cmp join code v (view_at v.log.regions.views slot) k ≡ Fuzzy w
         → IsMetAt cmp join code v (view_at v.log.regions.views slot) k w region.Fuzzy }
     // no value, or a read-only one, is still
     ensures still { (keeps : Bool) (cmp : K → K → Ordering) (join : V → V → V) (code : K → ℕ) (v : RecordsView K V) (k : K) (slot : ℕ)
-        → IsKeyOrder cmp → IsTraced keeps code v → IsStood cmp join v → IsTrue (is_entered v.log.regions.epochs slot)
+        → IsKeyOrder cmp → IsTraced keeps code v → IsResolved cmp join v → IsTrue (is_entered v.log.regions.epochs slot)
         → (met_at cmp join code v (view_at v.log.regions.views slot) k ≡ NoValue)
         ⊎ ((w : V) × (met_at cmp join code v (view_at v.log.regions.views slot) k ≡ ReadOnly w))
         → IsStill v.log.regions.offsets.safe_read_only (last_of cmp v.text k) }
     // what lies on disk is wanted from there
     ensures wanted { (keeps : Bool) (cmp : K → K → Ordering) (join : V → V → V) (code : K → ℕ) (v : RecordsView K V) (k : K) (slot b : ℕ)
         (parts : Option V)
-        → IsKeyOrder cmp → IsTraced keeps code v → IsStood cmp join v → IsTrue (is_entered v.log.regions.epochs slot)
+        → IsKeyOrder cmp → IsTraced keeps code v → IsResolved cmp join v → IsTrue (is_entered v.log.regions.epochs slot)
         → met_at cmp join code v (view_at v.log.regions.views slot) k ≡ OnDisk b parts
         → IsWanted cmp join code v k b parts }
 {

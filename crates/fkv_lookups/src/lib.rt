@@ -5,7 +5,6 @@
 pub mod chain_results;
 pub mod clearing;
 pub mod decisions;
-mod entries;
 pub mod laws;
 mod maps;
 pub mod payloads;

@@ -2,7 +2,7 @@
 ghost use Rattle.std.specs.Prelude.{◌≡◌, IfErr, OnOk, OnErr};
 ghost use Rattle.std.specs.BTreeMap.{get};
 ghost use Rattle.fkv_functions.specs.Plain.{Same, with_at};
-ghost use Rattle.fkv_texts.specs.Deltas.{onto, risen};
+ghost use Rattle.fkv_texts.specs.Deltas.{combined, value_after};
 
 use fkv_functions::{Fixed, FixedKey, Mergeable, Refused};
 use fkv_texts::Entry;
@@ -39,7 +39,7 @@ fn put_part<F: Mergeable>(
     part: Option<F::Value>,
 ) -> Result<(), Refused>
     ensures ok { OnOk result (Same (get F.Key.cmp map.new)
-        (with_at F.Key.cmp (get F.Key.cmp map.old) key (onto F.parts.joined (get F.Key.cmp map.old key) part))) }
+        (with_at F.Key.cmp (get F.Key.cmp map.old) key (combined F.parts.joined (get F.Key.cmp map.old key) part))) }
     ensures only { IfErr result (λ refused. refused ≡ Refused.NoMemory) }
     ensures unchanged { OnErr result (Same (get F.Key.cmp map.new) (get F.Key.cmp map.old)) }
 {
@@ -69,7 +69,7 @@ pub(crate) fn put_entry<F: Mergeable>(
     entry: &Entry<F::Key, F::Value>,
 ) -> Result<(), Refused>
     ensures ok { OnOk result (Same (get F.Key.cmp map.new) (with_at F.Key.cmp (get F.Key.cmp map.old) entry.now.key
-        (risen F.parts.joined (get F.Key.cmp map.old entry.now.key) entry.now))) }
+        (value_after F.parts.joined (get F.Key.cmp map.old entry.now.key) entry.now))) }
     ensures only { IfErr result (λ refused. refused ≡ Refused.NoMemory) }
     ensures unchanged { OnErr result (Same (get F.Key.cmp map.new) (get F.Key.cmp map.old)) }
 {

@@ -11,31 +11,30 @@
 //! An entry is made in two phases, so that of two operations that make one for the same class only one succeeds:
 //! [`Records::claim`] makes it tentative, and look-ups pass over it until [`Records::confirm`] makes it final.
 ghost use Rattle.std.specs.Prelude.{◌≡◌, ◌^◌, ◌<◌, ◌≤◌, ◌↔◌, None, Some, Ok, Err, IsTrue, IfSome, IfOk, IfErr, OnErr, false};
-ghost use Rattle.std.specs.Prelude.{option_map};
+ghost use Rattle.std.specs.Prelude.{option_map, length};
 ghost use Rattle.std.specs.List.{list_any};
 ghost use Rattle.std.specs.Bool.{OnTrue, OnFalse};
 ghost use Rattle.fkv_records.specs.Records.{size_of};
 ghost use Rattle.fkv_hybrid.specs.Views.{IsFull};
-ghost use Rattle.fkv_index.specs.Words.{address_of, tag_of, tentative_word, is_empty, is_tentative};
-ghost use Rattle.fkv_index.specs.Places.{words_of, word_at, IsPlace};
-ghost use Rattle.fkv_index.specs.Entries.{IsAlone};
+ghost use Rattle.fkv_index.specs.Words.{address_of, tag_of, tentative_word, is_empty, is_tentative, final_word, is_final};
+ghost use Rattle.fkv_index.specs.Places.{words_of, word_at, IsPlace, with_word};
+ghost use Rattle.fkv_index.specs.Entries.{IsAlone, IsIndexMap};
 ghost use Rattle.fkv_index.specs.Changes.{SameEntries, SameTentative, SetsEntry};
 ghost use Rattle.fkv_operations.specs.declared.classes.Class.{Class};
 ghost use Rattle.fkv_operations.specs.Classes.{IsClass};
-ghost use Rattle.fkv_lookups.specs.RecordsViews.{empty_records, class_in, entry_of, found_in, IsEntryOf, with_written, Claims, confirmed, released};
-ghost use Rattle.fkv_lookups.specs.RecordsViews.{ChangesAt};
-ghost use Rattle.fkv_lookups.specs.Traced.{IsTraced, IsStood};
+ghost use Rattle.fkv_lookups.specs.RecordsViews.{empty_records, class_in, entry_of, found_in, IsEntryOf, with_written, Claims};
+ghost use Rattle.fkv_lookups.specs.RecordsViews.{confirmed, released, ChangesAt};
+ghost use Rattle.fkv_lookups.specs.Traced.{IsTraced, IsResolved};
 ghost use Rattle.fkv_lookups.specs.Lookups.{newest_above, looked_up};
 ghost use Rattle.fkv_lookups.specs.Payloads.{standing};
 ghost use Rattle.fkv_texts.specs.Text.{live};
 
-use crate::chain_results::{ChainResult, delta_at, onto};
-use crate::entries::move_entry;
+use crate::chain_results::{ChainResult, combined, delta_at};
 use crate::payloads::Payload;
 use fkv_device::Receipt;
 use fkv_functions::{Mergeable, Refused};
 use fkv_hybrid::Log;
-use fkv_index::{Index, Place};
+use fkv_index::{Index, Place, Word};
 use fkv_operations::{Class, IndexEntry, class_of};
 use fkv_records::{Address, Shape};
 use fkv_texts::ChainPosition;
@@ -43,12 +42,11 @@ use fkv_texts::laws::chains;
 use std::alloc::Global;
 use std::marker::Model;
 
-mod flushes;
 mod live;
 mod loads;
+mod pages;
 mod reads;
 mod sessions;
-mod truncation;
 
 /// The records of one partition, and the index of their classes.
 #[derive(Drop)]
@@ -76,7 +74,7 @@ impl<F: Mergeable, R: Receipt> Model for Records<F, R> {
 }
 
 impl<F: Mergeable, R: Receipt> Records<F, R> {
-    ghost use Rattle.fkv_index.specs.declared.places.Place.{Place};
+    ghost use Rattle.fkv_index.specs.declared.words.Place.{Place};
 
     /// No records and no entries, of one of 2^`partition_bits` partitions, with 2^`bucket_bits` buckets, and a log
     /// of this shape and so many frames. Refused: `NoMemory`.
@@ -97,7 +95,7 @@ impl<F: Mergeable, R: Receipt> Records<F, R> {
         ensures only { IfErr result (λ refused. refused ≡ Refused.NoMemory) }
     {
         let log = Log::new(alloc, shape, frames)?;
-        log.known();
+        log.facts();
         let index = Index::new(alloc, bucket_bits as u32)?;
         Ok(Records {
             log,
@@ -185,7 +183,7 @@ impl<F: Mergeable, R: Receipt> Records<F, R> {
         let mut parts = None;
         let mut position = first;
         while let Some(last) = delta_at(&position) {
-            parts = onto(functions, last.value, parts);
+            parts = combined(functions, last.value, parts);
             position = self.log.first_on_chain(key, last.previous, low);
         }
         ChainResult { parts, position }
@@ -268,7 +266,7 @@ impl<F: Mergeable, R: Receipt> Records<F, R> {
         ensures unchanged { OnErr result (self.new ≡ self.old) }
     {
         chains::<F::Key, F::Value, Class>();
-        self.log.known();
+        self.log.facts();
         let address = self.log.tail();
         match self
             .log
@@ -278,7 +276,7 @@ impl<F: Mergeable, R: Receipt> Records<F, R> {
             Ok(None) => return Ok(None),
             Ok(Some(_address)) => (),
         }
-        self.log.known();
+        self.log.facts();
         move_entry(&mut self.index, entry, address);
         Ok(Some(address))
     }
@@ -298,11 +296,29 @@ impl<F: Mergeable, R: Receipt> Records<F, R> {
     }
 
     /// What holds of all records of a partition.
-    pub fn known(&self)
+    pub fn facts(&self)
         ensures traced { IsTraced R.keeps F.code self.now }
         // each record stands for what its key has once it stands
-        ensures stood { IsStood F.Key.cmp F.parts.joined self.now }
+        ensures resolved { IsResolved F.Key.cmp F.parts.joined self.now }
     {
-        self.log.known();
+        self.log.facts();
     }
+}
+
+/// Moves an entry that stands as it was found to another address.
+pub(crate) fn move_entry(index: &mut Index, entry: IndexEntry, address: Address)
+    requires place { IsPlace index.old entry.place }
+    requires stands { word_at index.old entry.place ≡ entry.word }
+    requires is { IsTrue (is_final entry.word) }
+    requires some { 0 < address }
+    requires least { address < 2 ^ 48 }
+    ensures word { index.new ≡ with_word index.old entry.place (final_word (tag_of entry.word) address) }
+    ensures entry { SetsEntry entry.place.bucket (tag_of entry.word) address index.old index.new }
+    ensures changes { ChangesAt entry.place index.old index.new }
+    ensures tentative { SameTentative index.old index.new }
+    ensures buckets { length index.new ≡ length index.old }
+    ensures map { IsIndexMap index.new }
+{
+    let word = Word::entry(entry.word.tag(), address);
+    let _moved = index.exchange(entry.place, entry.word, word);
 }

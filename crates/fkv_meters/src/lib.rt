@@ -1,7 +1,7 @@
 //! What a run does, counted beside it: the pages of a device, and the lines of feeds.
 //!
 //! A [`MeteredDevice`] hands each call on to a device and counts it in [`Meters`]. A [`ProgressSource`] hands each read on to
-//! a source, and tells a [`Progress`] what was read, which counts its lines. Several threads share the counts. What
+//! a source, and tells a [`ReadProgress`] what was read, which counts its lines. Several threads share the counts. What
 //! either promises is what the thing inside it promises, so a run's contracts stay as they are.
 #![tactic(auto)]
 
@@ -11,6 +11,6 @@ pub mod progress;
 pub mod sources;
 
 pub use devices::{MeteredDevice, MeteredReader, MeteredWriter};
-pub use meters::{Meters, Seen};
-pub use progress::{Beside, Progress, Silent, Telling};
+pub use meters::{MeterReadings, Meters};
+pub use progress::{Beside, ProgressLine, ReadProgress, Silent};
 pub use sources::ProgressSource;

@@ -11,7 +11,7 @@ pub struct Meters {
 
 /// What meters showed. While other threads use a device, each count may be of another moment.
 #[derive(Clone, Copy, PartialEq, Eq, Debug)]
-pub struct Seen {
+pub struct MeterReadings {
     /// The pages that were written. A write that failed counts as none.
     pub pages_written: u64,
     /// The pages that were read. A read that failed counts as none.
@@ -31,8 +31,8 @@ impl Meters {
     }
 
     /// What was counted so far.
-    pub fn seen(&self) -> Seen {
-        Seen {
+    pub fn seen(&self) -> MeterReadings {
+        MeterReadings {
             pages_written: self.pages_written.load(Ordering::SeqCst),
             pages_read: self.pages_read.load(Ordering::SeqCst),
             bytes_written: self.bytes_written.load(Ordering::SeqCst),

@@ -12,7 +12,7 @@ const PAUSE: u64 = 1_000;
 const SHORT_PAUSE: u64 = 100;
 
 /// Is told what was read. Several threads may tell it.
-pub trait Progress {
+pub trait ReadProgress {
     /// From now on it is to tell how far a run is.
     fn begin(&self);
 
@@ -32,7 +32,7 @@ impl Beside for Stderr {}
 #[derive(Clone, Copy, Debug, Default)]
 pub struct Silent;
 
-impl Progress for Silent {
+impl ReadProgress for Silent {
     fn begin(&self) {}
 
     fn read(&self, _bytes: &[u8]) {}
@@ -45,7 +45,7 @@ impl Progress for Silent {
 /// that since the last line. Where the clock or the output fails, nothing is written: that is no reason to stop. The count is kept
 /// modulo 2^64.
 #[derive(Drop)]
-pub struct Telling<'a, C, E> {
+pub struct ProgressLine<'a, C, E> {
     clock: &'a C,
     output: &'a E,
     /// Whether each line is written over the last.
@@ -93,10 +93,10 @@ pub(crate) fn line_ends(bytes: &[u8]) -> u64
     bytes.iter().filter(|byte| **byte == b'\n').count() as u64
 }
 
-impl<'a, C: Clock, E: Beside> Telling<'a, C, E> {
+impl<'a, C: Clock, E: Beside> ProgressLine<'a, C, E> {
     /// Is to tell on this output, which is a terminal or not, by this clock. It has not begun.
-    pub fn new(clock: &'a C, output: &'a E, is_terminal: bool) -> Telling<'a, C, E> {
-        Telling {
+    pub fn new(clock: &'a C, output: &'a E, is_terminal: bool) -> ProgressLine<'a, C, E> {
+        ProgressLine {
             clock,
             output,
             is_terminal,
@@ -140,7 +140,7 @@ impl<'a, C: Clock, E: Beside> Telling<'a, C, E> {
     }
 }
 
-impl<'a, C: Clock, E: Beside> Progress for Telling<'a, C, E> {
+impl<'a, C: Clock, E: Beside> ReadProgress for ProgressLine<'a, C, E> {
     fn begin(&self) {
         self.last
             .store(millis(self.clock).unwrap_or(0), Ordering::SeqCst);

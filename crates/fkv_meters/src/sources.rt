@@ -1,7 +1,7 @@
 //! A source that tells how far it is.
 ghost use Rattle.std.specs.Prelude.{◌≡◌};
 
-use crate::progress::Progress;
+use crate::progress::ReadProgress;
 use fkv_functions::Refused;
 use fkv_streams::Source;
 
@@ -24,7 +24,7 @@ impl<'a, S, P> ProgressSource<'a, S, P> {
     }
 }
 
-impl<'a, S: Source, P: Progress> Source for ProgressSource<'a, S, P> {
+impl<'a, S: Source, P: ReadProgress> Source for ProgressSource<'a, S, P> {
     ghost remaining = { λ p. S.remaining p.source };
 
     ghost failures = { λ p. S.failures p.source };

@@ -5,7 +5,7 @@ use Rattle.std.specs.declared.cmp.Ordering.{Ordering}
 use Rattle.fkv_texts.specs.declared.entries.Entry.{Entry}
 use Rattle.fkv_texts.specs.Text.{last_of, newest, IsFrom}
 use Rattle.fkv_index.specs.declared.words.Word.{Word}
-use Rattle.fkv_index.specs.declared.places.Place.{Place}
+use Rattle.fkv_index.specs.declared.words.Place.{Place}
 use Rattle.fkv_index.specs.Words.{address_of, is_final}
 use Rattle.fkv_index.specs.Places.{word_at, IsPlace}
 use Rattle.fkv_index.specs.Entries.{StandsAt}

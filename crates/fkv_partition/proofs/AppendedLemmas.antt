@@ -5,7 +5,7 @@ use Rattle.std.specs.declared.cmp.Ordering.{Ordering}
 use Rattle.fkv_index.specs.Changes.{SameTentative}
 use Rattle.fkv_lookups.specs.Payloads.{standing}
 use Rattle.fkv_lookups.specs.RecordsViews.{RecordsView, with_written, ChangesAt}
-use Rattle.fkv_lookups.specs.Traced.{IsTraced, IsStood}
+use Rattle.fkv_lookups.specs.Traced.{IsTraced, IsResolved}
 use Rattle.fkv_partition.specs.declared.changes.Write.{Write}
 use Rattle.fkv_partition.specs.declared.contexts.OpenWork.{OpenWork}
 use Rattle.fkv_partition.specs.Contexts.{claim_at}
@@ -44,18 +44,18 @@ module _ {K V I : Type 0} (inside v : PartitionView K V I) (same : inside ≡ v)
         ∙ ap (λ xs. record inside { records = with_written inside.records write.entry write.key write.payload (standing join (live_of cmp inside write.key) write.payload); contexts = xs; moment = now }) freed
         ∙ ap (λ (u : PartitionView K V I). with_payload u slot c write.entry write.key write.payload (standing join (live_of cmp u write.key) write.payload) now) same
 
-    pub appended-sound : {keeps : Bool} {code : K → ℕ} → IsSound keeps cmp join code inside → claim_at v.contexts (slot * 8 + c) ≡ None → IsWrite code v write → IsTraced keeps code r → IsStood cmp join r
+    pub appended-sound : {keeps : Bool} {code : K → ℕ} → IsSound keeps cmp join code inside → claim_at v.contexts (slot * 8 + c) ≡ None → IsWrite code v write → IsTraced keeps code r → IsResolved cmp join r
         → ChangesAt write.entry.place inside.records.words r.words
         → SameTentative inside.records.words r.words
         → IsSound keeps cmp join code (record inside { records = r; contexts = contexts; moment = now })
-    appended-sound {code = code} s unclaimed w traced stood changes tentative =
+    appended-sound {code = code} s unclaimed w traced resolved changes tentative =
         let at : IsWrite code inside write = subst (λ (u : PartitionView K V I). IsWrite code u write) (sym same) w in
         rw (made, freed)
         (sound-appended s slot c now write.entry write.key write.payload _
         (subst (λ (u : PartitionView K V I). claim_at u.contexts (slot * 8 + c) ≡ None) (sym same) unclaimed)
         at.entry
         (rw made at traced)
-        (rw made at stood)
+        (rw made at resolved)
         (rw made at changes)
         (rw made at tentative)
         at.own)

@@ -21,7 +21,6 @@ use Rattle.fkv_partition.proofs.SoundLemmas.{sound-context}
 use Rattle.fkv_partition.specs.AtOnce.{IsDoneAtOnce}
 use Rattle.fkv_partition.specs.Beginning.{IsFree, IsFirstFree}
 use Rattle.fkv_partition.specs.Events as events
-use Rattle.fkv_partition.specs.Sound.{IsCompacting}
 use Rattle.fkv_partition.proofs.EffectLemmas.{key-issue, key-event, relocations-same}
 use Rattle.fkv_partition.proofs.KeepLemmas.{issues-told}
 

@@ -4,7 +4,7 @@ use Rattle.std.specs.Bool.{OnTrue, OnFalse}
 use Rattle.std.proofs.lemmas.Bool.{OnTrue_at, OnFalse_at}
 use Rattle.std.specs.declared.cmp.Ordering.{Ordering}
 use Rattle.fkv_texts.specs.Text.{entry_at, newest}
-use Rattle.fkv_index.specs.declared.places.Place.{Place}
+use Rattle.fkv_index.specs.declared.words.Place.{Place}
 use Rattle.fkv_index.specs.declared.words.Word.{Word}
 use Rattle.fkv_index.specs.Words.{empty, final_word, tentative_word, address_of, tag_of, is_tentative, is_final}
 use Rattle.fkv_index.specs.Places.{word_at, IsPlace}
@@ -13,7 +13,7 @@ use Rattle.fkv_index.proofs.Written.{place_of-word, written_there}
 use Rattle.fkv_operations.specs.After.{key_of}
 use Rattle.fkv_lookups.specs.RecordsViews.{RecordsView, class_in, Claims, confirmed, released}
 use Rattle.fkv_lookups.specs.RecordsViews.{ChangesAt}
-use Rattle.fkv_lookups.specs.Traced.{IsTraced, IsStood}
+use Rattle.fkv_lookups.specs.Traced.{IsTraced, IsResolved}
 use Rattle.fkv_texts.specs.Chains.{IsIn}
 use Rattle.fkv_operations.specs.declared.classes.Class.{Class}
 use Rattle.fkv_partition.specs.declared.contexts.Context.{Context}
@@ -108,14 +108,14 @@ module _ {K V I : Type 0} {keeps : Bool} (cmp : K → K → Ordering) (join : V 
       → word_at r.words q ≡ tentative_word class.tag
       → IsTrue (is_tentative (word_at r.words q))
       → IsTraced keeps code r
-      → IsStood cmp join r
+      → IsResolved cmp join r
       → IsSound keeps cmp join code (record (with_context v slot c (Some (at_phase x (Confirm q))) now) { records = r })
-  sound-claims r class q quiet own claims words was bucket word is traced stood =
+  sound-claims r class q quiet own claims words was bucket word is traced resolved =
       let reworded : IsReworded v.records r = claims.is ∙ ap (λ (w : RecordsView K V). record v.records { words = w.words }) (sym claims.is) in
       let o = key_at (slots_of v) v.contexts slot c x h in
       let same : class ≡ class_in code r (key_of x.op) = own ∙ ap (λ (w : RecordsView K V). class_in code w (key_of x.op)) (sym reworded) in
       let claimed : IsClaimOf r class q = record { bucket = bucket; word = word } in
-      sound-claimed s r slot c now x q traced stood (grown-words keeps cmp join code q v.records r reworded words (tentative-made (word_at r.words q) is)) words
+      sound-claimed s r slot c now x q traced resolved (grown-words keeps cmp join code q v.records r reworded words (tentative-made (word_at r.words q) is)) words
       (ap (λ (w : RecordsView K V). w.partition_bits) reworded)
       (ap (λ (w : RecordsView K V). w.log.regions) reworded)
       (ap (λ (w : RecordsView K V). w.log.text) reworded)
@@ -130,12 +130,12 @@ module _ {K V I : Type 0} {keeps : Bool} (cmp : K → K → Ordering) (join : V 
       → is_tentative (word_at r.words q) ≡ false
       → IsMade (word_at r.words q)
       → IsTraced keeps code r
-      → IsStood cmp join r
+      → IsResolved cmp join r
       → IsSound keeps cmp join code (record (with_context v slot c (Some (at_phase x Fresh)) now) { records = r })
-  sound-settles r q phase reworded words freed made traced stood =
+  sound-settles r q phase reworded words freed made traced resolved =
       let o = key_at (slots_of v) v.contexts slot c x h in
       let fits : Fits s r (at_phase x Fresh) = record { stands = tt; own = own-at cmp join code v s slot c x h; merging = s.merging (slot * 8 + c) x o.here } in
-      sound-settled s r slot c now x q (Some (OnKey (at_phase x Fresh))) traced stood (grown-words keeps cmp join code q v.records r reworded words made) words
+      sound-settled s r slot c now x q (Some (OnKey (at_phase x Fresh))) traced resolved (grown-words keeps cmp join code q v.records r reworded words made) words
       (ap (λ (w : RecordsView K V). w.partition_bits) reworded)
       (ap (λ (w : RecordsView K V). w.log.regions) reworded)
       (ap (λ (w : RecordsView K V). w.log.text) reworded)
@@ -150,11 +150,11 @@ module _ {K V I : Type 0} {keeps : Bool} (cmp : K → K → Ordering) (join : V 
       → is_tentative (word_at r.words q) ≡ false
       → IsMade (word_at r.words q)
       → IsTraced keeps code r
-      → IsStood cmp join r
+      → IsResolved cmp join r
       → IsSound keeps cmp join code (record (with_context v slot c None now) { records = r })
-  sound-cancels r q phase reworded words freed made traced stood =
+  sound-cancels r q phase reworded words freed made traced resolved =
       let o = key_at (slots_of v) v.contexts slot c x h in
-      sound-settled s r slot c now x q None traced stood (grown-words keeps cmp join code q v.records r reworded words made) words
+      sound-settled s r slot c now x q None traced resolved (grown-words keeps cmp join code q v.records r reworded words made) words
       (ap (λ (w : RecordsView K V). w.partition_bits) reworded)
       (ap (λ (w : RecordsView K V). w.log.regions) reworded)
       (ap (λ (w : RecordsView K V). w.log.text) reworded)

@@ -11,7 +11,7 @@ use Rattle.fkv_texts.specs.declared.entries.ChainPosition.{ChainPosition}
 use Rattle.fkv_texts.specs.declared.entries.ChainPosition.TheVariants.{Found, Below}
 use Rattle.fkv_texts.specs.Text.{last_where, entry_at, has_key, last_of, newest, value_of, IsRising}
 use Rattle.fkv_texts.specs.Chains.{IsIn, has_class, last_below, Leads}
-use Rattle.fkv_texts.specs.Deltas.{onto, stood, IsCovered, IsSuperseded, IsCleared}
+use Rattle.fkv_texts.specs.Deltas.{combined, resolved, IsCovered, IsSuperseded, IsCleared}
 use Rattle.fkv_texts.proofs.LastWhere.{last_where-in, last_where-found, none-passes}
 use Rattle.fkv_texts.proofs.BaseLemmas.{lowest-value}
 use Rattle.fkv_index.specs.Words.{address_of}
@@ -24,14 +24,14 @@ use Rattle.fkv_lookups.specs.declared.chain_results.ChainResult.{ChainResult}
 use Rattle.fkv_lookups.specs.Decisions.{low_of}
 use Rattle.fkv_lookups.specs.Lookups.{IsOfClass, ComesTo, end_of, at_of}
 use Rattle.fkv_lookups.specs.RecordsViews.{RecordsView, class_in, IsEntryOf, WasEntryOf}
-use Rattle.fkv_lookups.specs.Traced.{IsTraced, IsStood}
+use Rattle.fkv_lookups.specs.Traced.{IsTraced, IsResolved}
 use Rattle.fkv_lookups.proofs.TracedLemmas.{highest, raw, traced-raw, traced-held, traced-none, traced-low}
 use Rattle.fkv_lookups.proofs.LookupLemmas.{begun, raw-traced, values_tell, between_tells}
 use Rattle.fkv_lookups.proofs.MeetingLemmas.{low_head, low_begin, low_under, tells}
 use Rattle.fkv_partition.specs.KeyBeginning.{IsEntered}
 use Rattle.fkv_partition.proofs.GrownLemmas.{still-below}
 use Rattle.fkv_partition.proofs.StoodLemmas.{rises}
-use Rattle.fkv_partition.proofs.CuttingLemmas.{still-stood}
+use Rattle.fkv_partition.proofs.CuttingLemmas.{still-resolved}
 use Rattle.fkv_partition.specs.KeySound.{IsSound}
 use Rattle.fkv_partition.specs.Views.{PartitionView, partition_of, slots_of, seen_at, entry_for, reached_from}
 use Rattle.fkv_partition.specs.declared.relocations.Liveness.TheVariants.{Superseded, Last, Further}
@@ -182,18 +182,18 @@ module _ {K V : Type 0} (cmp : K → K → Ordering) (join : V → V → V) (cod
       subst (λ (y : Entry K V). IsIn v.log.text y × (has_key cmp k y ≡ true) × (y.delta ≡ false) × (low ≤ y.address)) same
       (last_where-in passes v.log.text e is, (and_parts (nat_le e.address a) (has_key cmp k e) (last_where-found passes v.log.text e is)).1, whole, high)
   found-in a parts r (ComesTo.below under is class) x at = absurd (cc)
-  found-in a parts r (ComesTo.joins {d = d} is high part more) x at = found-in d.previous (onto join d.value parts) r more x at
+  found-in a parts r (ComesTo.joins {d = d} is high part more) x at = found-in d.previous (combined join d.value parts) r more x at
 
   -- where it leads out, a record of the key's class stands
   pub way-class : (a : ℕ) (parts : Option V) (r : ChainResult K V) → ComesTo cmp join code v k low a parts r → (b : ℕ) → r.position ≡ Below b → v.log.from ≤ b → IsOfClass code v k b
   way-class a parts r (ComesTo.found is stands high whole) b at begins = absurd (cc)
   way-class a parts r (ComesTo.below {b = c} under is class) b at begins = let same : c ≡ b = cc in subst (IsOfClass code v k) same (class (omega (arith, same, begins)))
-  way-class a parts r (ComesTo.joins {d = d} is high part more) b at begins = way-class d.previous (onto join d.value parts) r more b at begins
+  way-class a parts r (ComesTo.joins {d = d} is high part more) b at begins = way-class d.previous (combined join d.value parts) r more b at begins
 
   pub way-low : (a : ℕ) (parts : Option V) (r : ChainResult K V) → ComesTo cmp join code v k low a parts r → (b : ℕ) → r.position ≡ Below b → b < low
   way-low a parts r (ComesTo.found is stands high whole) b at = absurd (cc)
   way-low a parts r (ComesTo.below {b = c} under is class) b at = let same : c ≡ b = cc in subst (λ n. n < low) same under
-  way-low a parts r (ComesTo.joins {d = d} is high part more) b at = way-low d.previous (onto join d.value parts) r more b at
+  way-low a parts r (ComesTo.joins {d = d} is high part more) b at = way-low d.previous (combined join d.value parts) r more b at
 
   -- nobody changes the key's newest record where it leads below what is frozen
   pub way-still : (safe a : ℕ) (parts : Option V) (r : ChainResult K V) → ComesTo cmp join code v k low a parts r → (b : ℕ) → r.position ≡ Below b → b < safe → IsStill safe (newest cmp v.log.text k a)
@@ -202,7 +202,7 @@ module _ {K V : Type 0} (cmp : K → K → Ordering) (join : V → V → V) (cod
   way-still safe a parts r (ComesTo.joins is high part more) b at frozen = rw is (inr (inl part))
 
 -- ---- down to a place
-module _ {K V : Type 0} {keeps : Bool} (cmp : K → K → Ordering) (join : V → V → V) (code : K → ℕ) (order : IsKeyOrder cmp) (v : RecordsView K V) (t : IsTraced keeps code v) (s : IsStood cmp join v) (place : ℕ) (e : Entry K V) (here : entry_at v.log.text place ≡ Some e) where
+module _ {K V : Type 0} {keeps : Bool} (cmp : K → K → Ordering) (join : V → V → V) (code : K → ℕ) (order : IsKeyOrder cmp) (v : RecordsView K V) (t : IsTraced keeps code v) (s : IsResolved cmp join v) (place : ℕ) (e : Entry K V) (here : entry_at v.log.text place ≡ Some e) where
   rising : IsRising v.log.text
   rising = rises cmp join v s t
 
@@ -274,27 +274,27 @@ module _ {K V : Type 0} {keeps : Bool} (cmp : K → K → Ordering) (join : V �
           let at = st.1 in
           omega (arith, up, down, at, same)
   lands low a parts r under le (ComesTo.joins {d = d} is high part more) b at =
-      lands low d.previous (onto join d.value parts) r under (delta-leads a d is (omega (arith, under, high))) more b at
+      lands low d.previous (combined join d.value parts) r under (delta-leads a d is (omega (arith, under, high))) more b at
 
   -- and what its key has from where an entry leads is its own value, joined with the parts above
   pub place-value : (a : ℕ) (parts : Option V)
       → newest cmp v.log.text e.key a ≡ last_of cmp v.log.text e.key
       → ((d : Entry K V) → IsIn v.log.text d → has_key cmp e.key d ≡ true → place < d.address → d.address ≤ a → d.delta ≡ true)
       → IsCleared cmp v.log.text place
-      → value_of (newest cmp v.text e.key a) ≡ onto join (value_of (newest cmp v.text e.key place)) parts
-      → value_of (newest cmp v.text e.key a) ≡ onto join e.value parts
+      → value_of (newest cmp v.text e.key a) ≡ combined join (value_of (newest cmp v.text e.key place)) parts
+      → value_of (newest cmp v.text e.key a) ≡ combined join e.value parts
   place-value a parts held deltas clear is =
       let at = (stands-in cmp order v.log.text rising place e here).1 in
       let own : entry_at v.log.text e.address ≡ Some e = ap (entry_at v.log.text) at ∙ here in
       let lowest = lowest-value cmp v.log.text order rising e own join (subst (IsCleared cmp v.log.text) (sym at) clear) (uncovered-by cmp order v.log.text rising place e here a held deltas) in
-      let there : value_of (newest cmp v.text e.key place) ≡ e.value = ap (λ u. value_of (newest cmp u e.key place)) s.is ∙ ap (λ n. value_of (newest cmp (stood cmp join v.log.text) e.key n)) (sym at) ∙ lowest in
-      is ∙ ap (λ o. onto join o parts) there
+      let there : value_of (newest cmp v.text e.key place) ≡ e.value = ap (λ u. value_of (newest cmp u e.key place)) s.is ∙ ap (λ n. value_of (newest cmp (resolved cmp join v.log.text) e.key n)) (sym at) ∙ lowest in
+      is ∙ ap (λ o. combined join o parts) there
 
 -- a value joined with parts is a value
-pub onto-some : {V : Type 0} (join : V → V → V) (v parts : Option V) → IsSome v → IsSome (onto join v parts)
-onto-some join None parts some = absurd (cc)
-onto-some join (Some x) None some = refl
-onto-some join (Some x) (Some y) some = refl
+pub combined-some : {V : Type 0} (join : V → V → V) (v parts : Option V) → IsSome v → IsSome (combined join v parts)
+combined-some join None parts some = absurd (cc)
+combined-some join (Some x) None some = refl
+combined-some join (Some x) (Some y) some = refl
 
 -- a record of a place may be appended again, joined with the parts of later deltas
 pub ready-by : {K V : Type 0} {keeps : Bool} (cmp : K → K → Ordering) (join : V → V → V) (code : K → ℕ) → IsKeyOrder cmp → (v : RecordsView K V) → IsTraced keeps code v → (place : ℕ) (e : Entry K V) (parts : Option V) (kept : IndexEntry)
@@ -303,14 +303,14 @@ pub ready-by : {K V : Type 0} {keeps : Bool} (cmp : K → K → Ordering) (join 
     → WasEntryOf v (class_in code v e.key) kept
     → address_of kept.word < v.log.tail
     → (IsTrue keeps → entry_at v.log.text place ≡ Some e)
-    → (IsTrue keeps → word_at v.words kept.place ≡ kept.word → value_of (newest cmp v.text e.key (address_of kept.word)) ≡ onto join e.value parts)
+    → (IsTrue keeps → word_at v.words kept.place ≡ kept.word → value_of (newest cmp v.text e.key (address_of kept.word)) ≡ combined join e.value parts)
     → (IsTrue keeps → word_at v.words kept.place ≡ kept.word → IsStill v.log.regions.offsets.safe_read_only (newest cmp v.text e.key (address_of kept.word)))
     → (IsTrue keeps → address_of kept.word < 64 → ⊥)
     → (IsTrue keeps → (d : Entry K V) → IsIn v.log.text d → has_key cmp e.key d ≡ true → place < d.address → d.address ≤ address_of kept.word → d.delta ≡ true)
     → IsReady keeps cmp join code v place (renewed join e parts) kept
 ready-by cmp join code order v t place e parts kept here some entry low is value still nowhere between = record {
   here = here;
-  some = onto-some join e.value parts some;
+  some = combined-some join e.value parts some;
   is_kept = record { entry = entry; low = low; value = value; still = still; nowhere = λ yes_keeps none. absurd (nowhere yes_keeps none) };
   own = λ yes_keeps d there. (let both : Some e ≡ Some d = sym (is yes_keeps) ∙ there in let same : e ≡ d = cc in ap (λ (x : Entry _ _). x.key) (sym same));
   between = between;
@@ -367,11 +367,11 @@ module _ {K V I : Type 0} {keeps : Bool} (cmp : K → K → Ordering) (join : V 
   module _ (order : IsKeyOrder cmp) (place : ℕ) (k : K) (a : ℕ) (leads : entry_for code v k ≡ Some a) where
     pub going : ComesTo cmp join code v.records k (above v slot place) a None (reached_from cmp join code v slot k (above v slot place) (entry_for code v k))
     going = subst (λ o. ComesTo cmp join code v.records k (above v slot place) a None (reached_from cmp join code v slot k (above v slot place) o)) (sym leads)
-        (tells cmp join code v.records k order s.traced s.stood (above v slot place) (above-begun place) a leads)
+        (tells cmp join code v.records k order s.traced s.resolved (above v slot place) (above-begun place) a leads)
 
     -- the entry leads to the last record of the key
     pub held : newest cmp v.records.log.text k a ≡ last_of cmp v.records.log.text k
-    held = traced-held cmp code (raw v.records) k order (traced-raw s.traced s.stood) a leads
+    held = traced-held cmp code (raw v.records) k order (traced-raw s.traced s.resolved) a leads
 
 was-entry : {K V : Type 0} (code : K → ℕ) (r : RecordsView K V) (k : K) (kept : IndexEntry) → IsEntryOf r (class_in code r k) kept → WasEntryOf r (class_in code r k) kept
 was-entry code r k kept h = record { place = h.place; bucket = h.bucket; final = h.final; tag = h.tag }
@@ -379,7 +379,7 @@ was-entry code r k kept h = record { place = h.place; bucket = h.bucket; final =
 module _ {K V I : Type 0} {keeps : Bool} (cmp : K → K → Ordering) (join : V → V → V) (code : K → ℕ) (order : IsKeyOrder cmp) (v : PartitionView K V I) (s : IsSound keeps cmp join code v) (slot : ℕ) (entered : IsEntered v slot) (place : ℕ) (e : Entry K V)
     (here : e.address ≡ place) (is : IsTrue keeps → entry_at v.records.log.text place ≡ Some e) where
   rises-here : IsRising v.records.log.text
-  rises-here = rises cmp join v.records s.stood s.traced
+  rises-here = rises cmp join v.records s.resolved s.traced
 
   -- a record of a key that belongs elsewhere stands here on no device that keeps
   pub superseded-foreign : partition_of v.count (code e.key) ≢ v.number → IsTrue keeps → IsSuperseded cmp v.records.log.text e
@@ -389,7 +389,7 @@ module _ {K V I : Type 0} {keeps : Bool} (cmp : K → K → Ordering) (join : V 
   pub superseded-nowhere : entry_for code v e.key ≡ None → IsTrue keeps → IsSuperseded cmp v.records.log.text e
   superseded-nowhere none yes_keeps =
       let m = (stands-in cmp order v.records.log.text rises-here place e (is yes_keeps)).0 in
-      let no = none-passes (has_key cmp e.key) v.records.log.text (traced-none cmp code (raw v.records) e.key order (traced-raw s.traced s.stood) none) m.place e m.here in
+      let no = none-passes (has_key cmp e.key) v.records.log.text (traced-none cmp code (raw v.records) e.key order (traced-raw s.traced s.resolved) none) m.place e m.here in
       absurd (let yes : has_key cmp e.key e ≡ true = order.self e.key in cc)
 
   module _ (kept : IndexEntry) (stands : IsEntryOf v.records (class_in code v.records e.key) kept) (leads : entry_for code v e.key ≡ Some (address_of kept.word)) where
@@ -400,7 +400,7 @@ module _ {K V I : Type 0} {keeps : Bool} (cmp : K → K → Ordering) (join : V 
     way = going cmp join code v s slot entered order place e.key (address_of kept.word) leads
 
     pub superseded-newer : liveness place came ≡ Superseded → IsTrue keeps → IsSuperseded cmp v.records.log.text e
-    superseded-newer j yes_keeps = met-dead cmp join code order v.records s.traced s.stood place e (is yes_keeps) (above v slot place) (address_of kept.word) None came way j
+    superseded-newer j yes_keeps = met-dead cmp join code order v.records s.traced s.resolved place e (is yes_keeps) (above v slot place) (address_of kept.word) None came way j
 
     led : newest cmp v.records.log.text e.key (address_of kept.word) ≡ last_of cmp v.records.log.text e.key
     led = held cmp join code v s slot entered order place e.key (address_of kept.word) leads
@@ -408,18 +408,18 @@ module _ {K V I : Type 0} {keeps : Bool} (cmp : K → K → Ordering) (join : V 
     under : IsTrue keeps → place ≤ address_of kept.word
     under yes_keeps = place-under cmp order v.records.log.text rises-here place e (is yes_keeps) (address_of kept.word) led
 
-    values : onto join (value_of (newest cmp v.records.text e.key (address_of kept.word))) None ≡ onto join (end_of cmp v.records e.key came.position) came.parts
-    values = values_tell cmp join code v.records e.key order s.traced s.stood (above v slot place) (address_of kept.word) None came way
+    values : combined join (value_of (newest cmp v.records.text e.key (address_of kept.word))) None ≡ combined join (end_of cmp v.records e.key came.position) came.parts
+    values = values_tell cmp join code v.records e.key order s.traced s.resolved (above v slot place) (address_of kept.word) None came way
 
-    onto-none : (o : Option V) → onto join o None ≡ o
-    onto-none None = refl
-    onto-none (Some x) = refl
+    combined-none : (o : Option V) → combined join o None ≡ o
+    combined-none None = refl
+    combined-none (Some x) = refl
 
     deltas : (d : Entry K V) → IsIn v.records.log.text d → has_key cmp e.key d ≡ true → d.address ≤ address_of kept.word → at_of came.position < d.address → d.delta ≡ true
-    deltas = between_tells cmp code v.records e.key order (raw-traced cmp join v.records s.stood.is s.traced) join (above v slot place) (address_of kept.word) None came way
+    deltas = between_tells cmp code v.records e.key order (raw-traced cmp join v.records s.resolved.is s.traced) join (above v slot place) (address_of kept.word) None came way
 
     still-text : (safe : ℕ) → IsStill safe (newest cmp v.records.log.text e.key (address_of kept.word)) → IsStill safe (newest cmp v.records.text e.key (address_of kept.word))
-    still-text safe h = subst (λ u. IsStill safe (newest cmp u e.key (address_of kept.word))) (sym s.stood.is) (still-stood cmp join v.records.log.text s.stood.valued (λ x. nat_le x.address (address_of kept.word) && has_key cmp e.key x) (λ x y. refl) safe h)
+    still-text safe h = subst (λ u. IsStill safe (newest cmp u e.key (address_of kept.word))) (sym s.resolved.is) (still-resolved cmp join v.records.log.text s.resolved.valued (λ x. nat_le x.address (address_of kept.word) && has_key cmp e.key x) (λ x y. refl) safe h)
 
     -- the way comes down to the place: no later record of the key is whole
     module _ (parts : Option V) (j : liveness place came ≡ Last parts) where
@@ -434,20 +434,20 @@ module _ {K V I : Type 0} {keeps : Bool} (cmp : K → K → Ordering) (join : V 
 
       lands-here : IsTrue keeps → ends.1.0 ≡ place
       lands-here yes_keeps =
-          let up = lands cmp join code order v.records s.traced s.stood place e (is yes_keeps) (above v slot place) (address_of kept.word) None came (above-place cmp join code v s slot entered place) (under yes_keeps) way ends.1.0 ends.1.1 in
+          let up = lands cmp join code order v.records s.traced s.resolved place e (is yes_keeps) (above v slot place) (address_of kept.word) None came (above-place cmp join code v s slot entered place) (under yes_keeps) way ends.1.0 ends.1.1 in
           let down = ends.1.2 in
           omega (arith, up, down)
 
-      ready-value : IsTrue keeps → IsCleared cmp v.records.log.text place → value_of (newest cmp v.records.text e.key (address_of kept.word)) ≡ onto join e.value parts
+      ready-value : IsTrue keeps → IsCleared cmp v.records.log.text place → value_of (newest cmp v.records.text e.key (address_of kept.word)) ≡ combined join e.value parts
       ready-value yes_keeps clear =
           let lands = lands-here yes_keeps in
-          place-value cmp join code order v.records s.traced s.stood place e (is yes_keeps) (address_of kept.word) parts led
+          place-value cmp join code order v.records s.traced s.resolved place e (is yes_keeps) (address_of kept.word) parts led
           (λ d m own above low. deltas d m own low (subst (λ n. n < d.address) (sym (ap at_of ends.1.1 ∙ lands)) above))
           clear
-          (sym (onto-none (value_of (newest cmp v.records.text e.key (address_of kept.word)))) ∙ values
-          ∙ ap (λ p. onto join (end_of cmp v.records e.key p) came.parts) ends.1.1
-          ∙ ap (λ n. onto join (value_of (newest cmp v.records.text e.key n)) came.parts) lands
-          ∙ ap (onto join (value_of (newest cmp v.records.text e.key place))) ends.0)
+          (sym (combined-none (value_of (newest cmp v.records.text e.key (address_of kept.word)))) ∙ values
+          ∙ ap (λ p. combined join (end_of cmp v.records e.key p) came.parts) ends.1.1
+          ∙ ap (λ n. combined join (value_of (newest cmp v.records.text e.key n)) came.parts) lands
+          ∙ ap (combined join (value_of (newest cmp v.records.text e.key place))) ends.0)
 
       pub ready : v.records.log.begin ≤ place → place < v.records.log.regions.offsets.safe_read_only → e.value ≢ None
           → (IsTrue keeps → IsCleared cmp v.records.log.text place)
@@ -488,9 +488,9 @@ module _ {K V I : Type 0} {keeps : Bool} (cmp : K → K → Ordering) (join : V 
             class = λ begins. way-class cmp join code v.records e.key (above v slot place) (address_of kept.word) None came way b goes.0 begins;
             still = still-text v.records.log.regions.offsets.safe_read_only (way-still cmp join code v.records e.key (above v slot place) v.records.log.regions.offsets.safe_read_only (address_of kept.word) None came way b goes.0 on-disk);
             newest =
-                sym (onto-none (value_of (newest cmp v.records.text e.key (address_of kept.word)))) ∙ values
-                ∙ ap (λ p. onto join (end_of cmp v.records e.key p) came.parts) goes.0
-                ∙ ap (onto join (value_of (newest cmp v.records.text e.key b))) goes.2;
+                sym (combined-none (value_of (newest cmp v.records.text e.key (address_of kept.word)))) ∙ values
+                ∙ ap (λ p. combined join (end_of cmp v.records e.key p) came.parts) goes.0
+                ∙ ap (combined join (value_of (newest cmp v.records.text e.key b))) goes.2;
             between = λ d m own past low. deltas d m own low (subst (λ n. n < d.address) (sym (ap at_of goes.0)) past);
           };
         };

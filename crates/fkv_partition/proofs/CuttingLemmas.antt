@@ -15,7 +15,7 @@ use Rattle.fkv_texts.proofs.TextLemmas.{entry_at-in, one_address}
 use Rattle.fkv_texts.proofs.CutLemmas.{cut-leads, cut-from, filter-in}
 use Rattle.fkv_texts.proofs.BaseLemmas.{covered_or_not, covered-passed}
 use Rattle.fkv_index.specs.declared.words.Word.{Word}
-use Rattle.fkv_index.specs.declared.places.Place.{Place}
+use Rattle.fkv_index.specs.declared.words.Place.{Place}
 use Rattle.fkv_index.specs.Words.{empty, address_of, tentative_word, is_empty, is_tentative, is_final}
 use Rattle.fkv_index.specs.Places.{word_at}
 use Rattle.fkv_index.specs.Changes.{Sweeps, SameTentative}
@@ -29,9 +29,9 @@ use Rattle.fkv_operations.specs.declared.entries.IndexEntry.{IndexEntry}
 use Rattle.fkv_operations.specs.declared.operations.KeyedOp.{KeyedOp}
 use Rattle.fkv_operations.specs.declared.operations.KeyedOp.TheVariants.{Read, Upsert, Rmw, Delete, Merge}
 use Rattle.fkv_lookups.specs.RecordsViews.{RecordsView, class_in, indexed, IsEntryOf, WasEntryOf, truncated}
-use Rattle.fkv_lookups.specs.Traced.{IsTraced, IsStood}
-use Rattle.fkv_texts.specs.Deltas.{having, stood, AreValued, IgnoresValues, IsCovered, IsCleared}
-use Rattle.fkv_texts.proofs.StoodLemmas.{alike_back, alike-rising, stood-last, whole-last, valued-last}
+use Rattle.fkv_lookups.specs.Traced.{IsTraced, IsResolved}
+use Rattle.fkv_texts.specs.Deltas.{with_other_value, resolved, AreValued, IgnoresValues, IsCovered, IsCleared}
+use Rattle.fkv_texts.proofs.StoodLemmas.{alike_back, alike-rising, resolved-last, whole-last, valued-last}
 use Rattle.fkv_texts.proofs.CoverLemmas.{cut-lives, cut-newest, cut-newest_gone, cut-newest_stays}
 use Rattle.fkv_lookups.proofs.TracedLemmas.{entry-stands, traced-held}
 use Rattle.fkv_partition.specs.declared.contexts.Context.{Context}
@@ -100,8 +100,8 @@ empty-final f = absurd (cc)
 
 module _ (low : ℕ) (old new : List (List Word)) (s : Sweeps low old new) where
   -- a final word that stands after a sweep stood before
-  pub swept-stood : (p : Place) (w : Word) → IsTrue (is_final w) → word_at new p ≡ w → word_at old p ≡ w
-  swept-stood p w final here = by_final (is_final (word_at old p)) refl
+  pub swept-resolved : (p : Place) (w : Word) → IsTrue (is_final w) → word_at new p ≡ w → word_at old p ≡ w
+  swept-resolved p w final here = by_final (is_final (word_at old p)) refl
     where
       no-empty : is_empty w ≡ true → ⊥
       no-empty h = empty-final (subst (λ u. IsTrue (is_final u)) (is_empty-empty w h) final)
@@ -136,35 +136,35 @@ module _ {K V : Type 0} (cmp : K → K → Ordering) (join : V → V → V) (es 
       by_flag true h = absurd (let m = last_where-in p es e is in none-some e.value none (valued m.place e m.here h))
 
   -- what one stands for, where the other has no value, has none
-  dead-stood : (e : Entry K V) → last_where p es ≡ Some e → e.value ≡ None → value_of (last_where p (stood cmp join es)) ≡ None
-  dead-stood e is none = whole-last join cmp es p blind e is (dead-whole e is none) ∙ none
+  dead-resolved : (e : Entry K V) → last_where p es ≡ Some e → e.value ≡ None → value_of (last_where p (resolved cmp join es)) ≡ None
+  dead-resolved e is none = whole-last join cmp es p blind e is (dead-whole e is none) ∙ none
 
-  dead-unstood : (e : Entry K V) → last_where p es ≡ Some e → value_of (last_where p (stood cmp join es)) ≡ None → e.value ≡ None
-  dead-unstood e is none = by_value e.value refl
+  dead-unresolved : (e : Entry K V) → last_where p es ≡ Some e → value_of (last_where p (resolved cmp join es)) ≡ None → e.value ≡ None
+  dead-unresolved e is none = by_value e.value refl
     where
       by_value : (o : Option V) → e.value ≡ o → o ≡ None
       by_value None h = refl
-      by_value (Some v) h = absurd (none-some (value_of (last_where p (stood cmp join es))) none (valued-last join cmp es p blind e is (rw h refl)))
+      by_value (Some v) h = absurd (none-some (value_of (last_where p (resolved cmp join es))) none (valued-last join cmp es p blind e is (rw h refl)))
 
-  pub still-stood : IsStill safe (last_where p es) → IsStill safe (last_where p (stood cmp join es))
-  still-stood still = subst (IsStill safe) (sym (stood-last cmp join es p blind)) (by_last (last_where p es) refl still)
+  pub still-resolved : IsStill safe (last_where p es) → IsStill safe (last_where p (resolved cmp join es))
+  still-resolved still = subst (IsStill safe) (sym (resolved-last cmp join es p blind)) (by_last (last_where p es) refl still)
     where
-      by_last : (o : Option (Entry K V)) → last_where p es ≡ o → IsStill safe o → IsStill safe (option_map (having (value_of (last_where p (stood cmp join es)))) o)
+      by_last : (o : Option (Entry K V)) → last_where p es ≡ o → IsStill safe o → IsStill safe (option_map (with_other_value (value_of (last_where p (resolved cmp join es)))) o)
       by_last None h s = tt
-      by_last (Some e) h (inl none) = inl (dead-stood e h none)
+      by_last (Some e) h (inl none) = inl (dead-resolved e h none)
       by_last (Some e) h (inr rest) = inr rest
 
-  pub still-unstood : IsStill safe (last_where p (stood cmp join es)) → IsStill safe (last_where p es)
-  still-unstood still = by_last (last_where p es) refl (subst (IsStill safe) (stood-last cmp join es p blind) still)
+  pub still-unresolved : IsStill safe (last_where p (resolved cmp join es)) → IsStill safe (last_where p es)
+  still-unresolved still = by_last (last_where p es) refl (subst (IsStill safe) (resolved-last cmp join es p blind) still)
     where
-      by_last : (o : Option (Entry K V)) → last_where p es ≡ o → IsStill safe (option_map (having (value_of (last_where p (stood cmp join es)))) o) → IsStill safe o
+      by_last : (o : Option (Entry K V)) → last_where p es ≡ o → IsStill safe (option_map (with_other_value (value_of (last_where p (resolved cmp join es)))) o) → IsStill safe o
       by_last None h s = tt
-      by_last (Some e) h (inl none) = inl (dead-unstood e h none)
+      by_last (Some e) h (inl none) = inl (dead-unresolved e h none)
       by_last (Some e) h (inr rest) = inr rest
 
 -- ---- what operations stand for
-module _ {K V : Type 0} {keeps : Bool} (cmp : K → K → Ordering) (join : V → V → V) (code : K → ℕ) (order : IsKeyOrder cmp) (v : RecordsView K V) (t : IsTraced keeps code v) (s : IsStood cmp join v) (low : ℕ) (up : v.log.begin < low) (clear : IsTrue keeps → IsCleared cmp v.log.text low)
-    (text : List (Entry K V)) (cut : IsTraced keeps code (truncated keeps v low text)) (cut_stood : IsStood cmp join (truncated keeps v low text)) where
+module _ {K V : Type 0} {keeps : Bool} (cmp : K → K → Ordering) (join : V → V → V) (code : K → ℕ) (order : IsKeyOrder cmp) (v : RecordsView K V) (t : IsTraced keeps code v) (s : IsResolved cmp join v) (low : ℕ) (up : v.log.begin < low) (clear : IsTrue keeps → IsCleared cmp v.log.text low)
+    (text : List (Entry K V)) (cut : IsTraced keeps code (truncated keeps v low text)) (cut_resolved : IsResolved cmp join (truncated keeps v low text)) where
   begins-at : (a : ℕ) → IsTrue keeps → text_begin keeps a v.log.regions.offsets.closed ≡ a
   begins-at a yes_keeps = by_keeps keeps yes_keeps
     where
@@ -172,17 +172,17 @@ module _ {K V : Type 0} {keeps : Bool} (cmp : K → K → Ordering) (join : V �
       by_keeps true h = refl
       by_keeps false h = absurd (let bad : false ≡ true = h in cc)
 
-  cut-text : IsTrue keeps → text ≡ stood cmp join (text_from low v.log.text)
-  cut-text yes_keeps = cut_stood.is ∙ ap (λ n. stood cmp join (text_from n v.log.text)) (begins-at low yes_keeps)
+  cut-text : IsTrue keeps → text ≡ resolved cmp join (text_from low v.log.text)
+  cut-text yes_keeps = cut_resolved.is ∙ ap (λ n. resolved cmp join (text_from n v.log.text)) (begins-at low yes_keeps)
 
   cut-low : IsTrue keeps → v.log.from ≤ low
   cut-low yes_keeps = (let at = t.begins ∙ begins-at v.log.begin yes_keeps in omega arith)
 
   rises : IsRising v.log.text
-  rises = alike-rising (stood cmp join v.log.text) v.log.text (alike_back cmp join v.log.text) (subst IsRising s.is t.rising)
+  rises = alike-rising (resolved cmp join v.log.text) v.log.text (alike_back cmp join v.log.text) (subst IsRising s.is t.rising)
 
   cut-valued : IsTrue keeps → AreValued (text_from low v.log.text)
-  cut-valued yes_keeps = subst (λ n. AreValued (text_from n v.log.text)) (begins-at low yes_keeps) cut_stood.valued
+  cut-valued yes_keeps = subst (λ n. AreValued (text_from n v.log.text)) (begins-at low yes_keeps) cut_resolved.valued
 
   pub last-cleared : IsTrue keeps → (k : K) → value_of (last_of cmp text k) ≡ value_of (last_of cmp v.text k)
   last-cleared yes_keeps k =
@@ -192,12 +192,12 @@ module _ {K V : Type 0} {keeps : Bool} (cmp : K → K → Ordering) (join : V �
 
   still-cleared : IsTrue keeps → (k : K) (safe : ℕ) → IsStill safe (last_of cmp v.text k) → IsStill safe (last_of cmp text k)
   still-cleared yes_keeps k safe still =
-      let before : IsStill safe (last_of cmp v.log.text k) = still-unstood cmp join v.log.text s.valued (has_key cmp k) (λ e x. refl) safe (subst (λ u. IsStill safe (last_of cmp u k)) s.is still) in
+      let before : IsStill safe (last_of cmp v.log.text k) = still-unresolved cmp join v.log.text s.valued (has_key cmp k) (λ e x. refl) safe (subst (λ u. IsStill safe (last_of cmp u k)) s.is still) in
       let after : IsStill safe (last_of cmp (text_from low v.log.text) k) = elim (last-cut cmp v.log.from low v.log.text rises (cut-low yes_keeps) k) [
         | inl same ↦ subst (IsStill safe) (sym same) before
         | inr gone ↦ subst (IsStill safe) (sym gone.gone) tt
       ] in
-      subst (λ u. IsStill safe (last_of cmp u k)) (sym (cut-text yes_keeps)) (still-stood cmp join (text_from low v.log.text) (cut-valued yes_keeps) (has_key cmp k) (λ e x. refl) safe after)
+      subst (λ u. IsStill safe (last_of cmp u k)) (sym (cut-text yes_keeps)) (still-resolved cmp join (text_from low v.log.text) (cut-valued yes_keeps) (has_key cmp k) (λ e x. refl) safe after)
 
   led : (k : K) (e : IndexEntry) → IsEntryOf v (class_in code v k) e → newest cmp v.text k (address_of e.word) ≡ last_of cmp v.text k
   led k e was = traced-held cmp code v k order t (address_of e.word) (entry-stands v.words (class_in code v k).bucket (class_in code v k).tag e.place e.word t.map was)
@@ -207,11 +207,11 @@ module _ {K V : Type 0} {keeps : Bool} (cmp : K → K → Ordering) (join : V �
 
   -- an entry that stands still stood before
   module _ (k : K) (e : IndexEntry) (was : WasEntryOf v (class_in code v k) e) where
-    was-stood : word_at (truncated keeps v low text).words e.place ≡ e.word → word_at v.words e.place ≡ e.word
-    was-stood here = swept-stood low v.words (truncated keeps v low text).words (sweeps low v.words) e.place e.word was.final here
+    was-resolved : word_at (truncated keeps v low text).words e.place ≡ e.word → word_at v.words e.place ≡ e.word
+    was-resolved here = swept-resolved low v.words (truncated keeps v low text).words (sweeps low v.words) e.place e.word was.final here
 
-    entry-stood : word_at (truncated keeps v low text).words e.place ≡ e.word → IsEntryOf v (class_in code v k) e
-    entry-stood here = record { bucket = was.bucket; place = was.place; word = was-stood here; final = was.final; tag = was.tag }
+    entry-resolved : word_at (truncated keeps v low text).words e.place ≡ e.word → IsEntryOf v (class_in code v k) e
+    entry-resolved here = record { bucket = was.bucket; place = was.place; word = was-resolved here; final = was.final; tag = was.tag }
 
     was-cut : WasEntryOf (truncated keeps v low text) (class_in code v k) e
     was-cut = record { place = ((sweeps low v.words).places e.place).1 was.place; bucket = was.bucket; final = was.final; tag = was.tag }
@@ -226,12 +226,12 @@ module _ {K V : Type 0} {keeps : Bool} (cmp : K → K → Ordering) (join : V �
     value = λ yes_keeps here.
         ap value_of (led-cut k e (entry-cut k e h.entry here))
         ∙ last-cleared yes_keeps k
-        ∙ ap value_of (sym (led k e (entry-stood k e h.entry here)))
-        ∙ h.value yes_keeps (was-stood k e h.entry here);
+        ∙ ap value_of (sym (led k e (entry-resolved k e h.entry here)))
+        ∙ h.value yes_keeps (was-resolved k e h.entry here);
     still = λ yes_keeps here.
-        let still = h.still yes_keeps (was-stood k e h.entry here) in
+        let still = h.still yes_keeps (was-resolved k e h.entry here) in
         subst (IsStill v.log.regions.offsets.safe_read_only) (sym (led-cut k e (entry-cut k e h.entry here)))
-        (still-cleared yes_keeps k v.log.regions.offsets.safe_read_only (subst (IsStill v.log.regions.offsets.safe_read_only) (led k e (entry-stood k e h.entry here)) still));
+        (still-cleared yes_keeps k v.log.regions.offsets.safe_read_only (subst (IsStill v.log.regions.offsets.safe_read_only) (led k e (entry-resolved k e h.entry here)) still));
     nowhere = h.nowhere;
   }
 
@@ -247,25 +247,25 @@ module _ {K V : Type 0} {keeps : Bool} (cmp : K → K → Ordering) (join : V �
       blind e x = refl
 
       -- what the newest stands for, before and after
-      before : (o : Option (Entry K V)) → newest cmp v.log.text k a ≡ o → newest cmp v.text k a ≡ option_map (having (value_of (newest cmp v.text k a))) o
-      before o h = subst (λ u. newest cmp u k a ≡ option_map (having (value_of (newest cmp u k a))) o) (sym s.is) (subst (λ l. newest cmp (stood cmp join v.log.text) k a ≡ option_map (having (value_of (newest cmp (stood cmp join v.log.text) k a))) l) h (stood-last cmp join v.log.text passes blind))
+      before : (o : Option (Entry K V)) → newest cmp v.log.text k a ≡ o → newest cmp v.text k a ≡ option_map (with_other_value (value_of (newest cmp v.text k a))) o
+      before o h = subst (λ u. newest cmp u k a ≡ option_map (with_other_value (value_of (newest cmp u k a))) o) (sym s.is) (subst (λ l. newest cmp (resolved cmp join v.log.text) k a ≡ option_map (with_other_value (value_of (newest cmp (resolved cmp join v.log.text) k a))) l) h (resolved-last cmp join v.log.text passes blind))
 
-      after : (o : Option (Entry K V)) → newest cmp (text_from low v.log.text) k a ≡ o → newest cmp text k a ≡ option_map (having (value_of (newest cmp text k a))) o
-      after o h = subst (λ u. newest cmp u k a ≡ option_map (having (value_of (newest cmp u k a))) o) (sym (cut-text yes_keeps)) (subst (λ l. newest cmp (stood cmp join (text_from low v.log.text)) k a ≡ option_map (having (value_of (newest cmp (stood cmp join (text_from low v.log.text)) k a))) l) h (stood-last cmp join (text_from low v.log.text) passes blind))
+      after : (o : Option (Entry K V)) → newest cmp (text_from low v.log.text) k a ≡ o → newest cmp text k a ≡ option_map (with_other_value (value_of (newest cmp text k a))) o
+      after o h = subst (λ u. newest cmp u k a ≡ option_map (with_other_value (value_of (newest cmp u k a))) o) (sym (cut-text yes_keeps)) (subst (λ l. newest cmp (resolved cmp join (text_from low v.log.text)) k a ≡ option_map (with_other_value (value_of (newest cmp (resolved cmp join (text_from low v.log.text)) k a))) l) h (resolved-last cmp join (text_from low v.log.text) passes blind))
 
       -- a record that is covered is not the last of its key, whatever it stands for
-      passed-by : (e : Entry K V) → newest cmp v.log.text k a ≡ Some e → IsCovered cmp v.log.text e → (x : Option V) → last_of cmp v.text k ≢ Some (having x e)
+      passed-by : (e : Entry K V) → newest cmp v.log.text k a ≡ Some e → IsCovered cmp v.log.text e → (x : Option V) → last_of cmp v.text k ≢ Some (with_other_value x e)
       passed-by e h covered x last = by_last (last_of cmp v.log.text k) refl
         where
           by_last : (o : Option (Entry K V)) → last_of cmp v.log.text k ≡ o → ⊥
           by_last None g =
-              let none : last_of cmp v.text k ≡ None = ap (λ u. last_of cmp u k) s.is ∙ stood-last cmp join v.log.text (has_key cmp k) (λ d y. refl) ∙ ap (option_map (having _)) g in
-              absurd (let bad : Some (having x e) ≡ None = sym last ∙ none in cc)
+              let none : last_of cmp v.text k ≡ None = ap (λ u. last_of cmp u k) s.is ∙ resolved-last cmp join v.log.text (has_key cmp k) (λ d y. refl) ∙ ap (option_map (with_other_value _)) g in
+              absurd (let bad : Some (with_other_value x e) ≡ None = sym last ∙ none in cc)
           by_last (Some d) g =
-              let y : Option V = value_of (last_of cmp (stood cmp join v.log.text) k) in
-              let there : last_of cmp v.text k ≡ Some (having y d) = ap (λ u. last_of cmp u k) s.is ∙ stood-last cmp join v.log.text (has_key cmp k) (λ d y. refl) ∙ ap (option_map (having y)) g in
-              let both : Some (having y d) ≡ Some (having x e) = sym there ∙ last in
-              let one : having y d ≡ having x e = cc in
+              let y : Option V = value_of (last_of cmp (resolved cmp join v.log.text) k) in
+              let there : last_of cmp v.text k ≡ Some (with_other_value y d) = ap (λ u. last_of cmp u k) s.is ∙ resolved-last cmp join v.log.text (has_key cmp k) (λ d y. refl) ∙ ap (option_map (with_other_value y)) g in
+              let both : Some (with_other_value y d) ≡ Some (with_other_value x e) = sym there ∙ last in
+              let one : with_other_value y d ≡ with_other_value x e = cc in
               let at : d.address ≡ e.address = ap (λ (z : Entry K V). z.address) one in
               let m = last_where-in passes v.log.text e h in
               let n = last_where-in (has_key cmp k) v.log.text d g in
@@ -275,7 +275,7 @@ module _ {K V : Type 0} {keeps : Bool} (cmp : K → K → Ordering) (join : V �
 
       by_cover : (e : Entry K V) → newest cmp v.log.text k a ≡ Some e → IsCovered cmp v.log.text e ⊎ (IsCovered cmp v.log.text e → ⊥)
           → (newest cmp text k a ≡ newest cmp v.text k a) ⊎ LosesByCut cmp (indexed v) (indexed (truncated keeps v low text)) k a
-      by_cover e h (inl covered) = inr (passed (having (value_of (newest cmp v.text k a)) e) (before (Some e) h) (passed-by e h covered (value_of (newest cmp v.text k a))))
+      by_cover e h (inl covered) = inr (passed (with_other_value (value_of (newest cmp v.text k a)) e) (before (Some e) h) (passed-by e h covered (value_of (newest cmp v.text k a))))
       by_cover e h (inr uncovered) = elim (cases_lt e.address low) [
         | inr high ↦
             (let stays = cut-newest_stays cmp v.log.text low k a e h high in
@@ -283,12 +283,12 @@ module _ {K V : Type 0} {keeps : Bool} (cmp : K → K → Ordering) (join : V �
             ap (λ u. value_of (newest cmp u k a)) (cut-text yes_keeps)
             ∙ cut-newest cmp join order v.log.text rises low (clear yes_keeps) k a (λ d g c. uncovered (let both : Some d ≡ Some e = sym g ∙ h in let same : d ≡ e = cc in subst (IsCovered cmp v.log.text) same c))
             ∙ ap (λ u. value_of (newest cmp u k a)) (sym s.is) in
-            inl (after (Some e) stays ∙ ap (λ x. Some (having x e)) value ∙ sym (before (Some e) h)))
+            inl (after (Some e) stays ∙ ap (λ x. Some (with_other_value x e)) value ∙ sym (before (Some e) h)))
         | inl under ↦
             (let there = entry_at-in v.log.text rises e (last_where-in passes v.log.text e h) e.address refl in
             let none : e.value ≡ None = elim (clear yes_keeps e there under) [ inl none ↦ none | inr covered ↦ absurd (uncovered covered) ] in
-            let dead : value_of (newest cmp v.text k a) ≡ None = ap (λ u. value_of (newest cmp u k a)) s.is ∙ dead-stood cmp join v.log.text s.valued passes blind 0 e h none in
-            inr (dropped (having (value_of (newest cmp v.text k a)) e) (before (Some e) h) dead (after None (cut-newest_gone cmp v.log.text low rises k a e h under))))
+            let dead : value_of (newest cmp v.text k a) ≡ None = ap (λ u. value_of (newest cmp u k a)) s.is ∙ dead-resolved cmp join v.log.text s.valued passes blind 0 e h none in
+            inr (dropped (with_other_value (value_of (newest cmp v.text k a)) e) (before (Some e) h) dead (after None (cut-newest_gone cmp v.log.text low rises k a e h under))))
       ]
 
       by_newest : (o : Option (Entry K V)) → newest cmp v.log.text k a ≡ o
@@ -304,7 +304,7 @@ module _ {K V : Type 0} {keeps : Bool} (cmp : K → K → Ordering) (join : V �
     tail = omega arith;
     records = λ k a under still. newest-cut-at yes_keeps k a;
     places = λ p h. ((sweeps low v.words).places p).1 h;
-    words = λ p w final here. inl (swept-stood low v.words (truncated keeps v low text).words (sweeps low v.words) p w final here);
+    words = λ p w final here. inl (swept-resolved low v.words (truncated keeps v low text).words (sweeps low v.words) p w final here);
   }
 
   -- a look-up that waits is to look again
@@ -335,15 +335,15 @@ module _ {K V : Type 0} {keeps : Bool} (cmp : K → K → Ordering) (join : V �
   stands-cut (Merge k i) (Load l) h = h
 
 -- ---- a whole partition
-module _ {K V I : Type 0} {keeps : Bool} (cmp : K → K → Ordering) (join : V → V → V) (code : K → ℕ) (order : IsKeyOrder cmp) (v : PartitionView K V I) (s : IsSound keeps cmp join code v) (low now : ℕ) (up : v.records.log.begin < low) (clear : IsTrue keeps → IsCleared cmp v.records.log.text low) (text : List (Entry K V)) (cut : IsTraced keeps code (truncated keeps v.records low text)) (cut_stood : IsStood cmp join (truncated keeps v.records low text)) where
+module _ {K V I : Type 0} {keeps : Bool} (cmp : K → K → Ordering) (join : V → V → V) (code : K → ℕ) (order : IsKeyOrder cmp) (v : PartitionView K V I) (s : IsSound keeps cmp join code v) (low now : ℕ) (up : v.records.log.begin < low) (clear : IsTrue keeps → IsCleared cmp v.records.log.text low) (text : List (Entry K V)) (cut : IsTraced keeps code (truncated keeps v.records low text)) (cut_resolved : IsResolved cmp join (truncated keeps v.records low text)) where
   pub sound-truncated : IsSound keeps cmp join code (record v { records = truncated keeps v.records low text; moment = now })
   sound-truncated = record {
     own = s.own;
     counted = s.counted;
     places = s.places;
     traced = cut;
-    stood = cut_stood;
-    stands = λ p x h. stands-cut cmp join code order v.records s.traced s.stood low up clear text cut cut_stood x.op x.phase (s.stands p x h);
+    resolved = cut_resolved;
+    stands = λ p x h. stands-cut cmp join code order v.records s.traced s.resolved low up clear text cut cut_resolved x.op x.phase (s.stands p x h);
     owned = record {
       tentative = λ p q h. same q ∙ s.owned.tentative p q h;
       owner = λ q h. s.owned.owner q (sym (same q) ∙ h);
@@ -389,7 +389,7 @@ module _ {K V I : Type 0} {keeps : Bool} (cmp : K → K → Ordering) (join : V 
   event-truncated page is = record {
     same = λ t d. refl;
     pend = none-pending;
-    live = λ yes_keeps k. last-cleared cmp join code order v.records s.traced s.stood low up clear text cut cut_stood yes_keeps k;
+    live = λ yes_keeps k. last-cleared cmp join code order v.records s.traced s.resolved low up clear text cut cut_resolved yes_keeps k;
     begin = is;
     regions = refl;
     number = refl;

@@ -11,7 +11,7 @@ use Rattle.fkv_device.specs.Failing.{ReadFailsBy}
 use Rattle.fkv_texts.specs.declared.entries.Entry.{Entry}
 use Rattle.fkv_lookups.specs.Lookups.{IsOfClass}
 use Rattle.fkv_lookups.specs.RecordsViews.{RecordsView}
-use Rattle.fkv_lookups.specs.Traced.{IsTraced, IsStood}
+use Rattle.fkv_lookups.specs.Traced.{IsTraced, IsResolved}
 use Rattle.fkv_lookups.proofs.TracedLemmas.{raw, traced-raw}
 use Rattle.fkv_operations.specs.declared.entries.IndexEntry.{IndexEntry}
 use Rattle.fkv_partition.specs.declared.contexts.Progress.{Progress}
@@ -62,5 +62,5 @@ module _ {K V I O R : Type 0} {old new : PartitionView K V I} {page : ℕ} {P : 
     checks-not (ChecksLiveness.further kept b parts checked asked) h = asks-not asked h
 
 -- ---- a record of a key's class stands at a place
-pub class-place : {K V : Type 0} {keeps : Bool} {cmp : K → K → Ordering} {join : V → V → V} {code : K → ℕ} (v : RecordsView K V) → IsTraced keeps code v → IsStood cmp join v → (k : K) (a : ℕ) → IsOfClass code v k a → IsRecordStart v.log.bits v.record_size a
-class-place v traced stood k a class = entry-place (raw v) (traced-raw traced stood) a (rw class.here refl)
+pub class-place : {K V : Type 0} {keeps : Bool} {cmp : K → K → Ordering} {join : V → V → V} {code : K → ℕ} (v : RecordsView K V) → IsTraced keeps code v → IsResolved cmp join v → (k : K) (a : ℕ) → IsOfClass code v k a → IsRecordStart v.log.bits v.record_size a
+class-place v traced resolved k a class = entry-place (raw v) (traced-raw traced resolved) a (rw class.here refl)

@@ -1,5 +1,5 @@
 -- What events of the core, and of relocations, are to their partition.
-use Rattle.std.proofs.Common.{◌≡◌, ◌≢◌, Bool, true, false, cond, ◌&&◌, ℕ, ◌+◌, ◌*◌, ◌<◌, ◌⊎◌, inl, inr, IsTrue, Option, Some, None, Result, Ok, Err, IfOk, IfErr, OnOk, option_map, slice_get, slice_set, nat_lt, refl, sym, ◌∙◌, ap, arith}
+use Rattle.std.proofs.Common.{List, ◌≡◌, ◌≢◌, Bool, true, false, cond, ◌&&◌, ℕ, ◌+◌, ◌*◌, ◌<◌, ◌⊎◌, inl, inr, IsTrue, Option, Some, None, Result, Ok, Err, IfOk, IfErr, OnOk, option_map, slice_get, slice_set, nat_lt, refl, sym, ◌∙◌, ap, arith}
 use Rattle.std.proofs.lemmas.Bool.{cases_eq}
 use Rattle.std.proofs.lemmas.Bool.Decides.{nat_tests}
 use Rattle.std.specs.declared.cmp.Ordering.{Ordering}
@@ -16,7 +16,13 @@ use Rattle.fkv_partition.specs.declared.contexts.Context.{Context}
 use Rattle.fkv_partition.specs.declared.contexts.Progress.{Progress}
 use Rattle.fkv_partition.specs.declared.contexts.Progress.TheVariants.{Done, Next, NeedsBuild, NeedsLoad, Waits}
 use Rattle.fkv_partition.specs.Contexts.{joined, is_session, context_in, on_key, relocating}
+use Rattle.fkv_partition.specs.KeyBeginning as beginning
 use Rattle.fkv_partition.specs.KeyEffect as key_effect
+use Rattle.fkv_partition.specs.Moves as moves
+use Rattle.fkv_partition.specs.Flushing as flushing
+use Rattle.fkv_partition.specs.Events as events
+use Rattle.fkv_partition.proofs.SeatLemmas.{Seats, enters-seats, refreshes-seats, shifts-seats, evicts-seats, flushes-seats}
+use Rattle.fkv_device.specs.Standing.{Standing}
 use Rattle.fkv_partition.specs.Grown.{RelocationsStay, IsPassedOn, AllStay}
 use Rattle.fkv_partition.specs.Pending.{Pending, pending, pending_of, OthersPend}
 use Rattle.fkv_partition.specs.Views.{PartitionView, slots_of, held_at, context_at, live_of, relocation_at, with_relocation}
@@ -353,3 +359,24 @@ issued-event {K} {V} {I} v slot c now y s few low inside free number r =
       cleared = refl;
       frame = relocating-frame v (with_relocation v slot c (Some y) now) slot c now r;
     }
+
+-- ---- an event of a session or of pages, which leaves relocations and sessions
+module _ {K V I : Type 0} (old new : PartitionView K V I) where
+  pub quiet-passed : {keeps : Bool} {cmp : K → K → Ordering} {join : V → V → V} {code : K → ℕ} (now : ℕ) → IsSound keeps cmp join code old → Seats old new → key_effect.IsQuiet keeps old new now → IsQuiet keeps old new now
+  quiet-passed now sound seats q = quiet-event old new now seats.0.cleared (relocations-stay old new sound seats.0.relocations (all-stay old new seats.1)) q
+
+  pub enters-done : (now : ℕ) (result : Result ℕ Refused) → beginning.Enters old new now result → events.Enters old new now result
+  enters-done now result h = record { does = h; rest = (enters-seats old new now result h).0 }
+
+  module _ (keeps : Bool) where
+    pub refreshes-done : (slot now : ℕ) (result : Result (Unit {0}) Refused) → moves.Refreshes keeps old new slot now result → events.Refreshes keeps old new slot now result
+    refreshes-done slot now result h = record { does = h; rest = (refreshes-seats old new keeps slot now result h).0 }
+
+    pub shifts-done : (page now : ℕ) (result : Result (Unit {0}) Refused) → moves.Shifts keeps old new page now result → events.Shifts keeps old new page now result
+    shifts-done page now result h = record { does = h; rest = (shifts-seats old new keeps page now result h).0 }
+
+    pub evicts-done : (page now : ℕ) (result : Result (Unit {0}) Refused) → moves.Evicts keeps old new page now result → events.Evicts keeps old new page now result
+    evicts-done page now result h = record { does = h; rest = (evicts-seats old new keeps page now result h).0 }
+
+  pub flushes-done : (s : Standing) (bytes : List ℕ) (now : ℕ) (result : Result (Unit {0}) Refused) → flushing.Flushes old new s bytes now result → events.Flushes old new s bytes now result
+  flushes-done s bytes now result h = record { does = h; rest = (flushes-seats old new s bytes now result h).0 }

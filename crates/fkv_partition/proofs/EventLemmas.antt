@@ -23,7 +23,7 @@ use Rattle.fkv_operations.specs.declared.operations.KeyedOp.TheVariants.{Read, U
 use Rattle.fkv_operations.specs.declared.operations.Answer.{Answer}
 use Rattle.fkv_operations.specs.declared.operations.Answer.TheVariants.{Value, Declined}
 use Rattle.fkv_texts.specs.Text.{last_of, newest, value_of, live}
-use Rattle.fkv_index.specs.declared.places.Place.{Place}
+use Rattle.fkv_index.specs.declared.words.Place.{Place}
 use Rattle.fkv_index.specs.Words.{address_of}
 use Rattle.fkv_index.specs.Places.{word_at}
 use Rattle.fkv_index.specs.Entries.{IsAlone}

@@ -15,7 +15,7 @@ use Rattle.fkv_operations.specs.declared.entries.IndexEntry.{IndexEntry}
 use Rattle.fkv_operations.specs.declared.operations.Answer.TheVariants.{Value, Declined}
 use Rattle.fkv_operations.specs.declared.operations.KeyedOp.{KeyedOp}
 use Rattle.fkv_index.specs.declared.words.Word.{Word}
-use Rattle.fkv_index.specs.declared.places.Place.{Place}
+use Rattle.fkv_index.specs.declared.words.Place.{Place}
 use Rattle.fkv_index.specs.Words.{empty, address_of, is_final_of}
 use Rattle.fkv_index.specs.Places.{words_of, word_at}
 use Rattle.fkv_index.specs.Entries.{entry_at, place_of}

@@ -20,10 +20,10 @@ use Rattle.fkv_texts.specs.Text.{set_at}
 use Rattle.fkv_texts.proofs.ChangeLemmas.{by_test, entry_at-elsewhere, was_at, set_at-address, set_at-key}
 use Rattle.fkv_texts.proofs.CutLemmas.{cut-entry, filter-in}
 use Rattle.fkv_texts.specs.Chains.{IsIn}
-use Rattle.fkv_texts.specs.Deltas.{onto}
+use Rattle.fkv_texts.specs.Deltas.{combined}
 use Rattle.fkv_functions.proofs.ListLemmas.{get-append_cases}
 use Rattle.std.specs.BTreeMap.{is_at}
-use Rattle.fkv_index.specs.declared.places.Place.{Place}
+use Rattle.fkv_index.specs.declared.words.Place.{Place}
 use Rattle.fkv_index.specs.declared.words.Word.{Word}
 use Rattle.fkv_index.specs.Words.{address_of, final_word, tag_of, is_final}
 use Rattle.fkv_index.specs.Places.{word_at, with_word, IsPlace}
@@ -151,7 +151,7 @@ loading-grown keeps cmp join code old new k l t g h =
             newest =
                 ap value_of (kept-same yes_keeps same)
                 ∙ was.newest
-                ∙ sym (ap (λ o. onto join (value_of o) l.parts) (g.kept yes_keeps k l.wanted taken (still-below cmp old.text k l.wanted old.log.regions.offsets.safe_read_only frozen)));
+                ∙ sym (ap (λ o. combined join (value_of o) l.parts) (g.kept yes_keeps k l.wanted taken (still-below cmp old.text k l.wanted old.log.regions.offsets.safe_read_only frozen)));
             between = λ e m key above under.
                 let d = g.was e m (omega (arith, low, under)) in
                 let own : has_key cmp k d.0 ≡ true = ap (λ q. is_at (cmp q) k) d.3 ∙ key in

@@ -15,7 +15,7 @@ use Rattle.fkv_texts.proofs.LastWhere.{last_where-in, last_where-found}
 use Rattle.fkv_texts.proofs.PlaceLemmas.{after, after-nearest}
 use Rattle.fkv_texts.specs.Deltas.{IsCleared}
 use Rattle.fkv_lookups.specs.RecordsViews.{RecordsView}
-use Rattle.fkv_lookups.specs.Traced.{IsTraced, IsStood}
+use Rattle.fkv_lookups.specs.Traced.{IsTraced, IsResolved}
 use Rattle.fkv_lookups.proofs.TracedLemmas.{traced-raw}
 use Rattle.fkv_operations.specs.declared.entries.IndexEntry.{IndexEntry}
 use Rattle.fkv_functions.proofs.ListLemmas.{get-set_cases}
@@ -81,7 +81,7 @@ none-in (suc n) (suc p) x e = none-in n p x e
 module _ {K V I : Type 0} (keeps : Bool) (cmp : K → K → Ordering) (join : V → V → V) (code : K → ℕ) where
   -- ---- an event of the partition
   -- a relocation that is to append its record again
-  ready-kept : (old new : PartitionView K V I) → IsTraced keeps code new.records → IsStood cmp join new.records → IsPreserved keeps cmp join code old new → (place : ℕ) → place < old.records.log.regions.offsets.safe_read_only → (entry : Entry K V) (kept : IndexEntry)
+  ready-kept : (old new : PartitionView K V I) → IsTraced keeps code new.records → IsResolved cmp join new.records → IsPreserved keeps cmp join code old new → (place : ℕ) → place < old.records.log.regions.offsets.safe_read_only → (entry : Entry K V) (kept : IndexEntry)
       → IsReady keeps cmp join code old.records place entry kept → IsReady keeps cmp join code new.records place entry kept
   ready-kept old new t st b place frozen entry kept h = record {
     here = h.here;
@@ -100,7 +100,7 @@ module _ {K V I : Type 0} (keeps : Bool) (cmp : K → K → Ordering) (join : V 
   }
 
   -- a relocation stands for what it stood for
-  stage-kept : (old new : PartitionView K V I) → new.number ≡ old.number → new.count ≡ old.count → IsTraced keeps code new.records → IsStood cmp join new.records → IsPreserved keeps cmp join code old new
+  stage-kept : (old new : PartitionView K V I) → new.number ≡ old.number → new.count ≡ old.count → IsTraced keeps code new.records → IsResolved cmp join new.records → IsPreserved keeps cmp join code old new
       → (place : ℕ) → place < old.records.log.regions.offsets.safe_read_only → (stage : Stage K V) → StageStands keeps cmp join code old place stage → StageStands keeps cmp join code new place stage
   stage-kept old new number count t st b place frozen Fresh h = tt
   stage-kept old new number count t st b place frozen (Reading begin) h =
@@ -121,10 +121,10 @@ module _ {K V I : Type 0} (keeps : Bool) (cmp : K → K → Ordering) (join : V 
       is = λ yes_keeps same.
           let past = h.1.loading.past in
           let up = b.grown.begin in
-          let stood : l.begin ≡ old.records.log.begin = omega (arith, past, up, same) in
+          let resolved : l.begin ≡ old.records.log.begin = omega (arith, past, up, same) in
           let from : new.records.log.from ≡ new.records.log.begin = t.begins ∙ kept-begin keeps new.records.log.begin new.records.log.regions.offsets.closed yes_keeps in
           let begun = h.1.begun in
-          b.grown.stay place (omega (arith, from, begun, same)) frozen ∙ h.1.is yes_keeps stood;
+          b.grown.stay place (omega (arith, from, begun, same)) frozen ∙ h.1.is yes_keeps resolved;
     },
   )
   stage-kept old new number count t st b place frozen (Ready entry kept) h =
@@ -135,7 +135,7 @@ module _ {K V I : Type 0} (keeps : Bool) (cmp : K → K → Ordering) (join : V 
   pub keep-event : (v : PartitionView K V I) (new : PartitionView K V I)
       → IsCompacting keeps cmp join code v
       → IsTraced keeps code new.records
-      → IsStood cmp join new.records
+      → IsResolved cmp join new.records
       → IsPreserved keeps cmp join code v new
       → new.number ≡ v.number
       → new.count ≡ v.count
@@ -143,7 +143,7 @@ module _ {K V I : Type 0} (keeps : Bool) (cmp : K → K → Ordering) (join : V 
       → new.records.log.begin ≤ v.cleared
       → ((p : ℕ) (x : Relocation K V) → slice_get new.contexts p ≡ Some (Some (Relocating x)) → slice_get v.contexts p ≡ Some (Some (Relocating x)))
       → IsCompacting keeps cmp join code new
-  keep-event v new i t st b number count is begun stood =
+  keep-event v new i t st b number count is begun resolved =
       let shape = b.grown.shape in
       record {
         begun = omega (arith, is, begun);
@@ -151,7 +151,7 @@ module _ {K V I : Type 0} (keeps : Bool) (cmp : K → K → Ordering) (join : V 
         place = λ under. rw (is, shape.page_bits, shape.record_size) (i.place (omega (arith, is, under)));
         cleared = λ yes_keeps. rw is (b.grown.clear v.cleared i.low yes_keeps (i.cleared yes_keeps));
         stands = λ p x h.
-            let was = i.stands p x (stood p x h) in
+            let was = i.stands p x (resolved p x h) in
             let safe = b.grown.raised.safe in
             let frozen = was.frozen in
             record {
@@ -192,8 +192,8 @@ module _ {K V I : Type 0} (keeps : Bool) (cmp : K → K → Ordering) (join : V 
       at-moment x h = record { place = h.place; frozen = h.frozen; issued = h.issued; stage = stage-moment v (slice_set v.contexts i y) now cleared x.target x.stage h.stage }
 
   -- nothing else changes
-  pub keep-risen : (v : PartitionView K V I) (cleared : ℕ) → IsCompacting keeps cmp join code v → MayClear keeps cmp v cleared → IsCompacting keeps cmp join code (record v { cleared = cleared })
-  keep-risen v cleared s r = record {
+  pub keep-value_after : (v : PartitionView K V I) (cleared : ℕ) → IsCompacting keeps cmp join code v → MayClear keeps cmp v cleared → IsCompacting keeps cmp join code (record v { cleared = cleared })
+  keep-value_after v cleared s r = record {
     begun = (let up = r.higher in let begun = s.begun in omega arith);
     low = r.low;
     place = r.place;

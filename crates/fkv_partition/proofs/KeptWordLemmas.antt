@@ -38,8 +38,8 @@ module _ {K V I : Type 0} {keeps : Bool} (cmp : K → K → Ordering) (join : V 
       (preserves : (old new : PartitionView K V I) → IsPartition keeps cmp join code old → IsPartition keeps cmp join code new → Event keeps stands spells cmp join f code old new → IsPreserved keeps cmp join code old new) where
     pub are-next : (v : PartitionView K V I) (vs : List (PartitionView K V I)) → IsPartition keeps cmp join code v → v.records.partition_bits ≡ p → v.records.bucket_bits ≡ b → AreEvents keeps stands spells cmp join f code v vs → ReuseNoAddress cmp (class_of code p b) (indexed v.records) (indexed_all vs)
     are-next v [] s is at h = tt
-    are-next v (w ∷ ws) s is at (event, known, more) =
-        let borne = preserves v w s known event in
+    are-next v (w ∷ ws) s is at (event, facts, more) =
+        let borne = preserves v w s facts event in
         let here = borne.grown.shape.partition_bits ∙ is in
         let there = borne.grown.shape.bucket_bits ∙ at in
-        (borne.next yes_keeps, led-at w known.sound here there, are-next w ws known here there more)
+        (borne.next yes_keeps, led-at w facts.sound here there, are-next w ws facts here there more)

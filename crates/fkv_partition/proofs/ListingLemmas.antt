@@ -8,7 +8,7 @@ use Rattle.std.specs.Cmp.{IsTotalOrder, eq_by_cmp_equiv}
 use Rattle.std.proofs.lemmas.Map.Views.{All-keys_from_lookup}
 use Rattle.fkv_texts.specs.declared.entries.Entry.{Entry}
 use Rattle.fkv_texts.specs.Text.{last_of, value_of, live}
-use Rattle.fkv_texts.specs.Deltas.{stood}
+use Rattle.fkv_texts.specs.Deltas.{resolved}
 use Rattle.fkv_texts.proofs.StoodLemmas.{AreAlike, alike, alike-get}
 use Rattle.fkv_lookups.specs.Overlays.{said_over, with_text, IsApart}
 use Rattle.fkv_functions.specs.Plain.{IsKeyOrder, PlainMap}
@@ -16,8 +16,8 @@ use Rattle.fkv_partition.specs.Views.{PartitionView, partition_of, live_of, IsBa
 use Rattle.fkv_partition.specs.KeySound.{IsSound}
 
 -- what holds of the key of each record holds of it once the records stand
-stood-keys : {K V : Type 0} (cmp : K → K → Ordering) (join : V → V → V) (P : K → Type 0) (es text : List (Entry K V)) → text ≡ stood cmp join es → ((i : ℕ) (e : Entry K V) → slice_get es i ≡ Some e → P e.key) → (i : ℕ) (e : Entry K V) → slice_get text i ≡ Some e → P e.key
-stood-keys {K} {V} cmp join P es text is h i e g =
+resolved-keys : {K V : Type 0} (cmp : K → K → Ordering) (join : V → V → V) (P : K → Type 0) (es text : List (Entry K V)) → text ≡ resolved cmp join es → ((i : ℕ) (e : Entry K V) → slice_get es i ≡ Some e → P e.key) → (i : ℕ) (e : Entry K V) → slice_get text i ≡ Some e → P e.key
+resolved-keys {K} {V} cmp join P es text is h i e g =
     let d = alike-get es text (subst (AreAlike es) (sym is) (alike cmp join es)) i e g in
     subst P (ap (λ (x : Entry K V). x.key) d.2) (h i d.0 d.1)
 
@@ -63,7 +63,7 @@ module _ {K V : Type 0} (cmp : K → K → Ordering) (m : PlainMap K V) (text : 
 -- the keys of the text of a partition belong there
 module _ {K V I : Type 0} {keeps : Bool} {v : PartitionView K V I} (cmp : K → K → Ordering) (join : V → V → V) (code : K → ℕ) (order : IsKeyOrder cmp) (s : IsSound keeps cmp join code v) where
   own-keys : (i : ℕ) (e : Entry K V) → slice_get v.records.text i ≡ Some e → partition_of v.count (code e.key) ≡ v.number
-  own-keys = stood-keys cmp join (λ k. partition_of v.count (code k) ≡ v.number) v.records.log.text v.records.text s.stood.is s.routed
+  own-keys = resolved-keys cmp join (λ k. partition_of v.count (code k) ≡ v.number) v.records.log.text v.records.text s.resolved.is s.routed
 
   pub own-apart : (m : PlainMap K V) → IsBare code v m → IsApart cmp m v.records.text
   own-apart m bare = bare-apart cmp order (λ k. partition_of v.count (code k) ≡ v.number) m v.records.text own-keys bare

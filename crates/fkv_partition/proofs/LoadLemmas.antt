@@ -16,7 +16,7 @@ use Rattle.fkv_texts.specs.declared.entries.Entry.{Entry}
 use Rattle.fkv_texts.specs.declared.entries.ChainPosition.{ChainPosition}
 use Rattle.fkv_texts.specs.declared.entries.ChainPosition.TheVariants.{Below}
 use Rattle.fkv_texts.specs.Text.{newest, value_of}
-use Rattle.fkv_texts.specs.Deltas.{onto, AreDeltasBetween}
+use Rattle.fkv_texts.specs.Deltas.{combined, AreDeltasBetween}
 use Rattle.fkv_lookups.specs.declared.chain_results.ChainResult.{ChainResult}
 use Rattle.fkv_hybrid.specs.Views.{text_begin, receipt_at}
 use Rattle.fkv_hybrid.specs.Loads.{HasReceipt, IsHeldBy, IsReached, first_place}
@@ -57,7 +57,7 @@ loading-by keeps cmp join code r (Merge k i) l h = absurd h
 way-class : {K V : Type 0} (cmp : K → K → Ordering) (join : V → V → V) (code : K → ℕ) (v : RecordsView K V) (k : K) (low a : ℕ) (parts : Option V) (r : ChainResult K V) → ComesTo cmp join code v k low a parts r → (b : ℕ) → r.position ≡ Below b → v.log.from ≤ b → IsOfClass code v k b
 way-class cmp join code v k low a parts r (ComesTo.found is stands high whole) b at begins = absurd (cc)
 way-class cmp join code v k low a parts r (ComesTo.below {b = c} under is class) b at begins = let same : c ≡ b = cc in subst (IsOfClass code v k) same (class (let s = same in omega arith))
-way-class cmp join code v k low a parts r (ComesTo.joins {d = d} is high part more) b at begins = way-class cmp join code v k low d.previous (onto join d.value parts) r more b at begins
+way-class cmp join code v k low a parts r (ComesTo.joins {d = d} is high part more) b at begins = way-class cmp join code v k low d.previous (combined join d.value parts) r more b at begins
 
 abbrev out_of : {K V : Type 0} → ℕ → Result (ChainPosition K V) Refused
 out_of a = Ok (Below a)
@@ -81,7 +81,7 @@ pub gathered-low : {K V : Type 0} (join : V → V → V) (entry : ℕ → Entry 
 gathered-low join entry cmp k bits low a b parts r (ComesToInPage.refused way) is = absurd (cc)
 gathered-low {K} {V} join entry cmp k bits low a b parts r (ComesToInPage.below {b = c} way) is = reached-low entry cmp k bits low a b (Ok (Below c)) way is
 gathered-low join entry cmp k bits low a b parts r (ComesToInPage.found way whole) is = absurd (cc)
-gathered-low join entry cmp k bits low a b parts r (ComesToInPage.joins {d = d} way part more) is = gathered-low join entry cmp k bits low d.previous b (onto join d.value parts) r more is
+gathered-low join entry cmp k bits low a b parts r (ComesToInPage.joins {d = d} way part more) is = gathered-low join entry cmp k bits low d.previous b (combined join d.value parts) r more is
 
 -- what the page that came says
 pub record Came {K V I : Type 0} (keeps : Bool) (entry : ℕ → List ℕ → ℕ → Entry K V → Type 0) (cmp : K → K → Ordering) (join : V → V → V) (code : K → ℕ) (v : PartitionView K V I) (key : K) (wanted : ℕ) (parts : Option V) (st : Standing) (bytes : List ℕ)
@@ -167,14 +167,14 @@ module _ {K V I : Type 0} {keeps : Bool} (cmp : K → K → Ordering) (join : V 
     -- and lead to a place, or below Begin
     pub page-place : IsTrue keeps → (b : ℕ) (parts : Option V) → result ≡ Ok (record { parts = parts; position = Below b }) → v.records.log.begin ≤ b → IsRecordStart v.records.log.bits v.records.record_size b
     page-place yes_keeps b parts is high =
-        class-place v.records s.traced s.stood (key_of x.op) b
+        class-place v.records s.traced s.resolved (key_of x.op) b
         (way-class cmp join code v.records (key_of x.op) floor l.wanted l.parts _ (goes yes_keeps _ is) b refl (let from = kept-from v.records s.traced yes_keeps in omega arith))
 
     -- what the key has from where the entry led, by where the look-up stands
-    pub newest-at : IsTrue keeps → (r : ChainResult K V) → result ≡ Ok r → value_of (newest cmp v.records.text (key_of x.op) (address_of l.kept.word)) ≡ onto join (end_of cmp v.records (key_of x.op) r.position) r.parts
+    pub newest-at : IsTrue keeps → (r : ChainResult K V) → result ≡ Ok r → value_of (newest cmp v.records.text (key_of x.op) (address_of l.kept.word)) ≡ combined join (end_of cmp v.records (key_of x.op) r.position) r.parts
     newest-at yes_keeps r is =
         (loading-at.leads yes_keeps a.begin).newest
-        ∙ values_tell cmp join code v.records (key_of x.op) order s.traced s.stood floor l.wanted l.parts r (goes yes_keeps r is)
+        ∙ values_tell cmp join code v.records (key_of x.op) order s.traced s.resolved floor l.wanted l.parts r (goes yes_keeps r is)
 
     -- below Begin the key has nothing
     nothing-below : (b : ℕ) → b < v.records.log.begin → value_of (newest cmp v.records.text (key_of x.op) b) ≡ None
@@ -182,9 +182,9 @@ module _ {K V I : Type 0} {keeps : Bool} (cmp : K → K → Ordering) (join : V 
         let from = from_first s.traced in
         ap value_of (newest-under cmp v.records (key_of x.op) b s.traced (omega arith))
 
-    told-at : (r : ChainResult K V) (value : Option V) → Tells join v.records.log.begin r value → onto join (end_of cmp v.records (key_of x.op) r.position) r.parts ≡ value
+    told-at : (r : ChainResult K V) (value : Option V) → Tells join v.records.log.begin r value → combined join (end_of cmp v.records (key_of x.op) r.position) r.parts ≡ value
     told-at r value (found e parts) = refl
-    told-at r value (ended b parts under) = ap (λ o. onto join o parts) (nothing-below b under)
+    told-at r value (ended b parts under) = ap (λ o. combined join o parts) (nothing-below b under)
 
     -- the value that is told is what the key has from where the entry led
     pub newest-told : IsTrue keeps → (r : ChainResult K V) (value : Option V) → result ≡ Ok r → Tells join v.records.log.begin r value → value_of (newest cmp v.records.text (key_of x.op) (address_of l.kept.word)) ≡ value
@@ -220,7 +220,7 @@ module _ {K V I : Type 0} {keeps : Bool} (cmp : K → K → Ordering) (join : V 
       further-between : IsTrue keeps → AreDeltasBetween cmp v.records.log.text (key_of x.op) b (address_of l.kept.word)
       further-between yes_keeps e m own above under = elim (cases_lt l.wanted e.address) [
         | inl past ↦ (loading-at.leads yes_keeps a.begin).between e m own past under
-        | inr within ↦ between_tells cmp code v.records (key_of x.op) order (raw-traced cmp join v.records s.stood.is s.traced) join floor l.wanted l.parts (record { parts = parts; position = Below b }) (goes yes_keeps _ is) e m own within above
+        | inr within ↦ between_tells cmp code v.records (key_of x.op) order (raw-traced cmp join v.records s.resolved.is s.traced) join floor l.wanted l.parts (record { parts = parts; position = Below b }) (goes yes_keeps _ is) e m own within above
       ]
 
       pub further-stands : IsLoading keeps cmp join code v.records (key_of x.op) (record l { wanted = b; parts = parts })

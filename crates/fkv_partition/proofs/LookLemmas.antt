@@ -42,7 +42,7 @@ module _ {K V I : Type 0} {keeps : Bool} (cmp : K → K → Ordering) (join : V 
     pub place-there : IsSome (entry_at v.records.log.text x.target)
     place-there =
         let from = low-begun cmp join code v p slot (open-here v slot c x h).inside in
-        place-held (raw v.records) (traced-raw p.traced p.stood) x.target (stands-here v slot c x h s).place (omega arith) (low-here v slot c x h s p.traced)
+        place-held (raw v.records) (traced-raw p.traced p.resolved) x.target (stands-here v slot c x h s).place (omega arith) (low-here v slot c x h s p.traced)
 
     pub place-open : v.records.log.regions.offsets.closed ≤ x.target
     place-open = let closed = low-open cmp join code v p slot (open-here v slot c x h).inside in omega arith

@@ -22,7 +22,7 @@ use Rattle.fkv_texts.proofs.ChangeLemmas.{entry_at-elsewhere}
 use Rattle.fkv_texts.proofs.CutLemmas.{cut-entry, filter-in}
 use Rattle.fkv_texts.proofs.BaseLemmas.{covered-passed}
 use Rattle.fkv_index.specs.declared.words.Word.{Word}
-use Rattle.fkv_index.specs.declared.places.Place.{Place}
+use Rattle.fkv_index.specs.declared.words.Place.{Place}
 use Rattle.fkv_index.specs.Words.{empty, final_word, tentative_word, tag_of, is_tentative, is_final_of}
 use Rattle.fkv_index.specs.Places.{words_of, word_at, with_word, IsPlace}
 use Rattle.fkv_index.specs.Entries.{place_of}
@@ -39,7 +39,7 @@ use Rattle.fkv_operations.specs.declared.operations.Answer.{Answer}
 use Rattle.fkv_lookups.specs.declared.decisions.Decision.TheVariants.{Replace}
 use Rattle.fkv_lookups.specs.RecordsViews.{RecordsView, class_in, indexed, with_written, with_value, with_regions, with_receipt, confirmed, released, moved, truncated, ChangesAt, IsReplaceable}
 use Rattle.fkv_hybrid.specs.Views.{IsTruncationDue}
-use Rattle.fkv_lookups.specs.Traced.{IsTraced, IsStood}
+use Rattle.fkv_lookups.specs.Traced.{IsTraced, IsResolved}
 use Rattle.fkv_texts.specs.Deltas.{IsCleared}
 use Rattle.fkv_lookups.specs.declared.payloads.Payload.{Payload}
 use Rattle.fkv_lookups.specs.declared.payloads.Payload.TheVariants.{Whole}
@@ -162,11 +162,11 @@ module _ {K V : Type 0} {keeps : Bool} (cmp : K → K → Ordering) (join : V �
   }
 
   -- a record that may be changed where it stands lies above all that is cleared
-  pub live-high : (stood : IsStood cmp join v) (a : ℕ) → IsReplaceable cmp v a → (limit : ℕ) → IsCleared cmp v.log.text limit → limit ≤ a
-  live-high stood a m limit c = elim (cases_lt a limit) [
+  pub live-high : (resolved : IsResolved cmp join v) (a : ℕ) → IsReplaceable cmp v a → (limit : ℕ) → IsCleared cmp v.log.text limit → limit ≤ a
+  live-high resolved a m limit c = elim (cases_lt a limit) [
     | inr high ↦ high
     | inl under ↦ absurd (
-        let h = raw-replaceable cmp join v stood t a m in
+        let h = raw-replaceable cmp join v resolved t a m in
         let there : entry_at v.log.text h.entry.address ≡ Some h.entry = ap (entry_at v.log.text) h.at ∙ h.here in
         elim (c h.entry there (let at = h.at in omega arith)) [
           | inl none ↦ none-some h.entry.value none h.some
@@ -294,7 +294,7 @@ module _ {K V I : Type 0} {keeps : Bool} (cmp : K → K → Ordering) (join : V 
     goes-bear stands f result order grows met kept clears (Goes.replaces x value t e d last is r) =
         let m = met x value t e d last in
         borne-value e.address value m.1 (kept e.address value m.0 m.1)
-        (λ limit low h. clears e.address value limit (live-high cmp join code v.records s.traced s.stood e.address m.0 limit h) h)
+        (λ limit low h. clears e.address value limit (live-high cmp join code v.records s.traced s.resolved e.address m.0 limit h) h)
         (ap (λ (u : PartitionView K V I). u.records) is)
     goes-bear stands f result order grows met kept clears (Goes.waits x d is r) = borne-same (ap (λ (u : PartitionView K V I). u.records) is)
     goes-bear stands f result order grows met kept clears (Goes.prepares x source i e d entry is r) = borne-same (ap (λ (u : PartitionView K V I). u.records) is)
@@ -378,23 +378,23 @@ module _ {K V I : Type 0} {keeps : Bool} (cmp : K → K → Ordering) (join : V 
       → (IsTrue keeps → IsTruncationDue v.records.log page → IsCleared cmp v.records.log.text (start_at v.records.log.bits page))
       → ((low limit : ℕ) → IsCleared cmp v.records.log.text limit → IsCleared cmp (text_from low v.records.log.text) limit)
       → IsTraced keeps code new.records
-      → IsStood cmp join new.records
+      → IsResolved cmp join new.records
       → Truncates keeps v new page now result
       → IsPreserved keeps cmp join code v new
-  truncates-bear page now result order clear drops cut cut_stood (Truncates.not_due n is r) = borne-same (ap (λ (u : PartitionView K V I). u.records) is)
-  truncates-bear page now result order clear drops cut cut_stood (Truncates.truncates due is r) =
+  truncates-bear page now result order clear drops cut cut_resolved (Truncates.not_due n is r) = borne-same (ap (λ (u : PartitionView K V I). u.records) is)
+  truncates-bear page now result order clear drops cut cut_resolved (Truncates.truncates due is r) =
       let low = start_at v.records.log.bits page in
       let text = new.records.text in
       let here : new.records ≡ truncated keeps v.records low text = ap (λ (u : PartitionView K V I). u.records) is in
       let cut_at : IsTraced keeps code (truncated keeps v.records low text) = subst (IsTraced keeps code) here cut in
-      let stood_at : IsStood cmp join (truncated keeps v.records low text) = subst (IsStood cmp join) here cut_stood in
+      let resolved_at : IsResolved cmp join (truncated keeps v.records low text) = subst (IsResolved cmp join) here cut_resolved in
       record {
         bears = subst (λ u. Bears keeps cmp join code v.records u) (sym here) (record {
-          kept = λ k e source was. kept-cut cmp join code order v.records s.traced s.stood low due.higher (λ yes_keeps. clear yes_keeps due) text cut_at stood_at k e source was;
-          loading = λ k l was. loading-cut cmp join code order v.records s.traced s.stood low due.higher (λ yes_keeps. clear yes_keeps due) text cut_at stood_at k l was;
+          kept = λ k e source was. kept-cut cmp join code order v.records s.traced s.resolved low due.higher (λ yes_keeps. clear yes_keeps due) text cut_at resolved_at k e source was;
+          loading = λ k l was. loading-cut cmp join code order v.records s.traced s.resolved low due.higher (λ yes_keeps. clear yes_keeps due) text cut_at resolved_at k l was;
         });
         grown = subst (λ u. IsGrown keeps cmp v.records u) (sym here) (know-cut cmp join code v.records s.traced low text due.higher (λ limit c. drops (text_begin keeps low v.records.log.regions.offsets.closed) limit c));
-        next = λ yes_keeps. subst (λ u. ReusesNoAddress cmp (indexed v.records) (indexed u)) (sym here) (next-cut cmp join code order v.records s.traced s.stood low due.higher (λ yes. clear yes due) text cut_at stood_at yes_keeps);
+        next = λ yes_keeps. subst (λ u. ReusesNoAddress cmp (indexed v.records) (indexed u)) (sym here) (next-cut cmp join code order v.records s.traced s.resolved low due.higher (λ yes. clear yes due) text cut_at resolved_at yes_keeps);
       }
 
 -- a record is appended behind the entry of its class

@@ -139,7 +139,7 @@ module _ {K V I : Type 0} {keeps : Bool} (cmp : K → K → Ordering) (join : V 
         → IsTrue keeps → entry_at v.records.log.text x.target ≡ Some e
     place-read {E} e result is kept yes_keeps =
         let st = stands-here v slot c x here s in
-        by_entry (entry_at v.records.log.text x.target) (frozen-held (raw v.records) (traced-raw sound.traced sound.stood) x.target st.place place-begun st.frozen yes_keeps) (kept yes_keeps)
+        by_entry (entry_at v.records.log.text x.target) (frozen-held (raw v.records) (traced-raw sound.traced sound.resolved) x.target st.place place-begun st.frozen yes_keeps) (kept yes_keeps)
       where
         by_entry : (o : Option (Entry K V)) → IsSome o → IfSome o (λ y. result ≡ Ok y) → o ≡ Some e
         by_entry None some h = absurd (cc)
@@ -151,7 +151,7 @@ module _ {K V I : Type 0} {keeps : Bool} (cmp : K → K → Ordering) (join : V 
         → IsTrue keeps → P
     place-undamaged {E} {P} {why} result is kept yes_keeps =
         let st = stands-here v slot c x here s in
-        by_entry (entry_at v.records.log.text x.target) (frozen-held (raw v.records) (traced-raw sound.traced sound.stood) x.target st.place place-begun st.frozen yes_keeps) (kept yes_keeps)
+        by_entry (entry_at v.records.log.text x.target) (frozen-held (raw v.records) (traced-raw sound.traced sound.resolved) x.target st.place place-begun st.frozen yes_keeps) (kept yes_keeps)
       where
         by_entry : (o : Option (Entry K V)) → IsSome o → IfSome o (λ y. result ≡ Ok y) → P
         by_entry None some h = absurd (cc)

@@ -30,7 +30,7 @@ use Rattle.fkv_partition.specs.Views.{PartitionView, slots_of, context_at, Moves
 use Rattle.fkv_partition.proofs.AskedLemmas.{key_at, context-inside, shown-set, key-moves_nothing, renewed-stays}
 
 -- relocations stay, and no session goes
-abbrev Seats : {K V I : Type 0} → PartitionView K V I → PartitionView K V I → Type 0
+abbrev pub Seats : {K V I : Type 0} → PartitionView K V I → PartitionView K V I → Type 0
 Seats old new = IsPassedOn old new × AllStay old new
 
 module _ {K V I : Type 0} (v new : PartitionView K V I) where

@@ -13,7 +13,7 @@ use Rattle.fkv_regions.specs.Agree.{IsRaised}
 use Rattle.fkv_texts.specs.Text.{newest}
 use Rattle.fkv_texts.proofs.CutLemmas.{filter-in}
 use Rattle.fkv_regions.specs.RegionsView.{RegionsView}
-use Rattle.fkv_index.specs.declared.places.Place.{Place}
+use Rattle.fkv_index.specs.declared.words.Place.{Place}
 use Rattle.fkv_index.specs.Words.{address_of, is_tentative, is_final}
 use Rattle.fkv_index.specs.Places.{word_at}
 use Rattle.fkv_index.specs.Changes.{SameTentative}
@@ -23,7 +23,7 @@ use Rattle.fkv_lookups.specs.RecordsViews.{RecordsView, class_in, IsEntryOf, wit
 use Rattle.fkv_lookups.specs.RecordsViews.{ChangesAt}
 use Rattle.fkv_lookups.specs.declared.payloads.Payload.{Payload}
 use Rattle.fkv_lookups.specs.Payloads.{value_in, is_part}
-use Rattle.fkv_lookups.specs.Traced.{IsTraced, IsStood}
+use Rattle.fkv_lookups.specs.Traced.{IsTraced, IsResolved}
 use Rattle.fkv_operations.specs.Still.{IsStill}
 use Rattle.fkv_operations.specs.declared.entries.IndexEntry.{IndexEntry}
 use Rattle.fkv_partition.specs.declared.limits.Config.{Config}
@@ -47,14 +47,14 @@ set-at xs i y x was is = let set : slice_get (slice_set xs i y) i ≡ Some y = g
 -- ---- whole partitions
 module _ {K V I : Type 0} {keeps : Bool} {cmp : K → K → Ordering} {join : V → V → V} {code : K → ℕ} where
   pub sound-empty : (merges : Bool) (config : Config) (size number : ℕ) → number < 2 ^ config.partition_bits → IsTraced {V = V} keeps code (empty_partition {I = I} merges config size number).records
-      → IsStood cmp join (empty_partition {I = I} merges config size number).records
+      → IsResolved cmp join (empty_partition {I = I} merges config size number).records
       → ((q : Place) → is_tentative (word_at (empty_partition {K = K} {V = V} {I = I} merges config size number).records.words q) ≡ false) → IsSound {V = V} {I = I} keeps cmp join code (empty_partition merges config size number)
-  sound-empty merges config size number h traced stood quiet = record {
+  sound-empty merges config size number h traced resolved quiet = record {
     own = h;
     counted = refl;
     places = refl;
     traced = traced;
-    stood = stood;
+    resolved = resolved;
     stands = λ p x e. absurd (none_in 128 p (OnKey x) e);
     owned = record {
       tentative = λ p q e. absurd (none_claims 128 p q e);
@@ -79,24 +79,24 @@ module _ {K V I : Type 0} {keeps : Bool} {cmp : K → K → Ordering} {join : V 
 
   module _ {v : PartitionView K V I} (s : IsSound keeps cmp join code v) where
     pub sound-moment : (now : ℕ) → IsSound keeps cmp join code (record v { moment = now })
-    sound-moment now = record { own = s.own; counted = s.counted; places = s.places; traced = s.traced; stood = s.stood; stands = s.stands; owned = s.owned; routed = s.routed; asked = s.asked; merging = s.merging; housed = s.housed }
+    sound-moment now = record { own = s.own; counted = s.counted; places = s.places; traced = s.traced; resolved = s.resolved; stands = s.stands; owned = s.owned; routed = s.routed; asked = s.asked; merging = s.merging; housed = s.housed }
 
     pub sound-cleared : (cleared : ℕ) → IsSound keeps cmp join code (record v { cleared = cleared })
-    sound-cleared cleared = record { own = s.own; counted = s.counted; places = s.places; traced = s.traced; stood = s.stood; stands = s.stands; owned = s.owned; routed = s.routed; asked = s.asked; merging = s.merging; housed = s.housed }
+    sound-cleared cleared = record { own = s.own; counted = s.counted; places = s.places; traced = s.traced; resolved = s.resolved; stands = s.stands; owned = s.owned; routed = s.routed; asked = s.asked; merging = s.merging; housed = s.housed }
 
     -- the regions move, sessions come and go, and none with an open operation goes
     pub sound-regions : (regions : RegionsView) (now : ℕ)
         → IsTraced keeps code (with_regions v.records regions)
-        → IsStood cmp join (with_regions v.records regions)
+        → IsResolved cmp join (with_regions v.records regions)
         → IsRaised v.records.log.regions.offsets regions.offsets
         → ((t c : ℕ) (x : OpenWork K V I) → c < 8 → slice_get v.contexts (t * 8 + c) ≡ Some (Some x) → is_session regions.epochs.slots t ≡ true)
         → IsSound keeps cmp join code (in_regions v regions now)
-    sound-regions regions now traced stood up housed = record {
+    sound-regions regions now traced resolved up housed = record {
       own = s.own;
       counted = s.counted;
       places = s.places;
       traced = traced;
-      stood = stood;
+      resolved = resolved;
       stands = λ p x h. stands-grown keeps cmp join code v.records (with_regions v.records regions) x.op x.phase s.traced (grown-regions cmp join code v.records s.traced regions up) (λ q e. refl) (s.stands p x h);
       owned = s.owned;
       routed = s.routed;
@@ -108,17 +108,17 @@ module _ {K V I : Type 0} {keeps : Bool} {cmp : K → K → Ordering} {join : V 
     -- frames are closed too, and the text may begin higher
     pub sound-moved : (r : RecordsView K V) (regions : RegionsView) (now : ℕ)
         → IsTraced keeps code r
-        → IsStood cmp join r
+        → IsResolved cmp join r
         → IsMoved keeps regions v.records r
         → IsRaised v.records.log.regions.offsets r.log.regions.offsets
         → ((t c : ℕ) (x : OpenWork K V I) → c < 8 → slice_get v.contexts (t * 8 + c) ≡ Some (Some x) → is_session r.log.regions.epochs.slots t ≡ true)
         → IsSound keeps cmp join code (record v { records = r; moment = now })
-    sound-moved r regions now traced stood m up housed = record {
+    sound-moved r regions now traced resolved m up housed = record {
       own = s.own;
       counted = s.counted ∙ ap (λ (w : RecordsView K V). 2 ^ w.partition_bits) (sym m.is);
       places = s.places;
       traced = traced;
-      stood = stood;
+      resolved = resolved;
       stands = λ p x h. stands-grown keeps cmp join code v.records r x.op x.phase s.traced (grown-moved cmp join code v.records s.traced r regions m up) (λ q e. ap (λ (w : RecordsView K V). word_at w.words q) m.is) (s.stands p x h);
       owned = subst (λ w. AreOwned w v.contexts) (sym (ap (λ (w : RecordsView K V). w.words) m.is)) s.owned;
       routed = λ i e h.
@@ -133,13 +133,13 @@ module _ {K V I : Type 0} {keeps : Bool} {cmp : K → K → Ordering} {join : V 
         low = text_begin keeps v.records.log.begin regions.offsets.closed
 
     -- a page is flushed
-    pub sound-flushed : (st : Standing) (now : ℕ) → IsTraced keeps code (with_receipt v.records st) → IsStood cmp join (with_receipt v.records st) → IsSound keeps cmp join code (record v { records = with_receipt v.records st; moment = now })
-    sound-flushed st now traced stood = record {
+    pub sound-flushed : (st : Standing) (now : ℕ) → IsTraced keeps code (with_receipt v.records st) → IsResolved cmp join (with_receipt v.records st) → IsSound keeps cmp join code (record v { records = with_receipt v.records st; moment = now })
+    sound-flushed st now traced resolved = record {
       own = s.own;
       counted = s.counted;
       places = s.places;
       traced = traced;
-      stood = stood;
+      resolved = resolved;
       stands = λ p x h. stands-grown keeps cmp join code v.records (with_receipt v.records st) x.op x.phase s.traced (grown-flushed cmp join code v.records s.traced st) (λ q e. refl) (s.stands p x h);
       owned = s.owned;
       routed = s.routed;
@@ -162,7 +162,7 @@ module _ {K V I : Type 0} {keeps : Bool} {cmp : K → K → Ordering} {join : V 
     -- what is asked of records that take the place of others, where a context is set
     pub record Suits (r : RecordsView K V) (slot c : ℕ) (y : Option (OpenWork K V I)) : Type 0 where
       pub traced : IsTraced keeps code r
-      pub stood : IsStood cmp join r
+      pub resolved : IsResolved cmp join r
       pub bits : r.partition_bits ≡ v.records.partition_bits
       pub regions : r.log.regions ≡ v.records.log.regions
       pub routed : (i : ℕ) (e : Entry K V) → slice_get r.log.text i ≡ Some e → partition_of v.count (code e.key) ≡ v.number
@@ -179,7 +179,7 @@ module _ {K V I : Type 0} {keeps : Bool} {cmp : K → K → Ordering} {join : V 
       counted = s.counted ∙ ap (λ n. 2 ^ n) (sym suits.bits);
       places = length-set v.contexts (slot * 8 + c) y ∙ s.places;
       traced = suits.traced;
-      stood = suits.stood;
+      resolved = suits.resolved;
       stands = λ p x h. elim (cases_eq p (slot * 8 + c)) [
         | inl here ↦ (fits x (new p (OnKey x) here h)).stands
         | inr other ↦ suits.others p x other (sym (get-set_other v.contexts (slot * 8 + c) p y other) ∙ h)
@@ -213,7 +213,7 @@ module _ {K V I : Type 0} {keeps : Bool} {cmp : K → K → Ordering} {join : V 
     same-records : (slot c : ℕ) (y : Option (OpenWork K V I)) → claim_at v.contexts (slot * 8 + c) ≡ None → claim_of y ≡ None → Suits v.records slot c y
     same-records slot c y old quiet = record {
       traced = s.traced;
-      stood = s.stood;
+      resolved = s.resolved;
       bits = refl;
       regions = refl;
       routed = s.routed;
@@ -245,7 +245,7 @@ module _ {K V I : Type 0} {keeps : Bool} {cmp : K → K → Ordering} {join : V 
     -- a tentative entry is made
     pub sound-claimed : (r : RecordsView K V) (slot c now : ℕ) (x : Context K V I) (q : Place)
         → IsTraced keeps code r
-        → IsStood cmp join r
+        → IsResolved cmp join r
         → Grows keeps cmp join code v.records r
         → ChangesAt q v.records.words r.words
         → r.partition_bits ≡ v.records.partition_bits
@@ -258,10 +258,10 @@ module _ {K V I : Type 0} {keeps : Bool} {cmp : K → K → Ordering} {join : V 
         → Houses slot c
         → Fits r (at_phase x (Confirm q))
         → IsSound keeps cmp join code (record (with_context v slot c (Some (at_phase x (Confirm q))) now) { records = r })
-    sound-claimed r slot c now x q traced stood grown words bits regions text was is here quiet houses fits =
+    sound-claimed r slot c now x q traced resolved grown words bits regions text was is here quiet houses fits =
         sound-changed r slot c now (Some (OnKey (at_phase x (Confirm q)))) (record {
           traced = traced;
-          stood = stood;
+          resolved = resolved;
           bits = bits;
           regions = regions;
           routed = λ i e h. s.routed i e (ap (λ t. slice_get t i) (sym text) ∙ h);
@@ -272,7 +272,7 @@ module _ {K V I : Type 0} {keeps : Bool} {cmp : K → K → Ordering} {join : V 
     -- and the operation that made it claims it no more
     pub sound-settled : (r : RecordsView K V) (slot c now : ℕ) (x : Context K V I) (q : Place) (y : Option (OpenWork K V I))
         → IsTraced keeps code r
-        → IsStood cmp join r
+        → IsResolved cmp join r
         → Grows keeps cmp join code v.records r
         → ChangesAt q v.records.words r.words
         → r.partition_bits ≡ v.records.partition_bits
@@ -285,11 +285,11 @@ module _ {K V I : Type 0} {keeps : Bool} {cmp : K → K → Ordering} {join : V 
         → Houses slot c
         → ((z : Context K V I) → y ≡ Some (OnKey z) → Fits r z)
         → IsSound keeps cmp join code (record (with_open v slot c y now) { records = r })
-    sound-settled r slot c now x q y traced stood grown words bits regions text freed here phase quiet houses fits =
+    sound-settled r slot c now x q y traced resolved grown words bits regions text freed here phase quiet houses fits =
         let mine : claim_at v.contexts (slot * 8 + c) ≡ Some q = ap (λ o. claim_of (joined o)) here ∙ ap claim_by phase in
         sound-changed r slot c now y (record {
           traced = traced;
-          stood = stood;
+          resolved = resolved;
           bits = bits;
           regions = regions;
           routed = λ i e h. s.routed i e (ap (λ t. slice_get t i) (sym text) ∙ h);
@@ -302,15 +302,15 @@ module _ {K V I : Type 0} {keeps : Bool} {cmp : K → K → Ordering} {join : V 
         → claim_at v.contexts (slot * 8 + c) ≡ None
         → IsEntryOf v.records (class_in code v.records k) e
         → IsTraced keeps code (with_written v.records e k payload has)
-        → IsStood cmp join (with_written v.records e k payload has)
+        → IsResolved cmp join (with_written v.records e k payload has)
         → ChangesAt e.place v.records.words (with_written v.records e k payload has).words
         → SameTentative v.records.words (with_written v.records e k payload has).words
         → partition_of v.count (code k) ≡ v.number
         → IsSound keeps cmp join code (with_payload v slot c e k payload has now)
-    sound-appended slot c now e k payload has old entry traced stood words same own =
+    sound-appended slot c now e k payload has old entry traced resolved words same own =
         sound-changed (with_written v.records e k payload has) slot c now None (record {
           traced = traced;
-          stood = stood;
+          resolved = resolved;
           bits = refl;
           regions = refl;
           routed = λ i x h. elim (get-append_cases v.records.log.text last i x h) [
@@ -330,13 +330,13 @@ module _ {K V I : Type 0} {keeps : Bool} {cmp : K → K → Ordering} {join : V 
         → claim_at v.contexts (slot * 8 + c) ≡ None
         → v.records.log.regions.offsets.safe_read_only ≤ a
         → IsTraced keeps code (with_value v.records a value)
-        → IsStood cmp join (with_value v.records a value)
+        → IsResolved cmp join (with_value v.records a value)
         → ((q : K) (b : ℕ) → IsStill v.records.log.regions.offsets.safe_read_only (newest cmp v.records.text q b) → newest cmp (with_value v.records a value).text q b ≡ newest cmp v.records.text q b)
         → IsSound keeps cmp join code (with_replaced v slot c a value now)
-    sound-replaced slot c now a value old high traced stood kept =
+    sound-replaced slot c now a value old high traced resolved kept =
         sound-changed (with_value v.records a value) slot c now None (record {
           traced = traced;
-          stood = stood;
+          resolved = resolved;
           bits = refl;
           regions = refl;
           routed = λ i e h.
@@ -351,15 +351,15 @@ module _ {K V I : Type 0} {keeps : Bool} {cmp : K → K → Ordering} {join : V 
     pub sound-revalued : (now a : ℕ) (value : Option V)
         → v.records.log.regions.offsets.safe_read_only ≤ a
         → IsTraced keeps code (with_value v.records a value)
-        → IsStood cmp join (with_value v.records a value)
+        → IsResolved cmp join (with_value v.records a value)
         → ((q : K) (b : ℕ) → IsStill v.records.log.regions.offsets.safe_read_only (newest cmp v.records.text q b) → newest cmp (with_value v.records a value).text q b ≡ newest cmp v.records.text q b)
         → IsSound keeps cmp join code (record v { records = with_value v.records a value; moment = now })
-    sound-revalued now a value high traced stood kept =
+    sound-revalued now a value high traced resolved kept =
         let long : length v.contexts ≤ 16 * 8 + 0 = omega (arith, s.places) in
         let past : slice_get v.contexts (16 * 8 + 0) ≡ None = slice_get_past v.contexts (16 * 8 + 0) long in
         subst (λ (cs : List (Option (OpenWork K V I))). IsSound keeps cmp join code (record v { contexts = cs; records = with_value v.records a value; moment = now }))
         (set-past v.contexts (16 * 8 + 0) None long)
-        (sound-replaced 16 0 now a value (ap (λ o. claim_of (joined o)) past) high traced stood kept)
+        (sound-replaced 16 0 now a value (ap (λ o. claim_of (joined o)) past) high traced resolved kept)
 
 -- a session stays where the regions that the records have followed have it
 pub slots-moved : {K V : Type 0} {keeps : Bool} (old new : RecordsView K V) (regions : RegionsView) (t : ℕ) → IsMoved keeps regions old new → is_session regions.epochs.slots t ≡ true → is_session new.log.regions.epochs.slots t ≡ true

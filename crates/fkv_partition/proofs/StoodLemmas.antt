@@ -4,31 +4,31 @@ use Rattle.std.proofs.lemmas.Bool.{eqb-true}
 use Rattle.std.specs.declared.cmp.Ordering.{Ordering}
 use Rattle.fkv_texts.specs.declared.entries.Entry.{Entry}
 use Rattle.fkv_texts.specs.Text.{last_where, entry_at, has_key, last_of, value_of, IsRising}
-use Rattle.fkv_texts.specs.Deltas.{having, stood, IgnoresValues}
+use Rattle.fkv_texts.specs.Deltas.{with_other_value, resolved, IgnoresValues}
 use Rattle.fkv_texts.proofs.LastWhere.{last_where-found}
-use Rattle.fkv_texts.proofs.StoodLemmas.{alike_back, alike-rising, stood-last, whole-last}
+use Rattle.fkv_texts.proofs.StoodLemmas.{alike_back, alike-rising, resolved-last, whole-last}
 use Rattle.fkv_lookups.specs.RecordsViews.{RecordsView, IsReplaceable}
-use Rattle.fkv_lookups.specs.Traced.{IsTraced, IsStood}
+use Rattle.fkv_lookups.specs.Traced.{IsTraced, IsResolved}
 
-module _ {K V : Type 0} {keeps : Bool} {code : K → ℕ} (cmp : K → K → Ordering) (join : V → V → V) (v : RecordsView K V) (s : IsStood cmp join v) (t : IsTraced keeps code v) where
+module _ {K V : Type 0} {keeps : Bool} {code : K → ℕ} (cmp : K → K → Ordering) (join : V → V → V) (v : RecordsView K V) (s : IsResolved cmp join v) (t : IsTraced keeps code v) where
   pub rises : IsRising v.log.text
-  rises = alike-rising (stood cmp join v.log.text) v.log.text (alike_back cmp join v.log.text) (subst IsRising s.is t.rising)
+  rises = alike-rising (resolved cmp join v.log.text) v.log.text (alike_back cmp join v.log.text) (subst IsRising s.is t.rising)
 
   -- the last that passes a test, as it stands
-  pub last-stood : (p : Entry K V → Bool) → IgnoresValues p → last_where p v.text ≡ option_map (having (value_of (last_where p v.text))) (last_where p v.log.text)
-  last-stood p blind = subst (λ u. last_where p u ≡ option_map (having (value_of (last_where p u))) (last_where p v.log.text)) (sym s.is) (stood-last cmp join v.log.text p blind)
+  pub last-resolved : (p : Entry K V → Bool) → IgnoresValues p → last_where p v.text ≡ option_map (with_other_value (value_of (last_where p v.text))) (last_where p v.log.text)
+  last-resolved p blind = subst (λ u. last_where p u ≡ option_map (with_other_value (value_of (last_where p u))) (last_where p v.log.text)) (sym s.is) (resolved-last cmp join v.log.text p blind)
 
   -- one that is no delta has its own value
-  pub whole-stood : (p : Entry K V → Bool) → IgnoresValues p → (e : Entry K V) → last_where p v.text ≡ Some e → e.delta ≡ false → last_where p v.log.text ≡ Some e
-  whole-stood p blind e is whole = by_last (last_where p v.log.text) refl (sym (last-stood p blind) ∙ is)
+  pub whole-resolved : (p : Entry K V → Bool) → IgnoresValues p → (e : Entry K V) → last_where p v.text ≡ Some e → e.delta ≡ false → last_where p v.log.text ≡ Some e
+  whole-resolved p blind e is whole = by_last (last_where p v.log.text) refl (sym (last-resolved p blind) ∙ is)
     where
-      by_last : (o : Option (Entry K V)) → last_where p v.log.text ≡ o → option_map (having (value_of (last_where p v.text))) o ≡ Some e → last_where p v.log.text ≡ Some e
+      by_last : (o : Option (Entry K V)) → last_where p v.log.text ≡ o → option_map (with_other_value (value_of (last_where p v.text))) o ≡ Some e → last_where p v.log.text ≡ Some e
       by_last None h same = absurd (cc)
       by_last (Some d) h same =
-          let one : having (value_of (last_where p v.text)) d ≡ e = cc in
+          let one : with_other_value (value_of (last_where p v.text)) d ≡ e = cc in
           let flag : d.delta ≡ false = ap (λ (x : Entry K V). x.delta) one ∙ whole in
           let value : value_of (last_where p v.text) ≡ d.value = ap (λ u. value_of (last_where p u)) s.is ∙ whole-last join cmp v.log.text p blind d h flag in
-          h ∙ ap Some (sym (ap (λ x. having x d) value) ∙ one)
+          h ∙ ap Some (sym (ap (λ x. with_other_value x d) value) ∙ one)
 
   -- the record that may be changed where it stands
   pub record IsRawReplaceable (a : ℕ) : Type 0 where
@@ -42,9 +42,9 @@ module _ {K V : Type 0} {keeps : Bool} {code : K → ℕ} (cmp : K → K → Ord
   pub raw-replaceable : (a : ℕ) → IsReplaceable cmp v a → IsRawReplaceable a
   raw-replaceable a m = record {
     entry = m.entry;
-    here = whole-stood (λ e. e.address == a) (λ e x. refl) m.entry m.here m.whole;
+    here = whole-resolved (λ e. e.address == a) (λ e x. refl) m.entry m.here m.whole;
     at = eqb-true m.entry.address a (last_where-found (λ e. e.address == a) v.text m.entry m.here);
-    last = whole-stood (has_key cmp m.entry.key) (λ e x. refl) m.entry m.last m.whole;
+    last = whole-resolved (has_key cmp m.entry.key) (λ e x. refl) m.entry m.last m.whole;
     some = m.some;
     rises = rises;
   }

@@ -12,7 +12,7 @@ use Rattle.fkv_texts.specs.declared.entries.Entry.{Entry}
 use Rattle.fkv_texts.specs.declared.entries.ChainPosition.TheVariants.{Below}
 use Rattle.fkv_texts.specs.Text.{entry_at, has_key, newest, last_of, value_of}
 use Rattle.fkv_texts.specs.Chains.{IsIn}
-use Rattle.fkv_texts.specs.Deltas.{onto, IsSuperseded}
+use Rattle.fkv_texts.specs.Deltas.{combined, IsSuperseded}
 use Rattle.fkv_texts.proofs.CoverLemmas.{cleared-lower}
 use Rattle.fkv_hybrid.specs.Loads.{HasReceipt, IsHeldBy, first_place}
 use Rattle.fkv_hybrid.proofs.FrameLemmas.{page_rises}
@@ -150,19 +150,19 @@ module _ {K V I : Type 0} {keeps : Bool} (cmp : K → K → Ordering) (join : V 
         let both : Some e ≡ Some y = sym own ∙ here in
         let same : e ≡ y = cc in
         subst (λ (d : Entry K V). IsSuperseded cmp v.records.log.text d) same
-        (met-dead cmp join code order v.records sound.traced sound.stood x.target e own floor l.wanted l.parts r (goes yes_keeps r is) j)
+        (met-dead cmp join code order v.records sound.traced sound.resolved x.target e own floor l.wanted l.parts r (goes yes_keeps r is) j)
 
     -- what its key has from where the entry led, by where the way stands
-    led-value : IsTrue keeps → (r : ChainResult K V) → result ≡ Ok r → value_of (newest cmp v.records.text e.key (address_of l.kept.word)) ≡ onto join (end_of cmp v.records e.key r.position) r.parts
+    led-value : IsTrue keeps → (r : ChainResult K V) → result ≡ Ok r → value_of (newest cmp v.records.text e.key (address_of l.kept.word)) ≡ combined join (end_of cmp v.records e.key r.position) r.parts
     led-value yes_keeps r is =
         (tracing.loading.leads yes_keeps begin-same).newest
-        ∙ values_tell cmp join code v.records e.key order sound.traced sound.stood floor l.wanted l.parts r (goes yes_keeps r is)
+        ∙ values_tell cmp join code v.records e.key order sound.traced sound.resolved floor l.wanted l.parts r (goes yes_keeps r is)
 
     -- the records of the key down to there are deltas
     led-deltas : IsTrue keeps → (r : ChainResult K V) → result ≡ Ok r → (d : Entry K V) → IsIn v.records.log.text d → has_key cmp e.key d ≡ true → at_of r.position < d.address → d.address ≤ address_of l.kept.word → d.delta ≡ true
     led-deltas yes_keeps r is d m own past low = elim (cases_lt l.wanted d.address) [
       | inl high ↦ (tracing.loading.leads yes_keeps begin-same).between d m own high low
-      | inr within ↦ between_tells cmp code v.records e.key order (raw-traced cmp join v.records sound.stood.is sound.traced) join floor l.wanted l.parts r (goes yes_keeps r is) d m own within past
+      | inr within ↦ between_tells cmp code v.records e.key order (raw-traced cmp join v.records sound.resolved.is sound.traced) join floor l.wanted l.parts r (goes yes_keeps r is) d m own within past
     ]
 
     -- none was met above the place: its record is appended, joined with the parts of the deltas
@@ -176,7 +176,7 @@ module _ {K V I : Type 0} {keeps : Bool} (cmp : K → K → Ordering) (join : V 
               | inl found ↦ absurd (let f = found-in cmp join code v.records e.key floor l.wanted l.parts r g found.0 found.1 in let up = floor-above in let high = f.3 in let low = found.2 in omega (arith, up, high, low))
               | inr below ↦
                   (let above = tracing.above in
-                  let up = lands cmp join code order v.records sound.traced sound.stood x.target e (is-own yes_keeps) floor l.wanted l.parts r floor-above (omega (arith, above)) g below.0 below.1 in
+                  let up = lands cmp join code order v.records sound.traced sound.resolved x.target e (is-own yes_keeps) floor l.wanted l.parts r floor-above (omega (arith, above)) g below.0 below.1 in
                   let down = below.2 in
                   below.1 ∙ ap Below (omega (arith, up, down)))
             ],
@@ -186,20 +186,20 @@ module _ {K V I : Type 0} {keeps : Bool} (cmp : K → K → Ordering) (join : V 
       led-last yes_keeps holds =
           let w = tracing.loading.entry in
           let class = class_in code v.records e.key in
-          let raw_traced = traced-raw sound.traced sound.stood in
+          let raw_traced = traced-raw sound.traced sound.resolved in
           traced-held cmp code (raw v.records) e.key order raw_traced (address_of l.kept.word)
           (entry-stands v.records.words class.bucket class.tag l.kept.place l.kept.word sound.traced.map (record { bucket = w.bucket; place = w.place; word = holds; final = w.final; tag = w.tag }))
 
-      last-value : IsTrue keeps → word_at v.records.words l.kept.place ≡ l.kept.word → value_of (newest cmp v.records.text e.key (address_of l.kept.word)) ≡ onto join e.value parts
+      last-value : IsTrue keeps → word_at v.records.words l.kept.place ≡ l.kept.word → value_of (newest cmp v.records.text e.key (address_of l.kept.word)) ≡ combined join e.value parts
       last-value yes_keeps holds =
           let ends = ends-here yes_keeps in
           let issued = stands.issued in
-          place-value cmp join code order v.records sound.traced sound.stood x.target e (is-own yes_keeps) (address_of l.kept.word) parts (led-last yes_keeps holds)
+          place-value cmp join code order v.records sound.traced sound.resolved x.target e (is-own yes_keeps) (address_of l.kept.word) parts (led-last yes_keeps holds)
           (λ d m own above low. led-deltas yes_keeps r is d m own (subst (λ n. n < d.address) (sym (ap at_of ends.1)) above) low)
           (cleared-lower cmp v.records.log.text x.target v.cleared issued (s.cleared yes_keeps))
           (led-value yes_keeps r is
-          ∙ ap (λ p. onto join (end_of cmp v.records e.key p) r.parts) ends.1
-          ∙ ap (onto join (value_of (newest cmp v.records.text e.key x.target))) ends.0)
+          ∙ ap (λ p. combined join (end_of cmp v.records e.key p) r.parts) ends.1
+          ∙ ap (combined join (value_of (newest cmp v.records.text e.key x.target))) ends.0)
 
       pub way-last : StageStands keeps cmp join code v x.target (Ready (renewed join e parts) l.kept)
       way-last = (
@@ -207,10 +207,10 @@ module _ {K V I : Type 0} {keeps : Bool} (cmp : K → K → Ordering) (join : V 
         ready-by cmp join code order v.records sound.traced x.target e parts l.kept tracing.here tracing.some tracing.loading.entry tracing.loading.low is-own last-value
             (λ yes_keeps holds. (tracing.loading.leads yes_keeps begin-same).still)
             (λ yes_keeps none.
-            let st = stands-in cmp order v.records.log.text (rises cmp join v.records sound.stood sound.traced) x.target e (is-own yes_keeps) in
+            let st = stands-in cmp order v.records.log.text (rises cmp join v.records sound.resolved sound.traced) x.target e (is-own yes_keeps) in
             let from = kept-from v.records sound.traced yes_keeps in
             let least = sound.traced.first in
-            let low : v.records.log.from ≤ e.address = (traced-raw sound.traced sound.stood).from st.0.place e st.0.here in
+            let low : v.records.log.from ≤ e.address = (traced-raw sound.traced sound.resolved).from st.0.place e st.0.here in
             let up = tracing.led yes_keeps in
             omega (arith, st.1, from, least, low, up, none))
             (λ yes_keeps d m own above low. led-deltas yes_keeps r is d m own (subst (λ n. n < d.address) (sym (ap at_of (ends-here yes_keeps).1)) above) low),
@@ -241,7 +241,7 @@ module _ {K V I : Type 0} {keeps : Bool} (cmp : K → K → Ordering) (join : V 
       way-stands yes_keeps = way-class cmp join code v.records e.key floor l.wanted l.parts r (goes yes_keeps r is) b further.0 (let from = kept-from v.records sound.traced yes_keeps in let low = begins in omega arith)
 
       pub way-place : IsTrue keeps → IsRecordStart v.records.log.bits v.records.record_size b
-      way-place yes_keeps = class-place v.records sound.traced sound.stood e.key b (way-stands yes_keeps)
+      way-place yes_keeps = class-place v.records sound.traced sound.resolved e.key b (way-stands yes_keeps)
 
       out-low : b < floor
       out-low = gathered-low join (entry v.records.log.bits bytes) cmp e.key v.records.log.bits floor l.wanted b l.parts result came.reads (ap left_of is-below)
@@ -278,8 +278,8 @@ module _ {K V I : Type 0} {keeps : Bool} (cmp : K → K → Ordering) (join : V 
               still = (h.leads yes_keeps same).still;
               newest =
                   led-value yes_keeps r is
-                  ∙ ap (λ p. onto join (end_of cmp v.records e.key p) r.parts) further.0
-                  ∙ ap (onto join (value_of (newest cmp v.records.text e.key b))) further.2;
+                  ∙ ap (λ p. combined join (end_of cmp v.records e.key p) r.parts) further.0
+                  ∙ ap (combined join (value_of (newest cmp v.records.text e.key b))) further.2;
               between = λ d m own past low. led-deltas yes_keeps r is d m own (subst (λ n. n < d.address) (sym (ap at_of further.0)) past) low;
             };
           }

@@ -3,7 +3,7 @@ use Rattle.std.proofs.Common.{◌≡◌, ◌≤◌, inl, inr, ℕ, Bool, true, f
 use Rattle.std.specs.Bool.{OnTrue, OnFalse}
 use Rattle.std.specs.declared.cmp.Ordering.{Ordering}
 use Rattle.fkv_functions.proofs.ListLemmas.{get-set_cases}
-use Rattle.fkv_index.specs.declared.places.Place.{Place}
+use Rattle.fkv_index.specs.declared.words.Place.{Place}
 use Rattle.fkv_regions.specs.Agree.{IsRaised}
 use Rattle.fkv_regions.specs.RegionsView.{RegionsView}
 use Rattle.fkv_lookups.specs.RecordsViews.{RecordsView, IsMoved, confirmed, released}
@@ -18,14 +18,14 @@ use Rattle.fkv_partition.specs.declared.contexts.OpenWork.TheVariants.{OnKey, Re
 use Rattle.fkv_partition.specs.declared.contexts.Phase.TheVariants.{Confirm}
 use Rattle.fkv_partition.specs.declared.relocations.Relocation.{Relocation}
 use Rattle.fkv_partition.proofs.AgainLemmas.{keep-moment}
-use Rattle.fkv_partition.proofs.KeepLemmas.{keep-event, keep-changed, keep-risen, rises-not}
+use Rattle.fkv_partition.proofs.KeepLemmas.{keep-event, keep-changed, keep-value_after, rises-not}
 use Rattle.fkv_partition.proofs.PreservedLemmas.{borne-confirmed, borne-released, borne-moved}
 use Rattle.fkv_partition.proofs.SoundLemmas.{sound-moment, sound-cleared}
 
 -- a relocation that stands where a context was set to none stood before
-pub set-stood : {K V I : Type 0} (contexts : List (Option (OpenWork K V I))) (i : ℕ) (y : Option (OpenWork K V I)) → ((x : Relocation K V) → y ≡ Some (Relocating x) → ⊥)
+pub set-resolved : {K V I : Type 0} (contexts : List (Option (OpenWork K V I))) (i : ℕ) (y : Option (OpenWork K V I)) → ((x : Relocation K V) → y ≡ Some (Relocating x) → ⊥)
     → (p : ℕ) (x : Relocation K V) → slice_get (slice_set contexts i y) p ≡ Some (Some (Relocating x)) → slice_get contexts p ≡ Some (Some (Relocating x))
-set-stood contexts i y none p x h = elim (get-set_cases contexts i p y (Some (Relocating x)) h) [
+set-resolved contexts i y none p x h = elim (get-set_cases contexts i p y (Some (Relocating x)) h) [
   | inl e ↦ absurd (none x e.1)
   | inr o ↦ o
 ]
@@ -42,9 +42,9 @@ module _ {K V I : Type 0} {keeps : Bool} {cmp : K → K → Ordering} {join : V 
       → new.number ≡ v.number → new.count ≡ v.count → new.cleared ≡ v.cleared → new.records.log.begin ≤ v.cleared
       → ((i : ℕ) (x : Relocation K V) → slice_get new.contexts i ≡ Some (Some (Relocating x)) → slice_get v.contexts i ≡ Some (Some (Relocating x)))
       → IsPartition keeps cmp join code new
-  whole-event new s b number count cleared begun stood = record {
+  whole-event new s b number count cleared begun resolved = record {
     sound = s;
-    compacting = keep-event keeps cmp join code v new p.compacting s.traced s.stood b number count cleared begun stood;
+    compacting = keep-event keeps cmp join code v new p.compacting s.traced s.resolved b number count cleared begun resolved;
   }
 
   pub whole-records : (r : RecordsView K V) (contexts : List (Option (OpenWork K V I))) (now : ℕ)
@@ -53,7 +53,7 @@ module _ {K V I : Type 0} {keeps : Bool} {cmp : K → K → Ordering} {join : V 
       → r.log.begin ≡ v.records.log.begin
       → ((i : ℕ) (x : Relocation K V) → slice_get contexts i ≡ Some (Some (Relocating x)) → slice_get v.contexts i ≡ Some (Some (Relocating x)))
       → IsPartition keeps cmp join code (record v { records = r; contexts = contexts; moment = now })
-  whole-records r contexts now s b begin stood = whole-event (record v { records = r; contexts = contexts; moment = now }) s b refl refl refl (let begun = p.compacting.begun in omega (arith, begin, begun)) stood
+  whole-records r contexts now s b begin resolved = whole-event (record v { records = r; contexts = contexts; moment = now }) s b refl refl refl (let begun = p.compacting.begun in omega (arith, begin, begun)) resolved
 
   -- a context is set
   pub whole-set : (i now : ℕ) (y : Option (OpenWork K V I))
@@ -71,7 +71,7 @@ module _ {K V I : Type 0} {keeps : Bool} {cmp : K → K → Ordering} {join : V 
 
   -- more is cleared
   pub whole-cleared : (limit : ℕ) → MayClear keeps cmp v limit → IsPartition keeps cmp join code (record v { cleared = limit })
-  whole-cleared limit may = record { sound = sound-cleared p.sound limit; compacting = keep-risen keeps cmp join code v limit p.compacting may }
+  whole-cleared limit may = record { sound = sound-cleared p.sound limit; compacting = keep-value_after keeps cmp join code v limit p.compacting may }
 
   -- the regions move
   pub whole-regions : (r : RecordsView K V) (regions : RegionsView) (now : ℕ) → IsRaised v.records.log.regions.offsets r.log.regions.offsets → IsMoved keeps regions v.records r
@@ -90,7 +90,7 @@ module _ {K V I : Type 0} {keeps : Bool} {cmp : K → K → Ordering} {join : V 
         → IsSound keeps cmp join code (record v { records = r; contexts = contexts; moment = now })
         → ((i : ℕ) (y : Relocation K V) → slice_get contexts i ≡ Some (Some (Relocating y)) → slice_get v.contexts i ≡ Some (Some (Relocating y)))
         → IsPartition keeps cmp join code (record v { records = r; contexts = contexts; moment = now })
-    whole-settled contexts true is out s stood =
-        whole-records r contexts now s (borne-confirmed cmp join code v p.sound (record v { records = r; contexts = contexts; moment = now }) slot c now x h q phase is) (ap (λ (u : RecordsView K V). u.log.begin) is) stood
-    whole-settled contexts false out is s stood =
-        whole-records r contexts now s (borne-released cmp join code v p.sound (record v { records = r; contexts = contexts; moment = now }) slot c now x h q phase is) (ap (λ (u : RecordsView K V). u.log.begin) is) stood
+    whole-settled contexts true is out s resolved =
+        whole-records r contexts now s (borne-confirmed cmp join code v p.sound (record v { records = r; contexts = contexts; moment = now }) slot c now x h q phase is) (ap (λ (u : RecordsView K V). u.log.begin) is) resolved
+    whole-settled contexts false out is s resolved =
+        whole-records r contexts now s (borne-released cmp join code v p.sound (record v { records = r; contexts = contexts; moment = now }) slot c now x h q phase is) (ap (λ (u : RecordsView K V). u.log.begin) is) resolved

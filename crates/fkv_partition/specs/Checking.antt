@@ -8,7 +8,7 @@ use Rattle.fkv_device.specs.Standing.{Standing}
 use Rattle.fkv_texts.specs.declared.entries.Entry.{Entry}
 use Rattle.fkv_texts.specs.declared.entries.ChainPosition.{ChainPosition}
 use Rattle.fkv_texts.specs.declared.entries.ChainPosition.TheVariants.{Found, Below}
-use Rattle.fkv_texts.specs.Deltas.{onto}
+use Rattle.fkv_texts.specs.Deltas.{combined}
 use Rattle.fkv_hybrid.specs.Loads.{IsHeldBy}
 use Rattle.fkv_lookups.specs.declared.chain_results.ChainResult.{ChainResult}
 use Rattle.fkv_lookups.specs.Decisions.{low_of}
@@ -70,7 +70,7 @@ pub record IsChecked {K V I : Type 0} (cmp : K → K → Ordering) (join : V →
 
 -- the record that is appended for one: its value, joined with the parts of later deltas
 abbrev pub renewed : {K V : Type 0} → (V → V → V) → Entry K V → Option V → Entry K V
-renewed join entry parts = record entry { value = onto join entry.value parts; delta = false }
+renewed join entry parts = record entry { value = combined join entry.value parts; delta = false }
 
 -- the last part: where the entry stands as it was kept, the record is appended and its place is cleared, in one
 -- event, or waits where there is no room; where it has moved, the relocation is to begin anew

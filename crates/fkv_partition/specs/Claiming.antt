@@ -1,7 +1,7 @@
 -- Tentative entries: each belongs to one open operation, which waits to confirm it.
 use Rattle.std.specs.Prelude.{◌≡◌, ℕ, IsTrue, List, Option, Some}
 use Rattle.fkv_index.specs.declared.words.Word.{Word}
-use Rattle.fkv_index.specs.declared.places.Place.{Place}
+use Rattle.fkv_index.specs.declared.words.Place.{Place}
 use Rattle.fkv_index.specs.Words.{tentative_word, is_tentative}
 use Rattle.fkv_index.specs.Places.{word_at}
 use Rattle.fkv_operations.specs.After.{key_of}

@@ -2,7 +2,7 @@
 use Rattle.std.specs.Prelude.{Bool, cond, ◌&&◌, ◌+◌, ◌*◌, ℕ, List, Option, Some, None, nat_lt, slice_get, is_some}
 use Rattle.std.specs.Option.{option_flatten}
 use Rattle.fkv_functions.specs.declared.asks.Ask.{Ask}
-use Rattle.fkv_index.specs.declared.places.Place.{Place}
+use Rattle.fkv_index.specs.declared.words.Place.{Place}
 use Rattle.fkv_operations.specs.declared.entries.IndexEntry.{IndexEntry}
 use Rattle.fkv_operations.specs.declared.operations.KeyedOp.{KeyedOp}
 use Rattle.fkv_operations.specs.declared.operations.KeyedOp.TheVariants.{Read, Upsert, Rmw, Delete, Merge}

@@ -3,7 +3,7 @@ use Rattle.std.specs.Prelude.{◌≡◌, Bool, false, ℕ, Some, None, Result, O
 use Rattle.fkv_functions.specs.declared.refusals.Refused.{Refused}
 use Rattle.fkv_functions.specs.declared.refusals.Refused.TheVariants.{Unknown, Busy}
 use Rattle.fkv_partition.specs.declared.contexts.Context.{Context}
-use Rattle.fkv_index.specs.declared.places.Place.{Place}
+use Rattle.fkv_index.specs.declared.words.Place.{Place}
 use Rattle.fkv_lookups.specs.RecordsViews.{released}
 use Rattle.fkv_partition.specs.declared.contexts.Phase.TheVariants.{Confirm}
 use Rattle.fkv_regions.specs.RegionsView.{left}

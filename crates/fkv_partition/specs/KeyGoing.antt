@@ -11,7 +11,7 @@ use Rattle.fkv_operations.specs.After.{key_of}
 use Rattle.fkv_records.specs.Places.{page_at}
 use Rattle.fkv_device.specs.Standing.{Standing}
 use Rattle.fkv_hybrid.specs.Loads.{IsHeldBy}
-use Rattle.fkv_index.specs.declared.places.Place.{Place}
+use Rattle.fkv_index.specs.declared.words.Place.{Place}
 use Rattle.fkv_index.specs.Words.{is_empty}
 use Rattle.fkv_index.specs.Places.{words_of}
 use Rattle.fkv_index.specs.Entries.{IsAlone}

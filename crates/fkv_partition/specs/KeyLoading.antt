@@ -11,7 +11,7 @@ use Rattle.fkv_device.specs.Standing.{Standing, Joined}
 use Rattle.fkv_device.specs.Failing.{ReadFailsBy}
 use Rattle.fkv_texts.specs.declared.entries.Entry.{Entry}
 use Rattle.fkv_texts.specs.declared.entries.ChainPosition.TheVariants.{Found, Below}
-use Rattle.fkv_texts.specs.Deltas.{onto}
+use Rattle.fkv_texts.specs.Deltas.{combined}
 use Rattle.fkv_hybrid.specs.Loads.{IsHeldBy, first_place}
 use Rattle.fkv_lookups.specs.declared.chain_results.ChainResult.{ChainResult}
 use Rattle.fkv_lookups.specs.Lookups.{ComesToInPage}
@@ -30,7 +30,7 @@ use Rattle.fkv_partition.specs.Views.{PartitionView, context_at, with_context}
 -- below Begin, joined with the parts of its deltas
 pub data Tells {K V : Type 0} (join : V → V → V) (begin : ℕ) : ChainResult K V → Option V → Type 0 where
   found : (e : Entry K V) (parts : Option V)
-      → Tells join begin (record { parts = parts; position = Found e }) (onto join e.value parts)
+      → Tells join begin (record { parts = parts; position = Found e }) (combined join e.value parts)
   ended : (b : ℕ) (parts : Option V) → b < begin → Tells join begin (record { parts = parts; position = Below b }) parts
 
 -- a read or an update: no other operation waits for a page

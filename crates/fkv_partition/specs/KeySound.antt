@@ -6,12 +6,12 @@ use Rattle.std.specs.Prelude.{◌≡◌, Bool, IsTrue, true, ◌+◌, ◌*◌, �
 use Rattle.std.specs.declared.cmp.Ordering.{Ordering}
 use Rattle.fkv_texts.specs.declared.entries.Entry.{Entry}
 use Rattle.fkv_texts.specs.Text.{newest, value_of}
-use Rattle.fkv_texts.specs.Deltas.{onto, AreDeltasBetween}
+use Rattle.fkv_texts.specs.Deltas.{combined, AreDeltasBetween}
 use Rattle.fkv_index.specs.Words.{address_of}
 use Rattle.fkv_index.specs.Places.{word_at}
 use Rattle.fkv_operations.specs.After.{key_of, is_merge}
 use Rattle.fkv_lookups.specs.RecordsViews.{RecordsView, class_in, WasEntryOf}
-use Rattle.fkv_lookups.specs.Traced.{IsTraced, IsStood}
+use Rattle.fkv_lookups.specs.Traced.{IsTraced, IsResolved}
 use Rattle.fkv_operations.specs.Still.{IsStill}
 use Rattle.fkv_lookups.specs.Lookups.{IsOfClass}
 use Rattle.fkv_operations.specs.declared.entries.IndexEntry.{IndexEntry}
@@ -50,7 +50,7 @@ pub record LeadsOn {K V : Type 0} (cmp : K → K → Ordering) (join : V → V �
     (l : Loading V) : Type 0 where
   pub class : r.log.from ≤ l.wanted → IsOfClass code r k l.wanted
   pub still : IsStill r.log.regions.offsets.safe_read_only (newest cmp r.text k (address_of l.kept.word))
-  pub newest : value_of (newest cmp r.text k (address_of l.kept.word)) ≡ onto join (value_of (newest cmp r.text k l.wanted)) l.parts
+  pub newest : value_of (newest cmp r.text k (address_of l.kept.word)) ≡ combined join (value_of (newest cmp r.text k l.wanted)) l.parts
   pub between : AreDeltasBetween cmp r.log.text k l.wanted (address_of l.kept.word)
 
 -- a look-up goes on in a page on disk, since Begin stood no higher than now: on a device that keeps, while Begin stands, at
@@ -88,7 +88,7 @@ pub record IsSound {K V I : Type 0} (keeps : Bool) (cmp : K → K → Ordering) 
   -- each record leads to the one before it in its class, and the entry of a class to the last
   pub traced : IsTraced keeps code v.records
   -- each record stands for what its key has once it stands
-  pub stood : IsStood cmp join v.records
+  pub resolved : IsResolved cmp join v.records
   pub stands : (p : ℕ) (x : Context K V I)
       → slice_get v.contexts p ≡ Some (Some (OnKey x))
       → StandsFor keeps cmp join code v.records x.op x.phase

@@ -157,7 +157,7 @@ impl<F: Mergeable, R: Receipt> Partition<F, R> {
         ensures { MovesTo R.keeps (left self.old.records.log.regions slot) self.old self.new now }
     {
         let _left = self.records.leave(slot);
-        self.records.known();
+        self.records.facts();
         self.moment = now;
     }
 
@@ -180,9 +180,9 @@ impl<F: Mergeable, R: Receipt> Partition<F, R> {
     {
         records_change::<F::Key, F::Value>();
         cleared_stay::<F::Key, F::Value>();
-        self.records.known();
+        self.records.facts();
         self.records.replace(address, value);
-        self.records.known();
+        self.records.facts();
         self.moment = now;
         set_context(&mut self.contexts, slot, context, None);
     }
@@ -197,9 +197,9 @@ impl<F: Mergeable, R: Receipt> Partition<F, R> {
     {
         records_change::<F::Key, F::Value>();
         cleared_stay::<F::Key, F::Value>();
-        self.records.known();
+        self.records.facts();
         self.records.replace(address, value);
-        self.records.known();
+        self.records.facts();
         self.moment = now;
     }
 
@@ -228,7 +228,7 @@ impl<F: Mergeable, R: Receipt> Partition<F, R> {
             Err(refused) => return Err(refused),
             Ok(place) => place,
         };
-        self.records.known();
+        self.records.facts();
         self.moment = now;
         let waiting = Phase::Confirm { place };
         move_on(&mut self.contexts, slot, context, operation, waiting);
@@ -258,7 +258,7 @@ impl<F: Mergeable, R: Receipt> Partition<F, R> {
             { records = released self.old.records place }) }
     {
         let is_final = self.records.confirm(place);
-        self.records.known();
+        self.records.facts();
         self.moment = now;
         move_on(&mut self.contexts, slot, context, operation, Phase::Fresh);
         is_final
@@ -281,7 +281,7 @@ impl<F: Mergeable, R: Receipt> Partition<F, R> {
             { records = released self.old.records place } }
     {
         self.records.cancel(place);
-        self.records.known();
+        self.records.facts();
         self.moment = now;
         set_context(&mut self.contexts, slot, context, None);
     }
@@ -318,7 +318,7 @@ impl<F: Mergeable, R: Receipt> Partition<F, R> {
                 return Ok(None);
             }
             Ok(Some(address)) => {
-                self.records.known();
+                self.records.facts();
                 self.moment = now;
                 set_context(&mut self.contexts, slot, context, None);
                 Ok(Some(address))

@@ -41,7 +41,7 @@ impl<F: Mergeable, R: Receipt> Partition<F, R> {
         ensures unchanged { OnErr result (self.new ≡ self.old) }
         ensures moment { self.new.moment ≤ now }
     {
-        self.known();
+        self.facts();
         let target = relocation.target;
         let home = self.home(functions, &entry.key);
         if entry.value.is_none() {
@@ -94,7 +94,7 @@ impl<F: Mergeable, R: Receipt> Partition<F, R> {
         ensures unchanged { OnErr result (self.new ≡ self.old) }
         ensures moment { self.new.moment ≤ now }
     {
-        self.known();
+        self.facts();
         let target = relocation.target;
         let low = higher_of(target + 1, self.lowest(slot));
         let came = self.reach(functions, slot, &entry.key, low, Some(kept.address()));

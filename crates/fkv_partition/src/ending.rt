@@ -6,7 +6,6 @@ ghost use Rattle.fkv_partition.specs.Events.{IsPassedOn};
 
 use crate::contexts::claim_of;
 use crate::partitions::Partition;
-use crate::preserving::sessions_preserved;
 use fkv_device::Receipt;
 use fkv_functions::{Mergeable, Refused};
 
@@ -41,7 +40,6 @@ impl<F: Mergeable, R: Receipt> Partition<F, R> {
         ensures unchanged { OnErr result (self.new ≡ self.old) }
         ensures moment { self.new.moment ≤ self.old.moment }
     {
-        sessions_preserved::<F::Key, F::Value, F::Input, F::Output, R>();
         let now = self.moment;
         self.give_up_on_key(slot, context, now)
     }

@@ -113,7 +113,7 @@ impl<F: Mergeable, R: Receipt> Partition<F, R> {
         ensures unchanged { OnErr result (self.new ≡ self.old) }
         ensures moment { self.new.moment ≤ now }
     {
-        self.known();
+        self.facts();
         let _merges = self.merges();
         entries_lead::<F::Key, F::Value>();
         lookups_tell::<F::Key, F::Value>();
@@ -192,7 +192,7 @@ impl<F: Mergeable, R: Receipt> Partition<F, R> {
         ensures unchanged { OnErr result (self.new ≡ self.old) }
         ensures moment { self.new.moment ≤ now }
     {
-        self.known();
+        self.facts();
         let _merges = self.merges();
         records_grow::<F::Key, F::Value>();
         match self.append(slot, context, write, now) {
@@ -224,7 +224,7 @@ impl<F: Mergeable, R: Receipt> Partition<F, R> {
         ensures event { IsEvent F.Key.cmp F.meaning self.old self.new slot context now result }
         ensures moment { self.new.moment ≤ now }
     {
-        self.known();
+        self.facts();
         let _merges = self.merges();
         entries_lead::<F::Key, F::Value>();
         records_change::<F::Key, F::Value>();
@@ -256,7 +256,7 @@ impl<F: Mergeable, R: Receipt> Partition<F, R> {
         ensures event { IsEvent F.Key.cmp F.meaning self.old self.new slot context now result }
         ensures moment { self.new.moment ≤ now }
     {
-        self.known();
+        self.facts();
         entries_lead::<F::Key, F::Value>();
         meetings_tell::<F::Key, F::Value>();
         let source = ask.source;
@@ -296,7 +296,7 @@ impl<F: Mergeable, R: Receipt> Partition<F, R> {
         ensures unchanged { OnErr result (self.new ≡ self.old) }
         ensures moment { self.new.moment ≤ now }
     {
-        self.known();
+        self.facts();
         entries_lead::<F::Key, F::Value>();
         meetings_tell::<F::Key, F::Value>();
         let page = self.records.page_of(wanted);

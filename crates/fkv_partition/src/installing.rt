@@ -84,7 +84,7 @@ impl<F: Mergeable, R: Receipt> Partition<F, R> {
         ensures unchanged { OnErr result (self.new ≡ self.old) }
         ensures moment { self.new.moment ≤ now }
     {
-        self.known();
+        self.facts();
         entries_lead::<F::Key, F::Value>();
         records_grow::<F::Key, F::Value>();
         let ask = built.ask();

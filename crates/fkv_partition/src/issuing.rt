@@ -8,7 +8,6 @@ ghost use Rattle.fkv_partition.specs.Views.{held_at, partition_of, relocation_at
 ghost use Rattle.fkv_partition.specs.Beginning.{IssuesOnKey};
 
 use crate::partitions::Partition;
-use crate::preserving::sessions_preserved;
 use fkv_device::Receipt;
 use fkv_functions::{Mergeable, Refused, What};
 use fkv_operations::KeyedOpOf;
@@ -34,8 +33,7 @@ impl<F: Mergeable, R: Receipt> Partition<F, R> {
         ensures unchanged { OnErr result (self.new ≡ self.old) }
         ensures moment { self.new.moment ≤ now }
     {
-        sessions_preserved::<F::Key, F::Value, F::Input, F::Output, R>();
-        self.known();
+        self.facts();
         if !self.is_session(slot) {
             return Err(Refused::Unknown);
         }
@@ -71,7 +69,7 @@ impl<F: Mergeable, R: Receipt> Partition<F, R> {
         ensures event { IsIssue F.code self.old self.new slot context op now }
         ensures within { slot < 16 }
     {
-        self.known();
+        self.facts();
         let _entered = self.is_session(slot);
         self.start(slot, context, op, now);
     }

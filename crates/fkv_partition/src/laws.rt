@@ -27,11 +27,10 @@ ghost use Rattle.fkv_partition.specs.Events.{Goes, Installs, Loads};
 ghost use Rattle.fkv_partition.specs.Sound.{IsCompacting, IsPartition};
 
 use crate::pending_laws::{merges_ask_nothing, merges_take_no_page};
-use crate::preserving::events_preserve;
 use fkv_device::Receipt;
 use fkv_functions::Mergeable;
 use fkv_lookups::clearing::cleared_stay;
-use fkv_lookups::laws::entries_lead;
+use fkv_lookups::laws::{entries_lead, meetings_tell, records_change};
 use fkv_operations::kept_words_are_sound;
 
 /// What a prepared update of any key kept, and what a look-up of any key that waits for a page is to find, are kept by every
@@ -42,8 +41,9 @@ pub fn every_event_preserves<F: Mergeable, R: Receipt>()
         → Event R.keeps R.stands (IsEntryIn F.Key.codec F.Value.codec) F.Key.cmp F.parts.joined F.meaning F.code old new
         → IsPreserved R.keeps F.Key.cmp F.parts.joined F.code old new }
 {
-    events_preserve::<F::Key, F::Value, F::Input, F::Output, R>();
     cleared_stay::<F::Key, F::Value>();
+    records_change::<F::Key, F::Value>();
+    meetings_tell::<F::Key, F::Value>();
 }
 
 /// No event changes a frozen record: one below the safe read-only offset. It stays as it is, or is dropped from where the

@@ -18,7 +18,7 @@ use crate::contexts::{ContextOf, Loading, Phase, Progress, ProgressOf, loading_o
 use crate::partitions::Partition;
 use fkv_device::{Loaded, PageReader, Receipt};
 use fkv_functions::{Ask, Mergeable, Refused};
-use fkv_lookups::chain_results::onto;
+use fkv_lookups::chain_results::combined;
 use fkv_lookups::laws::lookups_tell;
 use fkv_operations::KeyedOp;
 use fkv_operations::plainly::shown;
@@ -125,7 +125,7 @@ impl<F: Mergeable, R: Receipt> Partition<F, R> {
             self.set_phase(slot, context, &open, Phase::Fresh, now);
             return Ok(Progress::Next);
         }
-        self.known();
+        self.facts();
         let page = self.records.page_of(loading.wanted);
         match self.read(reader, page) {
             Err(refused) => Err(refused),
@@ -149,7 +149,7 @@ impl<F: Mergeable, R: Receipt> Partition<F, R> {
         ensures caused { IfErr result (λ e. e ≢ Refused.NoMemory
             → MayFail R.stands P.can_fail self.now.records.log.receipts self.now.records.log.bits page) }
     {
-        self.records.log().known();
+        self.records.log().facts();
         let receipt = match self.records.receipt(page) {
             Err(refused) => return Err(refused),
             Ok(receipt) => receipt,
@@ -178,7 +178,7 @@ impl<F: Mergeable, R: Receipt> Partition<F, R> {
         ensures undamaged { IsTrue R.keeps → (page : ℕ) → result ≢ Err (Refused.Damaged page) }
         ensures moment { self.new.moment ≤ now }
     {
-        self.known();
+        self.facts();
         let page = self.records.page_of(loading.wanted);
         if let Err(refused) = self.records.is_own(&loaded, page) {
             return Err(refused);
@@ -209,7 +209,7 @@ impl<F: Mergeable, R: Receipt> Partition<F, R> {
         ensures undamaged { IsTrue R.keeps → (page : ℕ) → result ≢ Err (Refused.Damaged page) }
         ensures moment { self.new.moment ≤ now }
     {
-        self.known();
+        self.facts();
         lookups_tell::<F::Key, F::Value>();
         let key = operation.op.key();
         let page = self.records.page_of(loading.wanted);
@@ -231,7 +231,7 @@ impl<F: Mergeable, R: Receipt> Partition<F, R> {
         let parts = came.parts;
         match came.position {
             ChainPosition::Found(last) => {
-                let value = onto(functions, last.value, parts);
+                let value = combined(functions, last.value, parts);
                 Ok(self.tell(slot, context, operation, loading, value, functions, now))
             }
             ChainPosition::Below(address) => {

@@ -97,7 +97,7 @@ impl<F: Mergeable, R: Receipt> Partition<F, R> {
     pub(crate) fn home(&self, functions: &F, key: &F::Key) -> u64
         ensures { result ≡ partition_of self.now.count (F.code key.now) }
     {
-        self.known();
+        self.facts();
         partition_at(functions.hash(key), self.count)
     }
 
@@ -231,7 +231,7 @@ impl<F: Mergeable, R: Receipt> Partition<F, R> {
         ensures { result ≡ decision F.meaning op.now
             (met_at F.Key.cmp F.parts.joined F.code self.now slot (key_of op.now)) }
     {
-        self.known();
+        self.facts();
         let _merges = self.merges();
         lookups_tell::<F::Key, F::Value>();
         if is_delta(first) {

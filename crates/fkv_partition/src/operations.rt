@@ -18,7 +18,6 @@ ghost use Rattle.fkv_partition.specs.Events.{Issues, Goes, Installs, Loads, Load
 use crate::contexts::ProgressOf;
 use crate::partitions::Partition;
 use crate::pending_laws::{loads_end, pendings_stay};
-use crate::preserving::{loads_preserve_sessions, sessions_preserved};
 use fkv_device::{Loaded, PageReader, Receipt};
 use fkv_functions::{Built, Mergeable, Refused};
 use fkv_operations::OpOf;
@@ -46,8 +45,7 @@ impl<F: Mergeable, R: Receipt> Partition<F, R> {
         ensures unchanged { OnErr result (self.new ≡ self.old) }
         ensures moment { self.new.moment ≤ now }
     {
-        pendings_stay::<F::Key, F::Value, F::Input, F::Output, R>();
-        self.known();
+        self.facts();
         match op.keyed() {
             Some(keyed) => self.issue_on_key(slot, keyed, functions, now),
             None => self.relocate(slot, now),
@@ -104,9 +102,8 @@ impl<F: Mergeable, R: Receipt> Partition<F, R> {
         ensures unchanged { OnErr result (self.new ≡ self.old) }
         ensures moment { self.new.moment ≤ now }
     {
-        sessions_preserved::<F::Key, F::Value, F::Input, F::Output, R>();
         pendings_stay::<F::Key, F::Value, F::Input, F::Output, R>();
-        self.known();
+        self.facts();
         if self.holds_relocation(slot, context) {
             self.go_on(slot, context, functions, now)
         } else {
@@ -139,9 +136,8 @@ impl<F: Mergeable, R: Receipt> Partition<F, R> {
         ensures unchanged { OnErr result (self.new ≡ self.old) }
         ensures moment { self.new.moment ≤ now }
     {
-        sessions_preserved::<F::Key, F::Value, F::Input, F::Output, R>();
         pendings_stay::<F::Key, F::Value, F::Input, F::Output, R>();
-        self.known();
+        self.facts();
         if self.holds_relocation(slot, context) {
             Err(Refused::NotReady)
         } else {
@@ -190,9 +186,8 @@ impl<F: Mergeable, R: Receipt> Partition<F, R> {
         ensures within { IfOk result (λ _. (slot < 16) × (context < 8)) }
         ensures moment { self.new.moment ≤ now }
     {
-        loads_preserve_sessions::<F, R>();
         loads_end::<F, R>();
-        self.known();
+        self.facts();
         if self.holds_relocation(slot, context) {
             self.resume_load(slot, context, came, functions, now)
         } else {
@@ -242,9 +237,8 @@ impl<F: Mergeable, R: Receipt> Partition<F, R> {
         ensures within { IfOk result (λ _. (slot < 16) × (context < 8)) }
         ensures moment { self.new.moment ≤ now }
     {
-        loads_preserve_sessions::<F, R>();
         loads_end::<F, R>();
-        self.known();
+        self.facts();
         if self.holds_relocation(slot, context) {
             self.resume_load_by(slot, context, functions, reader, now)
         } else {
@@ -282,9 +276,8 @@ impl<F: Mergeable, R: Receipt> Partition<F, R> {
         ensures within { IfOk result (λ _. (slot < 16) × (context < 8)) }
         ensures moment { self.new.moment ≤ now }
     {
-        loads_preserve_sessions::<F, R>();
         loads_end::<F, R>();
-        self.known();
+        self.facts();
         if self.holds_relocation(slot, context) {
             self.resume_load_own(slot, context, loaded, functions, now)
         } else {
@@ -303,9 +296,7 @@ impl<F: Mergeable, R: Receipt> Partition<F, R> {
         ensures unchanged { OnErr result (self.new ≡ self.old) }
         ensures moment { self.new.moment ≤ now }
     {
-        sessions_preserved::<F::Key, F::Value, F::Input, F::Output, R>();
-        pendings_stay::<F::Key, F::Value, F::Input, F::Output, R>();
-        self.known();
+        self.facts();
         if self.holds_relocation(slot, context) {
             self.drop_relocation(slot, context, now)
         } else {

@@ -1,5 +1,6 @@
 //! Pages of a partition: how the regions move, how pages get to a device, and how the log's start is cut.
-ghost use Rattle.std.specs.Prelude.{◌≡◌, ◌≢◌, ◌+◌, ◌-◌, ◌^◌, ◌<◌, ◌≤◌, ◌↔◌, ◌⊎◌, ℕ, All, List, [], Err, IsTrue, IfOk, IfErr, OnOk, OnErr, Some, length, None, slice_get};
+ghost use Rattle.std.specs.Prelude.{◌≡◌, ◌≢◌, ◌+◌, ◌-◌, ◌^◌, ◌<◌, ◌≤◌, ◌↔◌, ◌⊎◌, ℕ, All, List, [], Err, IsTrue, IfOk, IfErr, OnOk};
+ghost use Rattle.std.specs.Prelude.{OnErr, Some, length, None, slice_get};
 ghost use Rattle.std.specs.BTreeMap.{get, is_at};
 ghost use Rattle.std.specs.Map.{lookup, keys_of};
 ghost use Rattle.std.specs.List.Sorted.{IsStrictlySortedBy};
@@ -17,8 +18,6 @@ ghost use Rattle.fkv_partition.specs.Events.{Shifts, Evicts, Flushes};
 ghost use Rattle.fkv_partition.specs.Truncating.{Truncates, told_of};
 
 use crate::partitions::Partition;
-use crate::pending_laws::pendings_stay;
-use crate::preserving::sessions_preserved;
 use fkv_device::{FlushJob, PageReader, Receipt, Written};
 use fkv_functions::{Mergeable, Refused};
 use fkv_lookups::clearing::cleared_stay;
@@ -39,10 +38,13 @@ impl<F: Mergeable, R: Receipt> Partition<F, R> {
         ensures unchanged { OnErr result (self.new ≡ self.old) }
         ensures moment { self.new.moment ≤ now }
     {
-        sessions_preserved::<F::Key, F::Value, F::Input, F::Output, R>();
-        pendings_stay::<F::Key, F::Value, F::Input, F::Output, R>();
-        self.known();
-        self.move_read_only(page, now)
+        match self.records.shift_read_only(page) {
+            Err(refused) => return Err(refused),
+            Ok(()) => (),
+        }
+        self.records.facts();
+        self.moment = now;
+        Ok(())
     }
 
     /// Moves Head to the start of a page: sessions that are refreshed from now on read records below it from the device.
@@ -56,10 +58,13 @@ impl<F: Mergeable, R: Receipt> Partition<F, R> {
         ensures unchanged { OnErr result (self.new ≡ self.old) }
         ensures moment { self.new.moment ≤ now }
     {
-        sessions_preserved::<F::Key, F::Value, F::Input, F::Output, R>();
-        pendings_stay::<F::Key, F::Value, F::Input, F::Output, R>();
-        self.known();
-        self.move_head(page, now)
+        match self.records.shift_head(page) {
+            Err(refused) => return Err(refused),
+            Ok(()) => (),
+        }
+        self.records.facts();
+        self.moment = now;
+        Ok(())
     }
 
     /// The lowest page that is not flushed.
@@ -70,7 +75,7 @@ impl<F: Mergeable, R: Receipt> Partition<F, R> {
     }
 
     /// What holds of all pages that are kept or wait. It does nothing when it runs.
-    pub fn pages_known(&self)
+    pub fn page_facts(&self)
         ensures receipts { (n : ℕ) (s : Standing)
             → IsHeldBy self.now.records.log.receipts n s
             → (s.page ≡ n) × (s.length ≡ 2 ^ self.now.records.log.bits) }
@@ -83,7 +88,7 @@ impl<F: Mergeable, R: Receipt> Partition<F, R> {
             → IsPageOf F.Key.codec F.Value.codec self.now.records.log.bits
             (length self.now.records.log.receipts + i) self.now.records.log.text page }
     {
-        self.records().log().known();
+        self.records().log().facts();
     }
 
     /// A copy of the lowest page that is not flushed, to be written. Nothing changes but the moment. Refused, and then
@@ -120,10 +125,13 @@ impl<F: Mergeable, R: Receipt> Partition<F, R> {
         ensures unchanged { OnErr result (self.new ≡ self.old) }
         ensures moment { self.new.moment ≤ now }
     {
-        sessions_preserved::<F::Key, F::Value, F::Input, F::Output, R>();
-        pendings_stay::<F::Key, F::Value, F::Input, F::Output, R>();
-        self.known();
-        self.keep_receipt(written, now)
+        match self.records.flush_done(written) {
+            Err(refused) => return Err(refused),
+            Ok(()) => (),
+        }
+        self.records.facts();
+        self.moment = now;
+        Ok(())
     }
 
     /// Moves Begin to the start of a page: records below it are dropped, each of them cleared, and the live map stays.
@@ -137,8 +145,7 @@ impl<F: Mergeable, R: Receipt> Partition<F, R> {
         ensures moment { self.new.moment ≤ now }
     {
         cleared_stay::<F::Key, F::Value>();
-        sessions_preserved::<F::Key, F::Value, F::Input, F::Output, R>();
-        self.known();
+        self.facts();
         if page > self.records().page_of(self.cleared()) {
             return Err(Refused::NotDue);
         }

@@ -92,7 +92,7 @@ impl<F: Mergeable, R: Receipt> Partition<F, R> {
             config.frames,
         )?;
         let contexts = free_places(alloc)?;
-        records.known();
+        records.facts();
         Ok(Partition {
             number,
             count,
@@ -104,7 +104,7 @@ impl<F: Mergeable, R: Receipt> Partition<F, R> {
     }
 
     /// What holds of every partition. It does nothing when it runs.
-    pub fn known(&self)
+    pub fn facts(&self)
         ensures sound { IsSound R.keeps F.Key.cmp F.parts.joined F.code self.now }
         ensures compacting { IsCompacting R.keeps F.Key.cmp F.parts.joined F.code self.now }
     {

@@ -87,7 +87,7 @@ impl<F: Mergeable, R: Receipt> Partition<F, R> {
         requires stands { StageStands R.keeps F.Key.cmp F.parts.joined F.code self.old relocation.now.target stage }
         ensures { self.new ≡ with_relocation self.old slot context (Some (at_stage relocation.now stage)) now }
     {
-        self.known();
+        self.facts();
         let moved = in_stage(relocation, stage);
         self.set_relocation(slot, context, moved, now);
     }
@@ -128,7 +128,7 @@ impl<F: Mergeable, R: Receipt> Partition<F, R> {
         ensures { self.new ≡ done_at self.old slot context place now }
     {
         cleared_stay::<F::Key, F::Value>();
-        self.known();
+        self.facts();
         let cleared = self.past(place);
         self.moment = now;
         self.cleared = cleared;

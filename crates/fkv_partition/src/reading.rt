@@ -110,7 +110,7 @@ impl<F: Mergeable, R: Receipt> Partition<F, R> {
             self.set_stage(slot, context, &relocation, Stage::Fresh, now);
             return Ok(Progress::Next);
         }
-        self.known();
+        self.facts();
         let page = self.records().page_of(wanted);
         match self.read(reader, page) {
             Err(refused) => Err(refused),
@@ -174,7 +174,7 @@ impl<F: Mergeable, R: Receipt> Partition<F, R> {
         ensures undamaged { IsTrue R.keeps → (page : ℕ) → result ≢ Err (Refused.Damaged page) }
         ensures moment { self.new.moment ≤ now }
     {
-        self.known();
+        self.facts();
         let page = self.records().page_of(wanted);
         if let Err(refused) = self.records().is_own(&loaded, page) {
             return Err(refused);
@@ -236,7 +236,7 @@ impl<F: Mergeable, R: Receipt> Partition<F, R> {
         ensures undamaged { IsTrue R.keeps → (page : ℕ) → result ≢ Err (Refused.Damaged page) }
         ensures moment { self.new.moment ≤ now }
     {
-        self.known();
+        self.facts();
         let target = relocation.target;
         let page = self.records().page_of(target);
         match self.records().own_record_in(loaded, target) {
@@ -271,7 +271,7 @@ impl<F: Mergeable, R: Receipt> Partition<F, R> {
         ensures undamaged { IsTrue R.keeps → (page : ℕ) → result ≢ Err (Refused.Damaged page) }
         ensures moment { self.new.moment ≤ now }
     {
-        self.known();
+        self.facts();
         let target = relocation.target;
         let page = self.records().page_of(loading.wanted);
         let low = higher_of(target + 1, self.records().first_of(page));

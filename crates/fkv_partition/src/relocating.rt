@@ -85,7 +85,7 @@ impl<F: Mergeable, R: Receipt> Partition<F, R> {
         ensures unchanged { OnErr result (self.new ≡ self.old) }
         ensures moment { self.new.moment ≤ now }
     {
-        self.known();
+        self.facts();
         let target = relocation.target;
         let view = self.records().view(slot);
         let begin = self.records().begin();
@@ -160,7 +160,7 @@ impl<F: Mergeable, R: Receipt> Partition<F, R> {
         ensures moment { self.new.moment ≤ now }
     {
         cleared_stay::<F::Key, F::Value>();
-        self.known();
+        self.facts();
         if !self.records().holds(&kept) {
             self.set_stage(slot, context, relocation, Stage::Fresh, now);
             return Ok(Progress::Next);
@@ -178,7 +178,7 @@ impl<F: Mergeable, R: Receipt> Partition<F, R> {
                 Ok(Progress::Waits(Wait::Full))
             }
             Ok(Some(_address)) => {
-                self.known();
+                self.facts();
                 self.clear_to(cleared);
                 Ok(Progress::Done(Answer::Cleared, now))
             }

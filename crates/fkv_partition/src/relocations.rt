@@ -7,7 +7,7 @@ ghost use Rattle.fkv_partition.specs.Going.{awaited_by};
 use crate::contexts::Loading;
 use fkv_functions::{Functions, Mergeable};
 use fkv_lookups::ChainResult;
-use fkv_lookups::chain_results::onto;
+use fkv_lookups::chain_results::combined;
 use fkv_operations::IndexEntry;
 use fkv_records::Address;
 use fkv_texts::{ChainPosition, Entry};
@@ -122,7 +122,7 @@ pub fn renewed<F: Mergeable>(
         address: entry.address,
         previous: entry.previous,
         key: entry.key,
-        value: onto(functions, entry.value, parts),
+        value: combined(functions, entry.value, parts),
         delta: false,
     }
 }

@@ -8,8 +8,6 @@ ghost use Rattle.fkv_partition.specs.Events.{Enters, Refreshes};
 ghost use Rattle.fkv_partition.specs.Beginning.{Relocates, LeavesAll, Drops};
 
 use crate::partitions::Partition;
-use crate::pending_laws::pendings_stay;
-use crate::preserving::sessions_preserved;
 use crate::relocations::{Relocation, Stage};
 use fkv_device::Receipt;
 use fkv_functions::{Mergeable, Refused};
@@ -26,10 +24,13 @@ impl<F: Mergeable, R: Receipt> Partition<F, R> {
         ensures unchanged { OnErr result (self.new ≡ self.old) }
         ensures moment { self.new.moment ≤ now }
     {
-        sessions_preserved::<F::Key, F::Value, F::Input, F::Output, R>();
-        pendings_stay::<F::Key, F::Value, F::Input, F::Output, R>();
-        self.known();
-        self.enter_slot(now)
+        let slot = match self.records.enter() {
+            Err(refused) => return Err(refused),
+            Ok(slot) => slot,
+        };
+        self.records.facts();
+        self.moment = now;
+        Ok(slot)
     }
 
     /// Refreshes a session: it tells that the session relies on nothing that it saw before, moves the offsets that are
@@ -43,10 +44,13 @@ impl<F: Mergeable, R: Receipt> Partition<F, R> {
         ensures unchanged { OnErr result (self.new ≡ self.old) }
         ensures moment { self.new.moment ≤ now }
     {
-        sessions_preserved::<F::Key, F::Value, F::Input, F::Output, R>();
-        pendings_stay::<F::Key, F::Value, F::Input, F::Output, R>();
-        self.known();
-        self.refresh_slot(slot, now)
+        match self.records.refresh(slot) {
+            Err(refused) => return Err(refused),
+            Ok(()) => (),
+        }
+        self.records.facts();
+        self.moment = now;
+        Ok(())
     }
 
     /// Leaves a session, frees its slot, and moves the offsets that are due then. Refused, in this order, and then nothing
@@ -60,9 +64,7 @@ impl<F: Mergeable, R: Receipt> Partition<F, R> {
         ensures unchanged { OnErr result (self.new ≡ self.old) }
         ensures moment { self.new.moment ≤ now }
     {
-        sessions_preserved::<F::Key, F::Value, F::Input, F::Output, R>();
-        pendings_stay::<F::Key, F::Value, F::Input, F::Output, R>();
-        self.known();
+        self.facts();
         if self.has_relocation(slot) {
             return Err(Refused::Busy);
         }
@@ -81,7 +83,7 @@ impl<F: Mergeable, R: Receipt> Partition<F, R> {
         ensures unchanged { OnErr result (self.new ≡ self.old) }
         ensures moment { self.new.moment ≤ now }
     {
-        self.known();
+        self.facts();
         if !self.is_session(slot) {
             return Err(Refused::Unknown);
         }

@@ -3,7 +3,7 @@ use Rattle.std.proofs.Common.{◌≡◌, ◌+◌, ◌*◌, ◌/◌, ◌%◌, ◌
 use Rattle.std.specs.Int.{w64, from_le_bytes}
 use Rattle.std.proofs.lemmas.Nat.{from_le_bytes-to_le_bytes_8, and_mask}
 use Rattle.fkv_records.specs.Headers.{header_word, word_bytes, header_bytes, IsSpelledBy}
-use Rattle.fkv_records.specs.declared.headers.Header.{Header}
+use Rattle.fkv_records.specs.declared.fields.Header.{Header}
 
 -- bits 48 and up
 abbrev pub flags_of : Bool → Bool → ℕ

@@ -1,7 +1,7 @@
 -- Headers: the first eight bytes of a record, a word with the lowest byte first.
 use Rattle.std.specs.Prelude.{◌≡◌, ◌+◌, ◌*◌, ◌^◌, ◌<◌, ℕ, Bool, List, if◌then◌else◌}
 use Rattle.std.specs.Int.{w64, to_le_bytes}
-use Rattle.fkv_records.specs.declared.headers.Header.{Header}
+use Rattle.fkv_records.specs.declared.fields.Header.{Header}
 
 -- bits 0 to 47 are the previous address, bit 48 says tombstone, bit 49 delta, bit 50 is 1 and all above are 0
 abbrev pub header_word : ℕ → Bool → Bool → ℕ

@@ -7,7 +7,7 @@ ghost use Rattle.fkv_records.specs.Records.{IsPrevious, IsRecord, Spells};
 ghost use Rattle.fkv_records.specs.declared.records.Record.{Record};
 
 use crate::addresses::{Address, FIRST, NO_RECORD};
-use crate::headers::Header;
+use crate::fields::Header;
 use fkv_functions::Fixed;
 use thiserror::Error;
 

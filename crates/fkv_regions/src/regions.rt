@@ -69,11 +69,11 @@ impl Regions {
     }
 
     /// Tells a proof what holds at any time. It does nothing when it runs.
-    pub fn known(&self)
+    pub fn facts(&self)
         ensures regions { IsRegions self.now }
         ensures epochs { IsTimely self.now.epochs }
     {
-        self.epochs.known();
+        self.epochs.facts();
     }
 
     /// Whether a session is entered at a slot.
@@ -92,7 +92,7 @@ impl Regions {
         ensures moved { IsMoved self.old self.new self.old.offsets.read_only }
         ensures unchanged { OnErr result (self.new ≡ self.old) }
     {
-        self.epochs.known();
+        self.epochs.facts();
         let slot = self.epochs.enter()?;
         let now = self.offsets.view();
         look(&mut self.views, slot, now);
@@ -108,7 +108,7 @@ impl Regions {
         ensures moved { IsMoved self.old self.new self.old.offsets.read_only }
         ensures refused { IfErr result (λ why. (why ≡ Refused.Unknown) × (self.new ≡ self.old)) }
     {
-        self.epochs.known();
+        self.epochs.facts();
         let due = self.epochs.refresh(slot)?;
         run(&mut self.offsets, &due);
         look(&mut self.views, slot, self.offsets.view());
@@ -124,7 +124,7 @@ impl Regions {
         ensures moved { IsMoved self.old self.new self.old.offsets.read_only }
         ensures refused { IfErr result (λ why. (why ≡ Refused.Unknown) × (self.new ≡ self.old)) }
     {
-        self.epochs.known();
+        self.epochs.facts();
         let due = self.epochs.leave(slot)?;
         run(&mut self.offsets, &due);
         Ok(())
@@ -136,7 +136,7 @@ impl Regions {
         ensures value { result ≡ view_at self.now.views slot }
         ensures agrees { ViewAgrees self.now.offsets result }
     {
-        self.epochs.known();
+        self.epochs.facts();
         view_in(&self.views, slot)
     }
 
@@ -151,7 +151,7 @@ impl Regions {
         ensures on_disk { result ≡ OnDisk → address < self.now.offsets.head }
         ensures open_page { (result ≡ OnDisk → ⊥) → self.now.offsets.closed ≤ address }
     {
-        self.epochs.known();
+        self.epochs.facts();
         view_in(&self.views, slot).region(address)
     }
 
@@ -189,7 +189,7 @@ impl Regions {
         if !self.is_read_only_due(page, tail) {
             return Err(Refused::NotDue);
         }
-        self.epochs.known();
+        self.epochs.facts();
         let start = self.shape.start(page);
         let due = self.epochs.bump(Action::Safe(start))?;
         self.offsets.read_only = start;
@@ -213,7 +213,7 @@ impl Regions {
         if !self.is_head_due(page) {
             return Err(Refused::NotDue);
         }
-        self.epochs.known();
+        self.epochs.facts();
         let start = self.shape.start(page);
         let due = self.epochs.bump(Action::Closed(start))?;
         self.offsets.head = start;

@@ -20,7 +20,7 @@ ghost use Rattle.fkv_requests.specs.Memory.{
   frames_in,
 };
 
-use fkv_feed_rows::amounts::short_number;
+use fkv_feed_rows::rows::short_number;
 
 /// What a letter stands for: K 2^10, M 2^20, G 2^30 and T 2^40.
 fn power_of(letter: u8) -> Option<u64>

@@ -190,11 +190,6 @@ here failures [] home p within at = absurd (omega arith)
 here failures (q ∷ ps) zero p within at = ap failures at
 here failures (q ∷ ps) (suc n) p within at = here failures ps n p (omega arith) at
 
-pub told-at : (xs : List ℕ) (i n : ℕ) → i < length xs → n ≡ get_or xs i n → slice_index xs i ≡ n
-told-at [] i n within at = absurd (omega arith)
-told-at (x ∷ xs) zero n within at = sym at
-told-at (x ∷ xs) (suc i) n within at = told-at xs i n (omega arith) at
-
 module _ {P : Type 0} (failures : P → ℕ) (ps : List P) (home : ℕ) (p q : P) (was missed : ℕ) (within : home < length ps)
     (at : p ≡ get_or ps home p) (same : was ≡ failures p) where
   pub one-steady : failures q ≡ was + missed → AreSteady home (map failures ps) (map failures (slice_set ps home q)) missed

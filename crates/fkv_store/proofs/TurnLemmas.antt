@@ -5,11 +5,11 @@ use Rattle.fkv_locked.specs.declared.open_operations.OpenOperation.{OpenOperatio
 use Rattle.fkv_locked.specs.declared.turns.Turn.{Turn}
 use Rattle.fkv_locked.specs.declared.turns.Turn.TheVariants.{Done, Next, NeedsBuild, NeedsLoad, Waits}
 
-pub turn_of : {K V I O R : Type 0} (keeps : Bool) (at : ℕ) (looks : List ℕ) (old new : Noted K V I O) (mine : OpenOperation K V I) (turn : Turn K V I O R)
-    → Turns keeps at looks old new mine turn
-    → IsTurnOf mine turn
-turn_of keeps at looks old new mine (Done e) h = h.of
-turn_of keeps at looks old new mine Next h = tt
-turn_of keeps at looks old new mine (NeedsBuild ask) h = tt
-turn_of keeps at looks old new mine (NeedsLoad r a) h = tt
-turn_of keeps at looks old new mine (Waits why) h = tt
+pub turn_of : {K V I O R : Type 0} (keeps : Bool) (at : ℕ) (looks : List ℕ) (old new : Noted K V I O) (operation : OpenOperation K V I) (turn : Turn K V I O R)
+    → Turns keeps at looks old new operation turn
+    → IsTurnOf operation turn
+turn_of keeps at looks old new operation (Done e) h = h.of
+turn_of keeps at looks old new operation Next h = tt
+turn_of keeps at looks old new operation (NeedsBuild ask) h = tt
+turn_of keeps at looks old new operation (NeedsLoad r a) h = tt
+turn_of keeps at looks old new operation (Waits why) h = tt

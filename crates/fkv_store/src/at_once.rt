@@ -138,11 +138,10 @@ impl<F: Mergeable, D: Disk, H: Recorder<F>> Pass<F, D, H> {
             Ok(()) => {}
             Err(_refused) => return None,
         }
-        let known = self.told[partition];
+        let known = self.owns.told_at(partition);
         match try_in_hold(held, session, op, known, &store.functions) {
             Ok(Some(finished)) => {
                 let answer = self.owns.take(partition, finished);
-                self.told[partition] = self.owns.told_at(partition);
                 self.turned = Turned::none();
                 Some(answer)
             }

@@ -12,18 +12,18 @@ ghost use Rattle.fkv_store.specs.Stores.{AreReaders, IsClosing, IsEnding, IsUnop
 
 use crate::passes::Pass;
 use crate::stores::{Store, readers_of};
-use crate::unlisted::{Ended, Parted, take_apart};
+use crate::unlisted::{ClosedStore, ListedPartitions, take_apart};
 use fkv_closing::{Closed, Settled, close_parts, close_unlisted};
 use fkv_device::{Disk, Receipt};
 use fkv_functions::{Mergeable, Refused};
 use fkv_histories::Recorder;
-use fkv_locked::{Locked, Part};
+use fkv_locked::{EndedPartition, Locked};
 use std::alloc::Global;
 use std::sync::Mutex;
 
 /// What passes keep: of each, its recorder of each partition, and its share.
 #[derive(Drop)]
-struct Kept<H: Drop> {
+struct PassRecorders<H: Drop> {
     owns: Vec<Vec<H>>,
     shares: Vec<u64>,
 }
@@ -33,7 +33,7 @@ fn kept_by<F: Mergeable, D: Disk, H: Recorder<F>>(
     alloc: Global,
     passes: Vec<Pass<F, D, H>>,
     count: usize,
-) -> Result<Kept<H>, Refused>
+) -> Result<PassRecorders<H>, Refused>
     requires { All (λ pass. length pass.told ≡ count) passes.items }
     ensures sized { IfOk result (λ kept. All (λ own. vec_len own ≡ count) kept.owns.items) }
     ensures owns { IfOk result (λ kept. map (λ own. map H.entries own.items) kept.owns.items
@@ -53,14 +53,14 @@ fn kept_by<F: Mergeable, D: Disk, H: Recorder<F>>(
             return Err(Refused::NoMemory);
         };
     }
-    Ok(Kept { owns, shares })
+    Ok(PassRecorders { owns, shares })
 }
 
 /// What is left of partitions under their locks, in order. Refused: `NoMemory`.
 fn parts_of<F: Mergeable, R: Receipt, H: Recorder<F>>(
     alloc: Global,
     locks: Vec<Mutex<Locked<F, R, H>>>,
-) -> Result<Vec<Part<F, R>>, Refused>
+) -> Result<Vec<EndedPartition<F, R>>, Refused>
     ensures ended { IfOk result (λ parts. H.keeps ≡ true → IsTrue R.keeps → All (λ part. IsEnded F.Key.cmp F.meaning
         (seen F.Key.cmp part.partition) part.history.items part.book) parts.items) }
     ensures len { IfOk result (λ parts. length parts.items ≡ vec_len locks) }
@@ -80,7 +80,7 @@ fn parts_of<F: Mergeable, R: Receipt, H: Recorder<F>>(
 #[derive(Drop)]
 struct Left<F: Mergeable, D: Disk, H: Recorder<F>> {
     functions: F,
-    parts: Vec<Part<F, D::Receipt>>,
+    parts: Vec<EndedPartition<F, D::Receipt>>,
     writers: Vec<Mutex<D::Writer>>,
     readers: Vec<D::Reader>,
     owns: Vec<Vec<H>>,
@@ -142,7 +142,7 @@ impl<F: Mergeable, D: Disk, H: Recorder<F>> Store<F, D, H> {
             Ok(kept) => kept,
             Err(refused) => return Err(refused),
         };
-        let Kept { owns, shares } = kept;
+        let PassRecorders { owns, shares } = kept;
         Ok(Left {
             functions,
             parts,
@@ -217,7 +217,7 @@ impl<F: Mergeable, D: Disk, H: Recorder<F>> Store<F, D, H> {
         self,
         alloc: Global,
         passes: Vec<Pass<F, D, H>>,
-    ) -> Result<Ended<F, D>, Refused>
+    ) -> Result<ClosedStore<F, D>, Refused>
         ensures closed { H.keeps ≡ true → IsTrue D.Receipt.keeps → IfOk result (λ ended. IsClosed F.Key.cmp F.meaning F.code
             (map (λ pass. pass.own) passes.items) (map (λ pass. pass.share) passes.items)
             (union_of F.Key.cmp F.code (map (λ part. part.partition) ended.partitions.items))
@@ -262,11 +262,11 @@ impl<F: Mergeable, D: Disk, H: Recorder<F>> Store<F, D, H> {
         let Settled { parts, finished } = settled;
         match take_apart(alloc, parts, writers, readers) {
             Ok(
-                Parted {
+                ListedPartitions {
                     partitions,
                     histories,
                 },
-            ) => Ok(Ended {
+            ) => Ok(ClosedStore {
                 functions,
                 partitions,
                 histories,

@@ -1,7 +1,7 @@
 //! How the start of a partition's log is cleared and cut, a hold at a time.
 ghost use Rattle.std.specs.Prelude.{◌≡◌, ◌≢◌, ◌+◌, ◌-◌, ◌^◌, ◌<◌, ◌≤◌, ◌⊎◌, Err, IfOk, IfErr};
 ghost use Rattle.fkv_store.specs.Stores.{IsUncompacted, IsUnrelocated, IsUncut, IsUnentered, IsUnopened};
-ghost use Rattle.fkv_store.specs.declared.compacting.Stage.TheVariants.{Over};
+ghost use Rattle.fkv_store.specs.declared.compacting.RelocationStep.TheVariants.{Over};
 
 use crate::gates::{Gate, Place};
 use crate::holds::At;
@@ -117,7 +117,7 @@ impl<P: PageReader> Pages<P> {
 
 /// How far relocations are.
 #[derive(Drop)]
-enum Stage<R: Drop> {
+enum RelocationStep<R: Drop> {
     /// One begins, or begins anew.
     Begun,
     /// The page by this receipt is to be read.
@@ -130,7 +130,7 @@ enum Stage<R: Drop> {
 
 /// What comes of a refused event of a compactor: relocations end where none is due, and where its session is not its own any more.
 /// The session is known to no other caller, so that does not come.
-fn after_refusal<R: Drop>(refused: Refused) -> Result<Stage<R>, Refused>
+fn after_refusal<R: Drop>(refused: Refused) -> Result<RelocationStep<R>, Refused>
     ensures only { IfErr result IsUnrelocated }
     ensures over { IfOk result (λ stage. stage ≡ Over) }
 {
@@ -139,17 +139,19 @@ fn after_refusal<R: Drop>(refused: Refused) -> Result<Stage<R>, Refused>
         | Refused::Worn
         | Refused::Device { code: 3, .. }
         | Refused::Damaged { .. } => Err(refused),
-        _ => Ok(Stage::Over),
+        _ => Ok(RelocationStep::Over),
     }
 }
 
 /// What comes of an event of a compactor: relocations end where one waits.
-fn after_event<F: Mergeable, D: Disk>(made: ProgressOf<F, D::Receipt>) -> Stage<D::Receipt> {
+fn after_event<F: Mergeable, D: Disk>(
+    made: ProgressOf<F, D::Receipt>,
+) -> RelocationStep<D::Receipt> {
     match made {
-        Progress::NeedsLoad(receipt, _) => Stage::NeedsLoad(receipt),
-        Progress::Waits(_) => Stage::Over,
-        Progress::Done(_, _) => Stage::Done,
-        Progress::Next | Progress::NeedsBuild(_) => Stage::Begun,
+        Progress::NeedsLoad(receipt, _) => RelocationStep::NeedsLoad(receipt),
+        Progress::Waits(_) => RelocationStep::Over,
+        Progress::Done(_, _) => RelocationStep::Done,
+        Progress::Next | Progress::NeedsBuild(_) => RelocationStep::Begun,
     }
 }
 
@@ -287,14 +289,14 @@ impl<F: Mergeable, D: Disk, H: Recorder<F>> Store<F, D, H> {
             let page = came;
             came = None;
             match self.relocate_on(rt, at, joined, page, events, gate) {
-                Ok(Stage::Begun) if begun > RESTARTS => return Ok(()),
-                Ok(Stage::Begun) => {
+                Ok(RelocationStep::Begun) if begun > RESTARTS => return Ok(()),
+                Ok(RelocationStep::Begun) => {
                     begun += 1;
                     is_of_place = true;
                 }
-                Ok(Stage::Done) => begun = 0,
-                Ok(Stage::Over) => return Ok(()),
-                Ok(Stage::NeedsLoad(receipt)) => {
+                Ok(RelocationStep::Done) => begun = 0,
+                Ok(RelocationStep::Over) => return Ok(()),
+                Ok(RelocationStep::NeedsLoad(receipt)) => {
                     came = pages.kept(&receipt);
                     if came.is_none() {
                         gate.pass(at.worker, Place::Load);
@@ -347,7 +349,7 @@ impl<F: Mergeable, D: Disk, H: Recorder<F>> Store<F, D, H> {
         page: Option<Result<Loaded<D::Receipt>, Refused>>,
         events: &mut Events,
         gate: &G,
-    ) -> Result<Stage<D::Receipt>, Refused>
+    ) -> Result<RelocationStep<D::Receipt>, Refused>
         requires within { at.partition < self.now.count }
         requires room { events.old < 2 ^ 64 - 1 }
         ensures only { IfErr result IsUnrelocated }
@@ -357,14 +359,14 @@ impl<F: Mergeable, D: Disk, H: Recorder<F>> Store<F, D, H> {
         gate.pass(at.worker, at.locked());
         let made = match page {
             Some(came) => held.load_relocation(&joined.compactor, came, &self.functions),
-            None if held.cleared() >= joined.end => return Ok(Stage::Over),
+            None if held.cleared() >= joined.end => return Ok(RelocationStep::Over),
             None => held.next(&joined.compactor, &self.functions),
         };
         match made {
             Ok(made) => {
                 let stage = after_event::<F, D>(made);
                 events.count += 1;
-                if matches!(stage, Stage::Done) {
+                if matches!(stage, RelocationStep::Done) {
                     events.finished = events.finished.saturating_add(1);
                 }
                 Ok(stage)

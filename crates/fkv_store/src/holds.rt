@@ -32,7 +32,7 @@ impl At {
 /// An operation of a caller that is issued. A contract sees it as what the caller knows of it. It is neither copied nor let go: it
 /// ends where an event finished it ([`close`]), or it is given up ([`give_up`]).
 pub(crate) struct Issued<K, V, I> {
-    mine: OpenOperation<K, V, I>,
+    operation: OpenOperation<K, V, I>,
 }
 
 impl<K, V, I> Model for Issued<K, V, I> {
@@ -40,9 +40,9 @@ impl<K, V, I> Model for Issued<K, V, I> {
 
     ghost Value = { OpenOperation K V I };
 
-    ghost view = { λ i. i.mine };
+    ghost view = { λ i. i.operation };
 
-    ghost inverse = { λ mine. record { mine = mine } };
+    ghost inverse = { λ operation. record { operation = operation } };
 }
 
 /// The operations of callers of one type of functions that are issued.
@@ -158,7 +158,7 @@ pub(crate) fn issue<F: Mergeable, D: Disk, H: Recorder<F>, G: Gate>(
     let mut held = store.locks[at.partition].lock(rt);
     gate.pass(at.worker, at.locked());
     match held.issue(session, op, known, &store.functions) {
-        Ok(mine) => Ok(Issued { mine }),
+        Ok(operation) => Ok(Issued { operation }),
         Err(refused) => Err(told_of(refused, known)),
     }
 }
@@ -197,12 +197,12 @@ pub(crate) fn go<F: Mergeable, D: Disk, H: Recorder<F>, G: Gate>(
 {
     let mut held = store.locks[at.partition].lock(rt);
     gate.pass(at.worker, at.locked());
-    match held.go(&issued.mine, &store.functions) {
+    match held.go(&issued.operation, &store.functions) {
         Ok(turn) => {
             turned.count += 1;
             Ok(turn)
         }
-        Err(refused) => Err(told_of(refused, issued.mine.told)),
+        Err(refused) => Err(told_of(refused, issued.operation.told)),
     }
 }
 
@@ -230,14 +230,14 @@ pub(crate) fn load<F: Mergeable, D: Disk, H: Recorder<F>, G: Gate>(
     let fault = fault_in(&came);
     let mut held = store.locks[at.partition].lock(rt);
     gate.pass(at.worker, at.locked());
-    match held.load(&issued.mine, came, &store.functions) {
+    match held.load(&issued.operation, came, &store.functions) {
         Ok(turn) => {
             turned.count += 1;
             turned.missed += faults_of(fault);
             Ok(turn)
         }
         Err(refused) => {
-            let why = told_of_load(refused, fault, issued.mine.told);
+            let why = told_of_load(refused, fault, issued.operation.told);
             if is_page_fault(&why) {
                 return Err(why);
             }
@@ -263,9 +263,9 @@ pub(crate) fn install<F: Mergeable, D: Disk, H: Recorder<F>, G: Gate>(
 {
     let mut held = store.locks[at.partition].lock(rt);
     gate.pass(at.worker, at.locked());
-    match held.install(&issued.mine, built, &store.functions) {
+    match held.install(&issued.operation, built, &store.functions) {
         Ok(turn) => Ok(turn),
-        Err(refused) => Err(told_of(refused, issued.mine.told)),
+        Err(refused) => Err(told_of(refused, issued.operation.told)),
     }
 }
 
@@ -273,7 +273,7 @@ pub(crate) fn install<F: Mergeable, D: Disk, H: Recorder<F>, G: Gate>(
 pub(crate) fn close<F: Mergeable>(issued: IssuedOf<F>, _finished: &FinishedOf<F>)
     requires { IsOf issued _finished.now }
 {
-    let Issued { mine: _mine } = issued;
+    let Issued { operation: _mine } = issued;
 }
 
 /// Gives an operation of a caller up, if it is still open.
@@ -286,9 +286,9 @@ pub(crate) fn give_up<F: Mergeable, D: Disk, H: Recorder<F>, G: Gate>(
 )
     requires { at.partition < store.now.count }
 {
-    let Issued { mine } = issued;
+    let Issued { operation } = issued;
     let mut held = store.locks[at.partition].lock(rt);
     gate.pass(at.worker, at.locked());
     // a page that was refused has ended it already
-    let _ended = held.give_up(&mine);
+    let _ended = held.give_up(&operation);
 }

@@ -9,7 +9,7 @@ ghost use Rattle.fkv_store.specs.Runs.{IsRunAs, AreCounted, AreSteady};
 
 use crate::gates::{Gate, Open, Place};
 use crate::holds::{At, Turned, enter, leave};
-use crate::running::{Loads, Run, Seen, refresh_all, refresh_moved, run_by_turns};
+use crate::running::{Loads, OperationRun, SeenMoves, refresh_all, refresh_moved, run_by_turns};
 use crate::stores::Store;
 use fkv_device::Disk;
 use fkv_functions::{Mergeable, Refused, What};
@@ -30,12 +30,11 @@ pub(crate) const ANSWERS: u8 = 64;
 pub struct Pass<F: Mergeable, D: Disk, H: Recorder<F>> {
     pub(crate) store: u64,
     pub(crate) worker: u32,
+    /// What it was answered, and for each partition of how many updates it was told: by its answers, or by marks of other passes.
     pub(crate) owns: Owns<F, H>,
-    /// For each partition of how many updates it was told: by its answers, or by marks of other passes.
-    pub(crate) told: Vec<u64>,
     pub(crate) sessions: Vec<Option<SessionId>>,
     /// How often pages had been moved when its sessions were refreshed.
-    pub(crate) seen: Seen,
+    pub(crate) seen: SeenMoves,
     pub(crate) readers: Vec<D::Reader>,
     /// How many operations were answered since its sessions were refreshed.
     pub(crate) answered: u8,
@@ -52,7 +51,7 @@ impl<F: Mergeable, D: Disk, H: Recorder<F>> Model for Pass<F, D, H> {
     ghost view = { λ p. record {
       store = p.store;
       own = map H.entries p.owns.lists;
-      told = p.told.items;
+      told = p.owns.told;
       share = p.owns.share;
       last = p.owns.last;
       turned = p.turned.count;
@@ -60,8 +59,7 @@ impl<F: Mergeable, D: Disk, H: Recorder<F>> Model for Pass<F, D, H> {
       reads = map D.Reader.failures p.readers.items;
     } };
 
-    ghost invariant = { λ p. (length p.told.items ≡ length p.owns.lists)
-        × (length p.owns.told ≡ length p.owns.lists)
+    ghost invariant = { λ p. (length p.owns.told ≡ length p.owns.lists)
         × (length p.sessions.items ≡ length p.owns.lists)
         × (length p.seen.each.items ≡ length p.owns.lists)
         × (length p.readers.items ≡ length p.owns.lists) };
@@ -156,7 +154,7 @@ fn refresh_at_times<F: Mergeable, D: Disk, H: Recorder<F>, G: Gate>(
     rt: &impl Wait,
     store: &Store<F, D, H>,
     sessions: &[Option<SessionId>],
-    seen: &mut Seen,
+    seen: &mut SeenMoves,
     worker: u32,
     answered: &mut u8,
     gate: &G,
@@ -186,7 +184,7 @@ fn refresh_again<F: Mergeable, D: Disk, H: Recorder<F>, G: Gate>(
     rt: &impl Wait,
     store: &Store<F, D, H>,
     sessions: &[Option<SessionId>],
-    seen: &mut Seen,
+    seen: &mut SeenMoves,
     worker: u32,
     answered: &mut u8,
     gate: &G,
@@ -209,7 +207,7 @@ pub(crate) fn is_fresh<F: Mergeable, D: Disk, H: Recorder<F>, G: Gate>(
     rt: &impl Wait,
     store: &Store<F, D, H>,
     sessions: &[Option<SessionId>],
-    seen: &mut Seen,
+    seen: &mut SeenMoves,
     worker: u32,
     answered: &mut u8,
     gate: &G,
@@ -435,8 +433,8 @@ impl<F: Mergeable, D: Disk, H: Recorder<F>> Pass<F, D, H> {
             Ok(session) => session,
             Err(refused) => return Err(refused),
         };
-        let known = self.told[partition];
-        let run = Run {
+        let known = self.owns.told_at(partition);
+        let run = OperationRun {
             alloc,
             at,
             sessions: &self.sessions,
@@ -457,7 +455,6 @@ impl<F: Mergeable, D: Disk, H: Recorder<F>> Pass<F, D, H> {
             Err(refused) => return Err(refused),
         };
         let answer = self.owns.take(partition, finished);
-        self.told[partition] = self.owns.told_at(partition);
         self.answered += 1;
         gate.pass(self.worker, Place::Answered);
         Ok(answer)
@@ -471,9 +468,10 @@ impl<F: Mergeable, D: Disk, H: Recorder<F>> Pass<F, D, H> {
           told = slice_index self.now.told partition;
         } }
     {
-        let told = match self.told.get(partition) {
-            Some(told) => *told,
-            None => 0,
+        let told = if partition < self.owns.partitions() {
+            self.owns.told_at(partition)
+        } else {
+            0
         };
         Mark {
             store: self.store,
@@ -503,14 +501,14 @@ impl<F: Mergeable, D: Disk, H: Recorder<F>> Pass<F, D, H> {
                 came: mark.store,
             });
         }
-        if mark.partition >= self.told.len() {
+        if mark.partition >= self.owns.partitions() {
             return Err(Refused::Stranger {
                 what: What::Pass,
-                held: self.told.len() as u64,
+                held: self.owns.partitions() as u64,
                 came: mark.partition as u64,
             });
         }
-        self.told[mark.partition] = self.told[mark.partition].max(mark.told);
+        self.owns.hear(mark.partition, mark.told);
         Ok(())
     }
 

@@ -33,7 +33,7 @@ pub enum Loads {
 /// What a pass hands to the run of one operation: where it runs, and in which of its sessions; and of how many updates of the
 /// partition it was told.
 #[derive(Clone, Copy)]
-pub(crate) struct Run<'a> {
+pub(crate) struct OperationRun<'a> {
     pub alloc: Global,
     pub at: At,
     pub sessions: &'a [Option<SessionId>],
@@ -66,7 +66,7 @@ pub(crate) fn refresh_all<F: Mergeable, D: Disk, H: Recorder<F>, G: Gate>(
 
 /// How often pages had been moved when the sessions of a pass were refreshed: those of any partition, and those of each.
 #[derive(Drop)]
-pub(crate) struct Seen {
+pub(crate) struct SeenMoves {
     pub any: u64,
     pub each: Vec<u64>,
 }
@@ -77,7 +77,7 @@ pub(crate) fn refresh_moved<F: Mergeable, D: Disk, H: Recorder<F>, G: Gate>(
     rt: &impl Wait,
     store: &Store<F, D, H>,
     sessions: &[Option<SessionId>],
-    seen: &mut Seen,
+    seen: &mut SeenMoves,
     worker: u32,
     gate: &G,
 ) -> Result<(), Refused>
@@ -192,7 +192,7 @@ const STEPS: u8 = 2;
 fn wait<F: Mergeable, D: Disk, H: Recorder<F>, G: Gate>(
     rt: &(impl Wait + Clock),
     store: &Store<F, D, H>,
-    run: &Run<'_>,
+    run: &OperationRun<'_>,
     patience: &mut Patience,
     gate: &G,
 ) -> Result<(), Refused>
@@ -220,7 +220,7 @@ fn wait<F: Mergeable, D: Disk, H: Recorder<F>, G: Gate>(
 fn run_on<F: Mergeable, D: Disk, H: Recorder<F>, G: Gate>(
     rt: &(impl Wait + Clock),
     store: &Store<F, D, H>,
-    run: &Run<'_>,
+    run: &OperationRun<'_>,
     reader: &mut D::Reader,
     issued: &IssuedOf<F>,
     reads: bool,
@@ -274,7 +274,7 @@ fn run_on<F: Mergeable, D: Disk, H: Recorder<F>, G: Gate>(
 fn run_out<F: Mergeable, D: Disk, H: Recorder<F>, G: Gate>(
     rt: &(impl Wait + Clock),
     store: &Store<F, D, H>,
-    run: &Run<'_>,
+    run: &OperationRun<'_>,
     reader: &mut D::Reader,
     op: KeyedOpOf<F>,
     reads: bool,
@@ -319,7 +319,7 @@ fn run_out<F: Mergeable, D: Disk, H: Recorder<F>, G: Gate>(
 fn run_reading<F: Mergeable, D: Disk, H: Recorder<F>, G: Gate>(
     rt: &(impl Wait + Clock),
     store: &Store<F, D, H>,
-    run: &Run<'_>,
+    run: &OperationRun<'_>,
     reader: &mut D::Reader,
     op: KeyedOpOf<F>,
     turned: &mut Turned,
@@ -360,7 +360,7 @@ fn merge_for<F: Mergeable>(op: &KeyedOpOf<F>, loads: Loads) -> Option<KeyedOpOf<
 pub(crate) fn run_by_turns<F: Mergeable, D: Disk, H: Recorder<F>, G: Gate>(
     rt: &(impl Wait + Clock),
     store: &Store<F, D, H>,
-    run: &Run<'_>,
+    run: &OperationRun<'_>,
     readers: &mut Vec<D::Reader>,
     op: KeyedOpOf<F>,
     loads: Loads,

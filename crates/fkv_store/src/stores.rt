@@ -7,13 +7,12 @@ ghost use Rattle.fkv_device.specs.Failing.{FailsOnlyBy};
 ghost use Rattle.fkv_store.specs.Stores.{AreReaders, IsUnopened};
 
 use crate::holds::Turned;
-use crate::lists::{no_sessions, zeros};
 use crate::passes::Pass;
-use crate::running::Seen;
+use crate::running::SeenMoves;
 use fkv_device::Disk;
 use fkv_functions::{Functions, Mergeable, Refused};
 use fkv_histories::Recorder;
-use fkv_locked::{Locked, Owns};
+use fkv_locked::{Locked, Owns, SessionId};
 use fkv_operations::partition_at;
 use fkv_partition::Config;
 use std::alloc::Global;
@@ -53,7 +52,7 @@ impl<F: Mergeable, D: Disk, H: Recorder<F>> Model for Store<F, D, H> {
 
 /// The locked partitions of a store, with nothing in them, and the writers of their pages.
 #[derive(Drop)]
-struct Opened<F: Mergeable, D: Disk, H: Recorder<F>> {
+struct EmptyPartitions<F: Mergeable, D: Disk, H: Recorder<F>> {
     writers: Vec<Mutex<D::Writer>>,
     locks: Vec<Mutex<Locked<F, D::Receipt, H>>>,
     moves: Vec<AtomicU64>,
@@ -66,7 +65,7 @@ fn open_all<F: Mergeable, D: Disk, H: Recorder<F>>(
     config: &Config,
     device: &mut D,
     count: u64,
-) -> Result<Opened<F, D, H>, Refused>
+) -> Result<EmptyPartitions<F, D, H>, Refused>
     requires limits { IsWithinLimits config.now (size_of F.Key.SIZE F.Value.SIZE) }
     requires count { count ≡ 2 ^ config.now.partition_bits }
     ensures locks { IfOk result (λ opened. length opened.locks.items ≡ count) }
@@ -96,7 +95,7 @@ fn open_all<F: Mergeable, D: Disk, H: Recorder<F>>(
             return Err(Refused::NoMemory);
         };
     }
-    Ok(Opened {
+    Ok(EmptyPartitions {
         writers,
         locks,
         moves,
@@ -155,7 +154,7 @@ impl<F: Mergeable, D: Disk, H: Recorder<F>> Store<F, D, H> {
             Ok(opened) => opened,
             Err(refused) => return Err(refused),
         };
-        let Opened {
+        let EmptyPartitions {
             writers,
             locks,
             moves,
@@ -239,10 +238,6 @@ impl<F: Mergeable, D: Disk, H: Recorder<F>> Store<F, D, H> {
             Ok(owns) => owns,
             Err(refused) => return Err(refused),
         };
-        let told = match zeros(alloc, count) {
-            Ok(told) => told,
-            Err(refused) => return Err(refused),
-        };
         let sessions = match no_sessions(alloc, count) {
             Ok(sessions) => sessions,
             Err(refused) => return Err(refused),
@@ -255,9 +250,8 @@ impl<F: Mergeable, D: Disk, H: Recorder<F>> Store<F, D, H> {
             store: self.id,
             worker,
             owns,
-            told,
             sessions,
-            seen: Seen { any: 0, each },
+            seen: SeenMoves { any: 0, each },
             readers,
             answered: 0,
             turned: Turned::none(),
@@ -277,4 +271,26 @@ impl<F: Mergeable, D: Disk, H: Recorder<F>> Store<F, D, H> {
         let mut device = self.device.lock(rt);
         readers_of(alloc, &mut *device, count)
     }
+}
+
+/// So many zeros. Refused: `NoMemory`.
+pub(crate) fn zeros(alloc: Global, count: usize) -> Result<Vec<u64>, Refused>
+    ensures ok { IfOk result (λ told. told.items ≡ replicate count 0) }
+    ensures only { IfErr result (λ refused. refused ≡ Refused.NoMemory) }
+{
+    let Ok(told) = vec![in alloc; 0u64; count] else {
+        return Err(Refused::NoMemory);
+    };
+    Ok(told)
+}
+
+/// No session, for each of so many partitions. Refused: `NoMemory`.
+pub(crate) fn no_sessions(alloc: Global, count: usize) -> Result<Vec<Option<SessionId>>, Refused>
+    ensures ok { IfOk result (λ sessions. sessions.items ≡ replicate count None) }
+    ensures only { IfErr result (λ refused. refused ≡ Refused.NoMemory) }
+{
+    let Ok(sessions) = vec![in alloc; None; count] else {
+        return Err(Refused::NoMemory);
+    };
+    Ok(sessions)
 }

@@ -39,8 +39,8 @@ fn untaken(refused: Refused) -> Result<bool, Refused>
 }
 
 impl<F: Mergeable, D: Disk, H: Recorder<F>> Store<F, D, H> {
-    /// Moves a partition's pages on: ReadOnly follows the tail, so that half of the frames are changed in place, one at
-    /// least; the pages that wait are written, as many as there are frames at the most; and Head follows, as far as pages
+    /// Moves a partition's pages on: ReadOnly follows the tail, so that records in most frames are changed in place
+    /// ([`read_only_page`]); the pages that wait are written, as many as there are frames at the most; and Head follows, as far as pages
     /// are written, so that the page behind the tail's finds its frame free. What is not due is passed over. Pages wait for
     /// the sessions of all passes to be refreshed. Answers Head, as the last hold leaves it.
     ///

@@ -10,7 +10,7 @@ ghost use Rattle.fkv_store.specs.Stores.{IsUnlisted};
 use fkv_device::Disk;
 use fkv_functions::{Mergeable, Refused};
 use fkv_histories::EntryOf;
-use fkv_locked::Part;
+use fkv_locked::EndedPartition;
 use fkv_partition::Partition;
 use std::alloc::Global;
 use std::collections::BTreeMap;
@@ -36,7 +36,7 @@ pub struct Listed<F: Mergeable, D: Disk> {
 
 /// What a store comes to at its end, where its partitions are still to be listed.
 #[derive(Drop)]
-pub struct Ended<F: Mergeable, D: Disk> {
+pub struct ClosedStore<F: Mergeable, D: Disk> {
     /// The functions of the store.
     pub functions: F,
     /// Its partitions, in order.
@@ -111,7 +111,7 @@ impl<F: Mergeable, D: Disk> Unlisted<F, D> {
 
 /// The partitions of parts, each with its reader and its writer, and their histories.
 #[derive(Drop)]
-pub(crate) struct Parted<F: Mergeable, D: Disk> {
+pub(crate) struct ListedPartitions<F: Mergeable, D: Disk> {
     pub partitions: Vec<Unlisted<F, D>>,
     pub histories: Vec<Vec<EntryOf<F>>>,
 }
@@ -119,10 +119,10 @@ pub(crate) struct Parted<F: Mergeable, D: Disk> {
 /// Takes parts apart: each partition with its reader and its writer, and the histories, in order. Refused: `NoMemory`.
 pub(crate) fn take_apart<F: Mergeable, D: Disk>(
     alloc: Global,
-    parts: Vec<Part<F, D::Receipt>>,
+    parts: Vec<EndedPartition<F, D::Receipt>>,
     writers: Vec<Mutex<D::Writer>>,
     readers: Vec<D::Reader>,
-) -> Result<Parted<F, D>, Refused>
+) -> Result<ListedPartitions<F, D>, Refused>
     requires writers { length writers.items ≡ length parts.items }
     requires readers { length readers.items ≡ length parts.items }
     ensures partitions { IfOk result (λ parted. map (λ part. part.partition) parted.partitions.items
@@ -143,7 +143,7 @@ pub(crate) fn take_apart<F: Mergeable, D: Disk>(
         let Some(writer) = writers.next() else {
             unreachable!();
         };
-        let Part {
+        let EndedPartition {
             partition,
             history,
             ..
@@ -159,7 +159,7 @@ pub(crate) fn take_apart<F: Mergeable, D: Disk>(
             return Err(Refused::NoMemory);
         };
     }
-    Ok(Parted {
+    Ok(ListedPartitions {
         partitions,
         histories,
     })

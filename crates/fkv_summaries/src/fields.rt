@@ -2,10 +2,10 @@
 ghost use Rattle.fkv_summaries.specs.Summaries.{summary_field, summary_some};
 
 use crate::summaries::Summary;
-use fkv_feeds::Shown;
+use fkv_feeds::RowFields;
 use itoa::Buffer;
 
-impl Shown for Summary {
+impl RowFields for Summary {
     const FIELDS: usize = 4;
 
     ghost FIELDS = { 4 };

@@ -1,6 +1,6 @@
 //! How much a run did.
 use fkv_device::MemoryDevice;
-use fkv_feeds::{Counts, run_one};
+use fkv_feeds::{RunCounts, run_one};
 use fkv_functions::{CappedSumFns, Mergeable, Name};
 use fkv_partition::Config;
 use fkv_streams::CountedReader;
@@ -30,7 +30,7 @@ fn counted<F: Mergeable<Key = Name, Input = i64>>(
     functions: F,
     feeds: &[&str],
     config: &Config,
-) -> Option<Counts> {
+) -> Option<RunCounts> {
     let mut readers = Vec::new(alloc);
     for feed in feeds {
         if readers.push(CountedReader::new(feed.as_bytes())).is_err() {
@@ -67,7 +67,7 @@ fn counts(rt: HostRuntime) {
     for (feeds, config, rows, appended) in COUNTS {
         let come = counted(rt.alloc(), CappedSumFns, feeds, &config);
         assert!(rt;
-            come == Some(Counts {
+            come == Some(RunCounts {
                 rows,
                 appended: Some(appended)
             }),

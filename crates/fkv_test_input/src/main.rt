@@ -2,8 +2,8 @@
 //! It is the same call as that of `fkv_cli`.
 #![tactic(auto)]
 
-use fkv_commands::{End, start};
+use fkv_commands::{ProgramEnd, start};
 
-fn main(rt: HostRuntime) -> End {
+fn main(rt: HostRuntime) -> ProgramEnd {
     start(&rt, &rt.stdin(), &rt.stdout(), &rt.stderr())
 }

@@ -3,7 +3,7 @@
 use crate::beside::{SMALL, name_of};
 use fkv_device::MemoryDevice;
 use fkv_functions::{Name, Refused, SumFns};
-use fkv_local::{Lists, LocalStore};
+use fkv_local::{Listing, LocalStore};
 use fkv_operations::{Answer, KeyedOp, KeyedOpOf};
 use std::alloc::Global;
 
@@ -81,7 +81,7 @@ fn is_live(mut store: LocalStore<SumFns, MemoryDevice>) -> bool {
 }
 
 /// Whether these lists are one of the map of the end, and that there is none behind it.
-fn is_listed(mut lists: Lists<SumFns, MemoryDevice>) -> bool {
+fn is_listed(mut lists: Listing<SumFns, MemoryDevice>) -> bool {
     let list = match lists.next() {
         Err(Refused::NoMemory) => lists.next(),
         list => list,

@@ -5,7 +5,7 @@ use fkv_compaction::Compactor;
 use fkv_device::{Disk, Loaded, MemoryDevice, MemoryReader, MemoryReceipt, MemoryWriter, Written};
 use fkv_functions::{Built, Name, Refused, SumFns};
 use fkv_histories::Recorder;
-use fkv_locked::{FinishedOf, Locked, OpenOperationOf, Owns, Part, SessionId, Turn};
+use fkv_locked::{EndedPartition, FinishedOf, Locked, OpenOperationOf, Owns, SessionId, Turn};
 use fkv_operations::{Answer, KeyedOp, KeyedOpOf};
 use fkv_partition::{Config, Progress};
 use std::alloc::Global;
@@ -94,14 +94,14 @@ impl<H: Recorder<SumFns>> Driven<H> {
         })
     }
 
-    pub fn end(self, alloc: Global) -> Part<SumFns, MemoryReceipt> {
+    pub fn end(self, alloc: Global) -> EndedPartition<SumFns, MemoryReceipt> {
         self.locked.end(alloc)
     }
 
     /// An operation of the caller, driven to its end.
     fn done(&mut self, op: KeyedOpOf<SumFns>) -> Result<Told, Refused> {
-        let mine = self.issued(op)?;
-        self.ended(&mine)
+        let operation = self.issued(op)?;
+        self.ended(&operation)
     }
 
     /// An operation of the caller, issued.
@@ -113,10 +113,10 @@ impl<H: Recorder<SumFns>> Driven<H> {
     /// The receipt of the page that an operation needs after its next event, if it needs one.
     pub fn looked(
         &mut self,
-        mine: &OpenOperationOf<SumFns>,
+        operation: &OpenOperationOf<SumFns>,
     ) -> Result<Option<MemoryReceipt>, Refused> {
         self.owns.make_room(0)?;
-        match self.locked.go(mine, &SumFns)? {
+        match self.locked.go(operation, &SumFns)? {
             Turn::NeedsLoad(receipt, _address) => Ok(Some(receipt)),
             Turn::Done(finished) => {
                 let _answer = self.owns.take(0, finished);
@@ -129,12 +129,12 @@ impl<H: Recorder<SumFns>> Driven<H> {
     /// What an operation is answered by the page that it needs.
     pub fn loaded(
         &mut self,
-        mine: &OpenOperationOf<SumFns>,
+        operation: &OpenOperationOf<SumFns>,
         receipt: &MemoryReceipt,
     ) -> Result<Told, Refused> {
         self.owns.make_room(0)?;
         let came = fetched(&self.locked, &mut self.reader, receipt);
-        match self.locked.load(mine, came, &SumFns)? {
+        match self.locked.load(operation, came, &SumFns)? {
             Turn::Done(finished) => Ok(Told::Done(self.owns.take(0, finished))),
             Turn::Next | Turn::NeedsBuild(_) | Turn::NeedsLoad(_, _) | Turn::Waits(_) => {
                 Ok(Told::Ok)
@@ -143,9 +143,9 @@ impl<H: Recorder<SumFns>> Driven<H> {
     }
 
     /// An operation that was issued, driven to its end.
-    pub fn ended(&mut self, mine: &OpenOperationOf<SumFns>) -> Result<Told, Refused> {
+    pub fn ended(&mut self, operation: &OpenOperationOf<SumFns>) -> Result<Told, Refused> {
         self.owns.make_room(0)?;
-        let finished = drive(&mut self.locked, &mut self.reader, mine)?;
+        let finished = drive(&mut self.locked, &mut self.reader, operation)?;
         Ok(Told::Done(self.owns.take(0, finished)))
     }
 
@@ -274,20 +274,20 @@ fn fetched<H: Recorder<SumFns>>(
 fn drive<H: Recorder<SumFns>>(
     locked: &mut Locked<SumFns, MemoryReceipt, H>,
     reader: &mut MemoryReader,
-    mine: &OpenOperationOf<SumFns>,
+    operation: &OpenOperationOf<SumFns>,
 ) -> Result<FinishedOf<SumFns>, Refused> {
-    let mut turn = locked.go(mine, &SumFns)?;
+    let mut turn = locked.go(operation, &SumFns)?;
     for _event in 0..EVENTS {
         turn = match turn {
             Turn::Done(finished) => return Ok(finished),
-            Turn::Next => locked.go(mine, &SumFns)?,
+            Turn::Next => locked.go(operation, &SumFns)?,
             Turn::NeedsBuild(ask) => {
                 let built = Built::make(&SumFns, ask);
-                locked.install(mine, built, &SumFns)?
+                locked.install(operation, built, &SumFns)?
             }
             Turn::NeedsLoad(receipt, _address) => {
                 let came = fetched(locked, reader, &receipt);
-                locked.load(mine, came, &SumFns)?
+                locked.load(operation, came, &SumFns)?
             }
             Turn::Waits(_why) => return Err(Refused::Stalled),
         };

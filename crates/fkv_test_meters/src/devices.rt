@@ -1,7 +1,7 @@
 //! What meters show after known calls on three devices, failures among them, and what the calls answer.
 use fkv_device::{Disk, FileDevice, MemoryDevice, Page, PageReader, PageWriter, Receipt};
 use fkv_functions::Refused;
-use fkv_meters::{MeteredDevice, Meters, Seen};
+use fkv_meters::{MeterReadings, MeteredDevice, Meters};
 use fkv_test_devices::UnsureDevice;
 use std::alloc::Global;
 use std::fs;
@@ -38,7 +38,7 @@ fn metered<D: Disk>(
     alloc: Global,
     device: D,
     rows: &[Row],
-) -> Result<(Option<usize>, Seen), Refused> {
+) -> Result<(Option<usize>, MeterReadings), Refused> {
     let meters = Meters::new();
     let mut device = MeteredDevice::new(device, &meters);
     let mut writer = device.writer(0)?;
@@ -87,7 +87,7 @@ fn pages_of_memory(rt: HostRuntime) -> Result<(), Fail> {
         Row::Read(0, 256, Ok(1)),
         Row::Read(2, 256, Ok(3)),
     ];
-    let seen = Seen {
+    let seen = MeterReadings {
         pages_written: 3,
         pages_read: 4,
         bytes_written: 612,
@@ -113,7 +113,7 @@ fn pages_of_a_file(rt: HostRuntime) -> Result<(), Fail> {
         Row::Read(0, 256, Err(Refused::Damaged { page: 0 })),
         Row::Read(2, 256, Ok(3)),
     ];
-    let seen = Seen {
+    let seen = MeterReadings {
         pages_written: 3,
         pages_read: 3,
         bytes_written: 768,
@@ -137,7 +137,7 @@ fn pages_of_a_device_that_fails(rt: HostRuntime) -> Result<(), Fail> {
         Row::Read(1, 64, Err(Refused::Device { code: 3, page: 1 })),
         Row::Read(0, 64, Ok(1)),
     ];
-    let seen = Seen {
+    let seen = MeterReadings {
         pages_written: 2,
         pages_read: 2,
         bytes_written: 128,

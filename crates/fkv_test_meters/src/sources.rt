@@ -1,6 +1,6 @@
 //! Reads through a source that tells: which bytes pass, and what is counted and told.
 use fkv_functions::Refused;
-use fkv_meters::{Progress, ProgressSource};
+use fkv_meters::{ProgressSource, ReadProgress};
 use fkv_streams::{CountedReader, Source};
 use fkv_test_streams::Breaking;
 use std::alloc::{AllocError, Global};
@@ -35,7 +35,7 @@ impl Heard {
     }
 }
 
-impl Progress for Heard {
+impl ReadProgress for Heard {
     fn begin(&self) {}
 
     fn read(&self, bytes: &[u8]) {

@@ -1,5 +1,5 @@
 //! What is written of a run's progress, by a clock that a test sets.
-use fkv_meters::{Beside, Progress, Telling};
+use fkv_meters::{Beside, ProgressLine, ReadProgress};
 use std::alloc::Global;
 use std::cell::{Cell, RefCell};
 use std::fmt::Display;
@@ -127,7 +127,7 @@ fn blank(alloc: Global) -> Paper {
 
 /// The first row by which a hook of this clock, which has begun, does not show what it is to.
 fn first_other(
-    telling: &Telling<'_, Set, Paper>,
+    telling: &ProgressLine<'_, Set, Paper>,
     clock: &Set,
     paper: &Paper,
     rows: &[Row],
@@ -147,7 +147,7 @@ fn first_other(
 fn a_line_a_second(rt: HostRuntime) {
     let clock = Set(Cell::new(Some(0)));
     let paper = blank(rt.alloc());
-    let telling = Telling::new(&clock, &paper, false);
+    let telling = ProgressLine::new(&clock, &paper, false);
     telling.read(b"before it begins\n");
     clock.0.set(Some(5_000));
     telling.begin();
@@ -163,7 +163,7 @@ fn a_line_a_second(rt: HostRuntime) {
 fn a_line_over_the_last(rt: HostRuntime) {
     let clock = Set(Cell::new(Some(5_000)));
     let paper = blank(rt.alloc());
-    let telling = Telling::new(&clock, &paper, true);
+    let telling = ProgressLine::new(&clock, &paper, true);
     telling.end();
     telling.begin();
     let other = first_other(&telling, &clock, &paper, &OVER);

@@ -2,7 +2,9 @@
 use crate::sources::{Heard, all_of};
 use fkv_device::{Disk, FileDevice, MemoryDevice, Page, PageReader, PageWriter};
 use fkv_functions::Refused;
-use fkv_meters::{MeteredDevice, Meters, Progress, ProgressSource, Seen, Silent, Telling};
+use fkv_meters::{
+    MeterReadings, MeteredDevice, Meters, ProgressLine, ProgressSource, ReadProgress, Silent,
+};
 use fkv_streams::{CountedReader, Source};
 use std::alloc::Global;
 use std::test::Fail;
@@ -21,7 +23,7 @@ fn reads_all<S: Source + Drop>(alloc: Global, source: S, text: &[u8]) -> bool {
 }
 
 /// Whether two sources, each in a thread of its own, give all their bytes.
-fn are_read_by_two<P: Progress + Sync, T: Threads + Sync>(
+fn are_read_by_two<P: ReadProgress + Sync, T: Threads + Sync>(
     rt: &T,
     alloc: Global,
     text: &[u8],
@@ -47,7 +49,7 @@ fn two_sources_share_a_hook(rt: HostRuntime) -> Result<(), Fail> {
     assert!(rt; are_read_by_two(&rt, alloc, text, &heard));
     assert!(rt; heard.told().2 == 100_000, "{:?}", heard.told());
     let faults = rt.stderr();
-    assert!(rt; are_read_by_two(&rt, alloc, text, &Telling::new(&rt, &faults, false)));
+    assert!(rt; are_read_by_two(&rt, alloc, text, &ProgressLine::new(&rt, &faults, false)));
     assert!(rt; are_read_by_two(&rt, alloc, text, &Silent));
     Ok(())
 }
@@ -82,7 +84,7 @@ fn two_writers_share_meters(rt: HostRuntime) -> Result<(), Fail> {
         move || works(alloc, first, its_reader, 300),
         move || works(alloc, second, the_other, 200),
     );
-    let seen = Seen {
+    let seen = MeterReadings {
         pages_written: 500,
         pages_read: 1_000,
         bytes_written: 32_000,
@@ -105,7 +107,7 @@ where
 }
 
 /// The same of any such device that is metered, and of any such feed that tells.
-fn takes_wrapped<D: Disk + Send, S: Source + Drop + Send, P: Progress + Sync>(
+fn takes_wrapped<D: Disk + Send, S: Source + Drop + Send, P: ReadProgress + Sync>(
     device: D,
     feed: S,
     hook: &P,
@@ -128,7 +130,7 @@ fn a_run_in_threads_takes_both(rt: HostRuntime) -> Result<(), Fail> {
     let device = FileDevice::new(&rt, rt.alloc(), folder, 8);
     let feed: &[u8] = b"a,1\n";
     let faults = rt.stderr();
-    let telling = Telling::new(&rt, &faults, false);
+    let telling = ProgressLine::new(&rt, &faults, false);
     assert!(rt; takes_wrapped(device, CountedReader::new(feed), &telling));
     Ok(())
 }

@@ -3,7 +3,7 @@ use fkv_commands::FeedFiles;
 use fkv_commands::running::{refuse_words, run, tell};
 use fkv_device::PageFile;
 use fkv_functions::{Refused, What};
-use fkv_meters::{Progress, Silent};
+use fkv_meters::{ReadProgress, Silent};
 use fkv_requests::{command_lines, words_of};
 use fkv_streams::{CountedReader, CountedWriter, Source};
 use fkv_test_streams::{Breaking, Filling};
@@ -125,7 +125,7 @@ where
 
 /// Whether a run over this reader, which tells this hook how far it is, ends with this status, and prints this and tells what
 /// begins so. Where it is done, all that it prints is out.
-pub(crate) fn ends_by<R: Source, H: Files + Threads + Wait + Clock + Sync, P: Progress + Sync>(
+pub(crate) fn ends_by<R: Source, H: Files + Threads + Wait + Clock + Sync, P: ReadProgress + Sync>(
     rt: &H,
     alloc: Global,
     start: Launch<'_>,

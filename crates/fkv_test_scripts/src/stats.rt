@@ -1,9 +1,9 @@
 //! What a run does that its table does not show: the pages that it moves, the rows that it tells of, and help.
 use crate::commands::{ends, ends_by, split, start};
-use fkv_commands::reporting::Report;
+use fkv_commands::reporting::RunReport;
 use fkv_commands::{FeedFiles, run};
-use fkv_feeds::{Counts, Plan, RowMode};
-use fkv_meters::{Progress, Seen, Silent};
+use fkv_feeds::{Plan, RowMode, RunCounts};
+use fkv_meters::{MeterReadings, ReadProgress, Silent};
 use fkv_partition::Config;
 use fkv_requests::{Request, Shown, request_of};
 use fkv_streams::{CountedReader, CountedWriter};
@@ -107,14 +107,14 @@ const SECONDS: [(Option<u64>, Option<u64>, &str); 8] = [
 #[test]
 fn seconds_of_reports(rt: HostRuntime) -> io::Result<()> {
     for (millis, peak, line) in SECONDS {
-        let report = Report {
+        let report = RunReport {
             keys: 2,
-            counts: Counts {
+            counts: RunCounts {
                 rows: 9,
                 appended: Some(4),
             },
             plan: PLAN,
-            seen: Seen {
+            seen: MeterReadings {
                 pages_written: 11,
                 pages_read: 12,
                 bytes_written: 13,
@@ -220,14 +220,14 @@ fn advice_of_reports(rt: HostRuntime) -> io::Result<()> {
         .into_iter()
         .enumerate()
     {
-        let report = Report {
+        let report = RunReport {
             keys,
-            counts: Counts {
+            counts: RunCounts {
                 rows,
                 appended: None,
             },
             plan: PLAN,
-            seen: Seen {
+            seen: MeterReadings {
                 pages_written,
                 pages_read,
                 bytes_written: 0,
@@ -318,7 +318,7 @@ struct Heard {
     ends: AtomicU64,
 }
 
-impl Progress for Heard {
+impl ReadProgress for Heard {
     fn begin(&self) {
         self.has_begun.store(true, Ordering::SeqCst);
     }

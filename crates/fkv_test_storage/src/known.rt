@@ -13,7 +13,7 @@ use fkv_regions::Regions;
 fn is_whole(log: &Log<Name, u64, MemoryReceipt>)
     ensures { log.now.from ≡ log.now.begin }
 {
-    log.known();
+    log.facts();
 }
 
 /// What was written is read, at any type.
@@ -33,9 +33,9 @@ fn read_back<K: Fixed, V: Fixed>(
 
 #[test]
 fn what_is_known_at_any_time(rt: HostRuntime) {
-    Epochs::new().known();
+    Epochs::new().facts();
     if let (Some(shape), Some(key)) = (Shape::new(8, 48), Name::new(b"a")) {
-        Regions::new(shape).known();
+        Regions::new(shape).facts();
         let last = Record {
             previous: 64,
             key,

@@ -77,7 +77,7 @@ fn is_previous(address: Address, previous: Address) -> bool
 fn has_receipt<K: Fixed, V: Fixed, R: Receipt>(log: &Log<K, V, R>, page: u64) -> bool
     ensures { IsTrue result → HasReceipt log.now.receipts page }
 {
-    log.known();
+    log.facts();
     log.shape().page_of(log.begin()) <= page && page < log.unflushed()
 }
 

@@ -8,7 +8,7 @@ use Rattle.fkv_texts.specs.declared.entries.Entry.{Entry}
 use Rattle.fkv_functions.proofs.ListLemmas.{not-true as never}
 use Rattle.fkv_texts.specs.Text.{last_where, entry_at, has_key, last_of, newest, value_of, IsRising, text_from}
 use Rattle.fkv_texts.specs.Chains.{IsIn}
-use Rattle.fkv_texts.specs.Deltas.{risen, stood, AreWhole, HasWholeAbove, IsCovered, IsCleared}
+use Rattle.fkv_texts.specs.Deltas.{value_after, resolved, AreWhole, HasWholeAbove, IsCovered, IsCleared}
 use Rattle.fkv_texts.proofs.LastWhere.{last_where-found, last_where-in, none-passes}
 use Rattle.fkv_texts.proofs.TextLemmas.{one_address}
 use Rattle.fkv_texts.proofs.CutLemmas.{highest, cut-rising}
@@ -65,11 +65,11 @@ module _ {K V : Type 0} (cmp : K → K → Ordering) (es : List (Entry K V)) whe
             ]
 
     -- ---- what stands for itself: an entry that is not covered, where all below it is superseded
-    pub lowest-value : (join : V → V → V) → IsCleared cmp es e.address → (IsCovered cmp es e → ⊥) → value_of (newest cmp (stood cmp join es) e.key e.address) ≡ e.value
+    pub lowest-value : (join : V → V → V) → IsCleared cmp es e.address → (IsCovered cmp es e → ⊥) → value_of (newest cmp (resolved cmp join es) e.key e.address) ≡ e.value
     lowest-value join clear uncovered =
         sym (cut-newest cmp join o es r e.address clear e.key e.address (λ x h c. uncovered (subst (IsCovered cmp es) (is_newest x h) c)))
         ∙ newest-fold cmp join o (text_from e.address es) (cut-rising e.address es r) e.key e.address
-        ∙ ap (fold (risen join) None) (filter-filter (λ x. nat_le x.address e.address && has_key cmp e.key x) (λ x. nat_le e.address x.address) es ∙ filter-only only es r e m (λ i x g. only-here i x g (cases_eq x.address e.address)))
+        ∙ ap (fold (value_after join) None) (filter-filter (λ x. nat_le x.address e.address && has_key cmp e.key x) (λ x. nat_le e.address x.address) es ∙ filter-only only es r e m (λ i x g. only-here i x g (cases_eq x.address e.address)))
         ∙ alone e.delta e.value
       where
         alone : (b : Bool) (v : Option V) → cond b v v ≡ v

@@ -10,7 +10,7 @@ use Rattle.fkv_functions.specs.Plain.{IsKeyOrder}
 use Rattle.fkv_texts.specs.declared.entries.Entry.{Entry}
 use Rattle.fkv_texts.specs.Text.{has_key, newest, value_of, live, AllAbove, IsRising, text_from, set_at, changed}
 use Rattle.fkv_texts.specs.Chains.{IsIn}
-use Rattle.fkv_texts.specs.Deltas.{risen, stood, HasWholeAbove, IsCovered, IsSuperseded, IsCleared}
+use Rattle.fkv_texts.specs.Deltas.{value_after, resolved, HasWholeAbove, IsCovered, IsSuperseded, IsCleared}
 use Rattle.fkv_texts.proofs.LastWhere.{last_where-filter, last_where-none, last_where-narrow, last_where-found, last_where-in, none-passes}
 use Rattle.fkv_texts.proofs.TextLemmas.{entry_at-in, entry_at-old, above-in}
 use Rattle.fkv_texts.proofs.CutLemmas.{filter-one, filter-all, filter-in, cut-entry, cut-rising, highest}
@@ -55,23 +55,23 @@ module _ {K V : Type 0} (join : V → V → V) (q : Entry K V → Bool) where
   later-some es a w = record { by = w.by; stands = w.stands; passes = w.passes; whole = w.whole }
 
   -- ---- behind a whole entry it no longer matters what was before
-  risen-whole : (x : Option V) (e : Entry K V) → e.delta ≡ false → risen join x e ≡ e.value
-  risen-whole x e h = rw h refl
+  value_after-whole : (x : Option V) (e : Entry K V) → e.delta ≡ false → value_after join x e ≡ e.value
+  value_after-whole x e h = rw h refl
 
-  filter-fold : (x : Option V) (e : Entry K V) (es : List (Entry K V)) (b : Bool) → q e ≡ b → fold (risen join) x (filter q (e ∷ es)) ≡ fold (risen join) (cond b (risen join x e) x) (filter q es)
-  filter-fold x e es true h = ap (fold (risen join) x) (filter-one q e es true h)
-  filter-fold x e es false h = ap (fold (risen join) x) (filter-one q e es false h)
+  filter-fold : (x : Option V) (e : Entry K V) (es : List (Entry K V)) (b : Bool) → q e ≡ b → fold (value_after join) x (filter q (e ∷ es)) ≡ fold (value_after join) (cond b (value_after join x e) x) (filter q es)
+  filter-fold x e es true h = ap (fold (value_after join) x) (filter-one q e es true h)
+  filter-fold x e es false h = ap (fold (value_after join) x) (filter-one q e es false h)
 
-  fold-whole : (xs : List (Entry K V)) → HasWhole xs → (x y : Option V) → fold (risen join) x (filter q xs) ≡ fold (risen join) y (filter q xs)
+  fold-whole : (xs : List (Entry K V)) → HasWhole xs → (x y : Option V) → fold (value_after join) x (filter q xs) ≡ fold (value_after join) y (filter q xs)
   fold-whole [] w x y = let h = w.stands.here in absurd (cc)
   fold-whole (e ∷ es) w x y = elim (uncons-whole e es w) [
     | inl here ↦
         filter-fold x e es true here.0
-        ∙ ap (λ v. fold (risen join) v (filter q es)) (risen-whole x e here.1 ∙ sym (risen-whole y e here.1))
+        ∙ ap (λ v. fold (value_after join) v (filter q es)) (value_after-whole x e here.1 ∙ sym (value_after-whole y e here.1))
         ∙ sym (filter-fold y e es true here.0)
     | inr rest ↦
         filter-fold x e es (q e) refl
-        ∙ fold-whole es rest (cond (q e) (risen join x e) x) (cond (q e) (risen join y e) y)
+        ∙ fold-whole es rest (cond (q e) (value_after join x e) x) (cond (q e) (value_after join y e) y)
         ∙ sym (filter-fold y e es (q e) refl)
   ]
 
@@ -88,7 +88,7 @@ module _ {K V : Type 0} (join : V → V → V) (q : Entry K V → Bool) where
     ]
 
     -- what an entry without a value leaves
-    next-none : (x : Option V) (e : Entry K V) (es : List (Entry K V)) (d : Bool) → e.delta ≡ d → e.value ≡ None → (x ≡ None) ⊎ HasWhole (e ∷ es) → (risen join x e ≡ None) ⊎ HasWhole es
+    next-none : (x : Option V) (e : Entry K V) (es : List (Entry K V)) (d : Bool) → e.delta ≡ d → e.value ≡ None → (x ≡ None) ⊎ HasWhole (e ∷ es) → (value_after join x e ≡ None) ⊎ HasWhole es
     next-none x e es false h none start = inl (rw h none)
     next-none x e es true h none (inl start) = inl (rw (h, none, start) refl)
     next-none x e es true h none (inr w) = elim (uncons-whole e es w) [
@@ -97,7 +97,7 @@ module _ {K V : Type 0} (join : V → V → V) (q : Entry K V → Bool) where
     ]
 
     next : (x : Option V) (e : Entry K V) (es : List (Entry K V)) (t : Bool) → q e ≡ t → e.address < b → AreLowSuperseded (e ∷ es) → (x ≡ None) ⊎ HasWhole (e ∷ es)
-        → (cond t (risen join x e) x ≡ None) ⊎ HasWhole es
+        → (cond t (value_after join x e) x ≡ None) ⊎ HasWhole es
     next x e es true h low superseded start = elim (superseded e (record { place = zero; here = refl }) low h) [
       | inl none ↦ next-none x e es e.delta refl none start
       | inr w ↦ inr (later-some es e.address (later-tail e es e.address (omega arith) w))
@@ -108,8 +108,8 @@ module _ {K V : Type 0} (join : V → V → V) (q : Entry K V → Bool) where
       | inr rest ↦ inr rest
     ]
 
-    same-start : (x : Option V) (xs : List (Entry K V)) → (x ≡ None) ⊎ HasWhole xs → fold (risen join) x (filter q xs) ≡ fold (risen join) None (filter q xs)
-    same-start x xs (inl start) = ap (λ v. fold (risen join) v (filter q xs)) start
+    same-start : (x : Option V) (xs : List (Entry K V)) → (x ≡ None) ⊎ HasWhole xs → fold (value_after join) x (filter q xs) ≡ fold (value_after join) None (filter q xs)
+    same-start x xs (inl start) = ap (λ v. fold (value_after join) v (filter q xs)) start
     same-start x xs (inr w) = fold-whole xs w x None
 
     all-from : (e : Entry K V) (es : List (Entry K V)) → IsRising (e ∷ es) → b ≤ e.address → text_from b (e ∷ es) ≡ e ∷ es
@@ -119,16 +119,16 @@ module _ {K V : Type 0} (join : V → V → V) (q : Entry K V → Bool) where
     ])
 
     pub cut-fold : (xs : List (Entry K V)) → IsRising xs → AreLowSuperseded xs → (x : Option V) → (x ≡ None) ⊎ HasWhole xs
-        → fold (risen join) x (filter q xs) ≡ fold (risen join) None (filter q (text_from b xs))
+        → fold (value_after join) x (filter q xs) ≡ fold (value_after join) None (filter q (text_from b xs))
     cut-fold [] r superseded x (inl start) = start
     cut-fold [] r superseded x (inr w) = let h = w.stands.here in absurd (cc)
     cut-fold (e ∷ es) r superseded x start = elim (cases_lt e.address b) [
       | inl low ↦
           (let out : nat_le b e.address ≡ false = grind (arith, nat_tests) in
           filter-fold x e es (q e) refl
-          ∙ cut-fold es r.1 (low-tail e es r.0 superseded) (cond (q e) (risen join x e) x) (next x e es (q e) refl low superseded start)
-          ∙ ap (λ l. fold (risen join) None (filter q l)) (sym (filter-one (λ d. nat_le b d.address) e es false out)))
-      | inr high ↦ same-start x (e ∷ es) start ∙ ap (λ l. fold (risen join) None (filter q l)) (sym (all-from e es r high))
+          ∙ cut-fold es r.1 (low-tail e es r.0 superseded) (cond (q e) (value_after join x e) x) (next x e es (q e) refl low superseded start)
+          ∙ ap (λ l. fold (value_after join) None (filter q l)) (sym (filter-one (λ d. nat_le b d.address) e es false out)))
+      | inr high ↦ same-start x (e ∷ es) start ∙ ap (λ l. fold (value_after join) None (filter q l)) (sym (all-from e es r high))
     ]
 
 -- ---- what stays of a cleared text
@@ -139,7 +139,7 @@ module _ {K V : Type 0} (cmp : K → K → Ordering) (join : V → V → V) (o :
   same_key : (k : K) (e d : Entry K V) → has_key cmp k e ≡ true → has_key cmp e.key d ≡ true → has_key cmp k d ≡ true
   same_key k e d he hd = subst (λ (q : K). has_key cmp q d ≡ true) (o.same e.key k he) hd
 
-  pub cut-lives : (k : K) → live cmp (stood cmp join (text_from b es)) k ≡ live cmp (stood cmp join es) k
+  pub cut-lives : (k : K) → live cmp (resolved cmp join (text_from b es)) k ≡ live cmp (resolved cmp join es) k
   cut-lives k =
       live-fold cmp join o (text_from b es) k
       ∙ sym (cut-fold join (has_key cmp k) b es r low None (inl refl))
@@ -167,7 +167,7 @@ module _ {K V : Type 0} (cmp : K → K → Ordering) (join : V → V → V) (o :
           uncovered x h (record { by = d; stands = n; key = subst (λ (q : K). has_key cmp q d ≡ true) (sym (o.same x.key k found.1)) key; whole = whole; above = omega arith })
 
   pub cut-newest : (k : K) (a : ℕ) → ((e : Entry K V) → newest cmp es k a ≡ Some e → IsCovered cmp es e → ⊥)
-      → value_of (newest cmp (stood cmp join (text_from b es)) k a) ≡ value_of (newest cmp (stood cmp join es) k a)
+      → value_of (newest cmp (resolved cmp join (text_from b es)) k a) ≡ value_of (newest cmp (resolved cmp join es) k a)
   cut-newest k a uncovered =
       newest-fold cmp join o (text_from b es) (cut-rising b es r) k a
       ∙ sym (cut-fold join (λ e. nat_le e.address a && has_key cmp k e) b es r low None (inl refl))

@@ -9,18 +9,18 @@ use Rattle.std.specs.declared.cmp.Ordering.{Ordering}
 use Rattle.fkv_functions.specs.Plain.{IsKeyOrder}
 use Rattle.fkv_texts.specs.declared.entries.Entry.{Entry}
 use Rattle.fkv_texts.specs.Text.{has_key, newest, value_of, AllAbove, IsRising}
-use Rattle.fkv_texts.specs.Deltas.{onto, IsAssociative, risen, stood, gathered, falling_to, falling_between}
+use Rattle.fkv_texts.specs.Deltas.{combined, IsAssociative, value_after, resolved, gathered, newest_first_to, newest_first_between}
 use Rattle.fkv_texts.proofs.TextLemmas.{above-in}
 use Rattle.fkv_texts.proofs.CutLemmas.{filter-one}
 use Rattle.fkv_texts.proofs.ChainLemmas.{by_appends}
 use Rattle.fkv_texts.proofs.ValueLemmas.{newest-fold}
 
 module _ {V : Type 0} (join : V → V → V) where
-  pub onto-onto : IsAssociative join → (u v w : Option V) → onto join (onto join u v) w ≡ onto join u (onto join v w)
-  onto-onto h None v w = refl
-  onto-onto h (Some u) None w = refl
-  onto-onto h (Some u) (Some v) None = refl
-  onto-onto h (Some u) (Some v) (Some w) = ap Some (h u v w)
+  pub combined-combined : IsAssociative join → (u v w : Option V) → combined join (combined join u v) w ≡ combined join u (combined join v w)
+  combined-combined h None v w = refl
+  combined-combined h (Some u) None w = refl
+  combined-combined h (Some u) (Some v) None = refl
+  combined-combined h (Some u) (Some v) (Some w) = ap Some (h u v w)
 
   module _ {K : Type 0} (h : IsAssociative join) (x : Option V) where
     -- the value of the entry at which the parts end, or what was before them
@@ -29,18 +29,18 @@ module _ {V : Type 0} (join : V → V → V) where
     from_end (Some e) = e.value
 
     abbrev pub joined_end : Option V × Option (Entry K V) → Option V
-    joined_end g = onto join (from_end g.1) g.0
+    joined_end g = combined join (from_end g.1) g.0
 
-    pub gather-step : (y : Option V) (e : Entry K V) (rs : List (Entry K V)) (c : Option V) → onto join y (onto join e.value c) ≡ joined_end (gathered join rs (onto join e.value c)) → (b : Bool)
-        → onto join (cond b (onto join y e.value) e.value) c ≡ joined_end (cond b (gathered join rs (onto join e.value c)) (c, Some e))
-    gather-step y e rs c rest true = onto-onto h y e.value c ∙ rest
+    pub gather-step : (y : Option V) (e : Entry K V) (rs : List (Entry K V)) (c : Option V) → combined join y (combined join e.value c) ≡ joined_end (gathered join rs (combined join e.value c)) → (b : Bool)
+        → combined join (cond b (combined join y e.value) e.value) c ≡ joined_end (cond b (gathered join rs (combined join e.value c)) (c, Some e))
+    gather-step y e rs c rest true = combined-combined h y e.value c ∙ rest
     gather-step y e rs c rest false = refl
 
-    pub gather-fold : (xs : List (Entry K V)) (c : Option V) → onto join (fold (risen join) x xs) c ≡ joined_end (gathered join (reverse xs) c)
-    gather-fold xs = by_appends (λ (ys : List (Entry K V)). (c : Option V) → onto join (fold (risen join) x ys) c ≡ joined_end (gathered join (reverse ys) c))
+    pub gather-fold : (xs : List (Entry K V)) (c : Option V) → combined join (fold (value_after join) x xs) c ≡ joined_end (gathered join (reverse xs) c)
+    gather-fold xs = by_appends (λ (ys : List (Entry K V)). (c : Option V) → combined join (fold (value_after join) x ys) c ≡ joined_end (gathered join (reverse ys) c))
         (λ ys e before c.
-        ap (λ v. onto join v c) (fold_push (risen join) x ys e)
-        ∙ gather-step (fold (risen join) x ys) e (reverse ys) c (before (onto join e.value c)) e.delta
+        ap (λ v. combined join v c) (fold_push (value_after join) x ys e)
+        ∙ gather-step (fold (value_after join) x ys) e (reverse ys) c (before (combined join e.value c)) e.delta
         ∙ ap (λ l. joined_end (gathered join l c)) (sym (reverse-append ys (e ∷ []))))
         [] xs (λ c. refl)
 
@@ -114,23 +114,23 @@ module _ {K V : Type 0} (cmp : K → K → Ordering) (join : V → V → V) (o :
   none-end None = refl
   none-end (Some e) = refl
 
-  pub gather-all : (a : ℕ) (c d : Option V) (end : Option (Entry K V)) → gathered join (falling_to cmp es k a) c ≡ (d, end)
-      → onto join (value_of (newest cmp (stood cmp join es) k a)) c ≡ onto join (value_of end) d
+  pub gather-all : (a : ℕ) (c d : Option V) (end : Option (Entry K V)) → gathered join (newest_first_to cmp es k a) c ≡ (d, end)
+      → combined join (value_of (newest cmp (resolved cmp join es) k a)) c ≡ combined join (value_of end) d
   gather-all a c d end g =
-      ap (λ v. onto join v c) (newest-fold cmp join o es r k a)
+      ap (λ v. combined join v c) (newest-fold cmp join o es r k a)
       ∙ gather-fold join assoc None (filter (λ e. nat_le e.address a && has_key cmp k e) es) c
       ∙ ap (joined_end join assoc None) g
-      ∙ ap (λ v. onto join v d) (none-end end)
+      ∙ ap (λ v. combined join v d) (none-end end)
 
   -- down to an address
-  pub gather-to : (b a : ℕ) → b ≤ a → (c d : Option V) (end : Option (Entry K V)) → gathered join (falling_between cmp es k b a) c ≡ (d, end)
-      → onto join (value_of (newest cmp (stood cmp join es) k a)) c ≡ onto join (from_end join assoc (value_of (newest cmp (stood cmp join es) k b)) end) d
+  pub gather-to : (b a : ℕ) → b ≤ a → (c d : Option V) (end : Option (Entry K V)) → gathered join (newest_first_between cmp es k b a) c ≡ (d, end)
+      → combined join (value_of (newest cmp (resolved cmp join es) k a)) c ≡ combined join (from_end join assoc (value_of (newest cmp (resolved cmp join es) k b)) end) d
   gather-to b a le c d end g =
       let t : Entry K V → Bool = λ e. nat_le e.address a && has_key cmp k e in
       let ls = filter (λ e. nat_le e.address b && t e) es in
       let hs = filter (λ e. nat_lt b e.address && t e) es in
-      let below : fold (risen join) None ls ≡ value_of (newest cmp (stood cmp join es) k b) = ap (fold (risen join) None) (up_to-lower cmp es k b a le) ∙ sym (newest-fold cmp join o es r k b) in
-      ap (λ v. onto join v c)
-      (newest-fold cmp join o es r k a ∙ ap (fold (risen join) None) (filter-split_at t b es r) ∙ fold-append (risen join) None ls hs ∙ ap (λ v. fold (risen join) v hs) below)
-      ∙ gather-fold join assoc (value_of (newest cmp (stood cmp join es) k b)) hs c
-      ∙ ap (joined_end join assoc (value_of (newest cmp (stood cmp join es) k b))) g
+      let below : fold (value_after join) None ls ≡ value_of (newest cmp (resolved cmp join es) k b) = ap (fold (value_after join) None) (up_to-lower cmp es k b a le) ∙ sym (newest-fold cmp join o es r k b) in
+      ap (λ v. combined join v c)
+      (newest-fold cmp join o es r k a ∙ ap (fold (value_after join) None) (filter-split_at t b es r) ∙ fold-append (value_after join) None ls hs ∙ ap (λ v. fold (value_after join) v hs) below)
+      ∙ gather-fold join assoc (value_of (newest cmp (resolved cmp join es) k b)) hs c
+      ∙ ap (joined_end join assoc (value_of (newest cmp (resolved cmp join es) k b))) g

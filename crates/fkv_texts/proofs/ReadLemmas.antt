@@ -9,7 +9,7 @@ use Rattle.fkv_functions.proofs.ListLemmas.{not-true}
 use Rattle.fkv_texts.specs.declared.entries.Entry.{Entry}
 use Rattle.fkv_texts.specs.Text.{has_key, newest, value_of, IsRising}
 use Rattle.fkv_texts.specs.Chains.{IsIn, IsClassTest, has_class, last_below, Leads, IsChained, IsChainFrom, ends, goes, leads_to}
-use Rattle.fkv_texts.specs.Deltas.{onto, IsAssociative, risen, stood, gathered}
+use Rattle.fkv_texts.specs.Deltas.{combined, IsAssociative, value_after, resolved, gathered}
 use Rattle.fkv_texts.proofs.LastWhere.{last_where-found, last_where-in, none-passes}
 use Rattle.fkv_texts.proofs.TextLemmas.{one_address, above-in}
 use Rattle.fkv_texts.proofs.CutLemmas.{filter-one, highest}
@@ -40,7 +40,7 @@ module _ {K V C : Type 0} (cmp : K → K → Ordering) (join : V → V → V) (o
 
   -- what the key has at an address
   abbrev value : ℕ → Option V
-  value a = value_of (newest cmp (stood cmp join es) k a)
+  value a = value_of (newest cmp (resolved cmp join es) k a)
 
   -- an entry of the key's class leads to the one before: none of the key stands between
   record IsLink (e : Entry K V) : Type 0 where
@@ -129,38 +129,38 @@ module _ {K V C : Type 0} (cmp : K → K → Ordering) (join : V → V → V) (o
             ∙ sym (ne_eqb x.address e.address ne)
 
     value-other : has_key cmp k e ≡ false → value e.address ≡ value e.previous
-    value-other other = newest-fold cmp join o es r k e.address ∙ ap (fold (risen join) None) (to-other other) ∙ sym (newest-fold cmp join o es r k e.previous)
+    value-other other = newest-fold cmp join o es r k e.address ∙ ap (fold (value_after join) None) (to-other other) ∙ sym (newest-fold cmp join o es r k e.previous)
 
-    value-own : has_key cmp k e ≡ true → value e.address ≡ risen join (value e.previous) e
+    value-own : has_key cmp k e ≡ true → value e.address ≡ value_after join (value e.previous) e
     value-own key =
         newest-fold cmp join o es r k e.address
-        ∙ ap (fold (risen join) None) (to-own key)
-        ∙ fold_push (risen join) None (to e.previous) e
-        ∙ ap (λ v. risen join v e) (sym (newest-fold cmp join o es r k e.previous))
+        ∙ ap (fold (value_after join) None) (to-own key)
+        ∙ fold_push (value_after join) None (to e.previous) e
+        ∙ ap (λ v. value_after join v e) (sym (newest-fold cmp join o es r k e.previous))
 
   pub read-chain : (a : ℕ) (upper : List (Entry K V)) → IsChainFrom low es a upper → ((x : Entry K V) → IsIn es x → x.address ≡ a → low ≤ a → class x.key ≡ class k) → (c : Option V)
-      → onto join (value a) c ≡ joined_end join assoc (value (leads_to a upper)) (gathered join (filter (has_key cmp k) upper) c)
+      → combined join (value a) c ≡ joined_end join assoc (value (leads_to a upper)) (gathered join (filter (has_key cmp k) upper) c)
   read-chain a upper (ends below) own c = refl
   read-chain a upper (goes {e = e} {es = ds} high m at rest) own c =
       let l = link e m (own e m at high) (omega arith) in
       let on = read-chain e.previous ds rest l.next in
-      ap (λ b. onto join (value b) c) (sym at) ∙ by_key e m l ds on (has_key cmp k e) refl
+      ap (λ b. combined join (value b) c) (sym at) ∙ by_key e m l ds on (has_key cmp k e) refl
     where
       by_key : (e : Entry K V) → IsIn es e → IsLink e → (ds : List (Entry K V))
-          → ((p : Option V) → onto join (value e.previous) p ≡ joined_end join assoc (value (leads_to e.previous ds)) (gathered join (filter (has_key cmp k) ds) p))
+          → ((p : Option V) → combined join (value e.previous) p ≡ joined_end join assoc (value (leads_to e.previous ds)) (gathered join (filter (has_key cmp k) ds) p))
           → (b : Bool) → has_key cmp k e ≡ b
-          → onto join (value e.address) c ≡ joined_end join assoc (value (leads_to e.previous ds)) (gathered join (filter (has_key cmp k) (e ∷ ds)) c)
+          → combined join (value e.address) c ≡ joined_end join assoc (value (leads_to e.previous ds)) (gathered join (filter (has_key cmp k) (e ∷ ds)) c)
       by_key e m l ds on true key =
-          ap (λ v. onto join v c) (value-own e m l key)
-          ∙ gather-step join assoc (value (leads_to e.previous ds)) (value e.previous) e (filter (has_key cmp k) ds) c (on (onto join e.value c)) e.delta
+          ap (λ v. combined join v c) (value-own e m l key)
+          ∙ gather-step join assoc (value (leads_to e.previous ds)) (value e.previous) e (filter (has_key cmp k) ds) c (on (combined join e.value c)) e.delta
           ∙ ap (λ u. joined_end join assoc (value (leads_to e.previous ds)) (gathered join u c)) (sym (filter-one (has_key cmp k) e ds true key))
       by_key e m l ds on false key =
-          ap (λ v. onto join v c) (value-other e m l key)
+          ap (λ v. combined join v c) (value-other e m l key)
           ∙ on c
           ∙ ap (λ u. joined_end join assoc (value (leads_to e.previous ds)) (gathered join u c)) (sym (filter-one (has_key cmp k) e ds false key))
 
   pub read-from : (i : ℕ) (d : Entry K V) → slice_get es i ≡ Some d → class d.key ≡ class k → (upper : List (Entry K V)) → IsChainFrom low es d.address upper → (c j : Option V) (end : Option (Entry K V))
-      → gathered join (filter (has_key cmp k) upper) c ≡ (j, end) → onto join (value d.address) c ≡ onto join (from_end join assoc (value (leads_to d.address upper)) end) j
+      → gathered join (filter (has_key cmp k) upper) c ≡ (j, end) → combined join (value d.address) c ≡ combined join (from_end join assoc (value (leads_to d.address upper)) end) j
   read-from i d g own upper chain c j end is =
       read-chain d.address upper chain (λ x m at up. ap (λ (y : Entry K V). class y.key) (one_address es r m.place i x d m.here g at) ∙ own) c
       ∙ ap (joined_end join assoc (value (leads_to d.address upper))) is

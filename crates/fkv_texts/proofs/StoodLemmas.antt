@@ -7,7 +7,7 @@ use Rattle.fkv_texts.specs.declared.entries.Entry.{Entry}
 use Rattle.fkv_texts.specs.Text.{last_where, value_of, AllAbove, IsRising, IsFrom, IsBelow}
 use Rattle.fkv_texts.specs.Places.{tail_after, IsLaidOut}
 use Rattle.fkv_texts.specs.Chains.{has_class, last_of_class, last_below, Leads, IsChained}
-use Rattle.fkv_texts.specs.Deltas.{onto, risen, stood_on, stood, having, AreWhole, IgnoresValues}
+use Rattle.fkv_texts.specs.Deltas.{combined, value_after, resolved_from, resolved, with_other_value, AreWhole, IgnoresValues}
 
 -- ---- lists whose entries differ in their values alone
 abbrev pub AreAlike : {K V : Type 0} → List (Entry K V) → List (Entry K V) → Type 0
@@ -23,15 +23,15 @@ module _ {K V : Type 0} where
   alike-back (d ∷ ds) [] h = absurd h
   alike-back (d ∷ ds) (e ∷ es) h = (sym (ap (λ (x : Entry K V). record x { value = d.value }) h.0), alike-back ds es h.1)
 
-  pub stood-alike : (cmp : K → K → Ordering) (join : V → V → V) (m : PlainMap K V) (es : List (Entry K V)) → AreAlike es (stood_on cmp join m es)
-  stood-alike cmp join m [] = tt
-  stood-alike cmp join m (e ∷ es) = (refl, stood-alike cmp join (with_at cmp m e.key (risen join (m e.key) e)) es)
+  pub resolved-alike : (cmp : K → K → Ordering) (join : V → V → V) (m : PlainMap K V) (es : List (Entry K V)) → AreAlike es (resolved_from cmp join m es)
+  resolved-alike cmp join m [] = tt
+  resolved-alike cmp join m (e ∷ es) = (refl, resolved-alike cmp join (with_at cmp m e.key (value_after join (m e.key) e)) es)
 
-  pub alike-unvalued : (ds es : List (Entry K V)) → AreAlike ds es → map (having None) es ≡ map (having None) ds
+  pub alike-unvalued : (ds es : List (Entry K V)) → AreAlike ds es → map (with_other_value None) es ≡ map (with_other_value None) ds
   alike-unvalued [] [] h = refl
   alike-unvalued [] (e ∷ es) h = absurd h
   alike-unvalued (d ∷ ds) [] h = absurd h
-  alike-unvalued (d ∷ ds) (e ∷ es) h = let first = ap (having None) (sym h.0) in let rest = alike-unvalued ds es h.1 in λ i. first i ∷ rest i
+  alike-unvalued (d ∷ ds) (e ∷ es) h = let first = ap (with_other_value None) (sym h.0) in let rest = alike-unvalued ds es h.1 in λ i. first i ∷ rest i
 
   -- an entry, and the one at its place
   pub alike-get : (ds es : List (Entry K V)) → AreAlike ds es → (i : ℕ) (e : Entry K V) → slice_get es i ≡ Some e → (d : Entry K V) × (slice_get ds i ≡ Some d) × (record d { value = e.value } ≡ e)
@@ -91,7 +91,7 @@ module _ {K V : Type 0} where
   alike-last p blind (d ∷ ds) [] h = absurd h
   alike-last p blind (d ∷ ds) (e ∷ es) h = alike-or d e (p d) (p e) (last_where p ds) (last_where p es) (sym (blind d e.value) ∙ ap p h.0) h.0 (alike-last p blind ds es h.1)
 
-  pub both-map : (l m : Option (Entry K V)) → BothAlike l m → m ≡ option_map (having (value_of m)) l
+  pub both-map : (l m : Option (Entry K V)) → BothAlike l m → m ≡ option_map (with_other_value (value_of m)) l
   both-map None None h = refl
   both-map None (Some e) h = absurd h
   both-map (Some d) None h = absurd h
@@ -117,14 +117,14 @@ module _ {K V : Type 0} where
         (h i w.0 w.1))
 
   module _ (cmp : K → K → Ordering) (join : V → V → V) (es : List (Entry K V)) where
-    pub alike : AreAlike es (stood cmp join es)
-    alike = stood-alike cmp join (λ k. None) es
+    pub alike : AreAlike es (resolved cmp join es)
+    alike = resolved-alike cmp join (λ k. None) es
 
-    pub alike_back : AreAlike (stood cmp join es) es
-    alike_back = alike-back es (stood cmp join es) alike
+    pub alike_back : AreAlike (resolved cmp join es) es
+    alike_back = alike-back es (resolved cmp join es) alike
 
-    pub stood-last : (p : Entry K V → Bool) → IgnoresValues p → last_where p (stood cmp join es) ≡ option_map (having (value_of (last_where p (stood cmp join es)))) (last_where p es)
-    stood-last p blind = both-map (last_where p es) (last_where p (stood cmp join es)) (alike-last p blind es (stood cmp join es) alike)
+    pub resolved-last : (p : Entry K V → Bool) → IgnoresValues p → last_where p (resolved cmp join es) ≡ option_map (with_other_value (value_of (last_where p (resolved cmp join es)))) (last_where p es)
+    resolved-last p blind = both-map (last_where p es) (last_where p (resolved cmp join es)) (alike-last p blind es (resolved cmp join es) alike)
 
 -- ---- what an entry has once it stands
 -- each entry, and what its key has once it stands
@@ -132,65 +132,65 @@ abbrev AreRisen : {K V : Type 0} → (V → V → V) → List (Entry K V) → Li
 AreRisen join [] [] = Unit {0}
 AreRisen join [] (e ∷ es) = ⊥
 AreRisen join (d ∷ ds) [] = ⊥
-AreRisen {K} {V} join (d ∷ ds) (e ∷ es) = ((held : Option V) × (e ≡ record d { value = risen join held d })) × AreRisen join ds es
+AreRisen {K} {V} join (d ∷ ds) (e ∷ es) = ((held : Option V) × (e ≡ record d { value = value_after join held d })) × AreRisen join ds es
 
 module _ {K V : Type 0} (join : V → V → V) where
-  stood-risen : (cmp : K → K → Ordering) (m : PlainMap K V) (es : List (Entry K V)) → AreRisen join es (stood_on cmp join m es)
-  stood-risen cmp m [] = tt
-  stood-risen cmp m (e ∷ es) = ((m e.key, refl), stood-risen cmp (with_at cmp m e.key (risen join (m e.key) e)) es)
+  resolved-value_after : (cmp : K → K → Ordering) (m : PlainMap K V) (es : List (Entry K V)) → AreRisen join es (resolved_from cmp join m es)
+  resolved-value_after cmp m [] = tt
+  resolved-value_after cmp m (e ∷ es) = ((m e.key, refl), resolved-value_after cmp (with_at cmp m e.key (value_after join (m e.key) e)) es)
 
   abbrev IsRisen : Option (Entry K V) → Option (Entry K V) → Type 0
   IsRisen None None = Unit {0}
   IsRisen None (Some e) = ⊥
   IsRisen (Some d) None = ⊥
-  IsRisen (Some d) (Some e) = (held : Option V) × (e ≡ record d { value = risen join held d })
+  IsRisen (Some d) (Some e) = (held : Option V) × (e ≡ record d { value = value_after join held d })
 
-  risen-or : (d e : Entry K V) (b c : Bool) (l m : Option (Entry K V)) → b ≡ c → ((held : Option V) × (e ≡ record d { value = risen join held d })) → IsRisen l m → IsRisen (option_or l (cond b (Some d) None)) (option_or m (cond c (Some e) None))
-  risen-or d e b c (Some x) (Some y) t h k = k
-  risen-or d e b c (Some x) None t h k = absurd k
-  risen-or d e b c None (Some y) t h k = absurd k
-  risen-or d e true true None None t h k = h
-  risen-or d e false false None None t h k = tt
-  risen-or d e true false None None t h k = absurd (cc)
-  risen-or d e false true None None t h k = absurd (cc)
+  value_after-or : (d e : Entry K V) (b c : Bool) (l m : Option (Entry K V)) → b ≡ c → ((held : Option V) × (e ≡ record d { value = value_after join held d })) → IsRisen l m → IsRisen (option_or l (cond b (Some d) None)) (option_or m (cond c (Some e) None))
+  value_after-or d e b c (Some x) (Some y) t h k = k
+  value_after-or d e b c (Some x) None t h k = absurd k
+  value_after-or d e b c None (Some y) t h k = absurd k
+  value_after-or d e true true None None t h k = h
+  value_after-or d e false false None None t h k = tt
+  value_after-or d e true false None None t h k = absurd (cc)
+  value_after-or d e false true None None t h k = absurd (cc)
 
-  risen-last : (p : Entry K V → Bool) → IgnoresValues p → (ds es : List (Entry K V)) → AreRisen join ds es → IsRisen (last_where p ds) (last_where p es)
-  risen-last p blind [] [] h = tt
-  risen-last p blind [] (e ∷ es) h = absurd h
-  risen-last p blind (d ∷ ds) [] h = absurd h
-  risen-last p blind (d ∷ ds) (e ∷ es) h =
-      risen-or d e (p d) (p e) (last_where p ds) (last_where p es) (sym (ap p h.0.1 ∙ blind d (risen join h.0.0 d))) h.0 (risen-last p blind ds es h.1)
+  value_after-last : (p : Entry K V → Bool) → IgnoresValues p → (ds es : List (Entry K V)) → AreRisen join ds es → IsRisen (last_where p ds) (last_where p es)
+  value_after-last p blind [] [] h = tt
+  value_after-last p blind [] (e ∷ es) h = absurd h
+  value_after-last p blind (d ∷ ds) [] h = absurd h
+  value_after-last p blind (d ∷ ds) (e ∷ es) h =
+      value_after-or d e (p d) (p e) (last_where p ds) (last_where p es) (sym (ap p h.0.1 ∙ blind d (value_after join h.0.0 d))) h.0 (value_after-last p blind ds es h.1)
 
-  some-risen : (held : Option V) (e : Entry K V) (b : Bool) → e.delta ≡ b → IsSome e.value → IsSome (risen join held e)
-  some-risen held e false h some = rw h some
-  some-risen held e true h some = rw h (some-onto held e.value some)
+  some-value_after : (held : Option V) (e : Entry K V) (b : Bool) → e.delta ≡ b → IsSome e.value → IsSome (value_after join held e)
+  some-value_after held e false h some = rw h some
+  some-value_after held e true h some = rw h (some-combined held e.value some)
     where
-      some-onto : (v w : Option V) → IsSome w → IsSome (onto join v w)
-      some-onto None w s = s
-      some-onto (Some v) None s = absurd (cc)
-      some-onto (Some v) (Some w) s = s
+      some-combined : (v w : Option V) → IsSome w → IsSome (combined join v w)
+      some-combined None w s = s
+      some-combined (Some v) None s = absurd (cc)
+      some-combined (Some v) (Some w) s = s
 
   module _ (cmp : K → K → Ordering) (es : List (Entry K V)) (p : Entry K V → Bool) (blind : IgnoresValues p) where
-    by_last : (Q : Option V → Type 0) (e : Entry K V) → ((held : Option V) → Q (risen join held e)) → (l m : Option (Entry K V)) → l ≡ Some e → IsRisen l m → Q (value_of m)
+    by_last : (Q : Option V → Type 0) (e : Entry K V) → ((held : Option V) → Q (value_after join held e)) → (l m : Option (Entry K V)) → l ≡ Some e → IsRisen l m → Q (value_of m)
     by_last Q e h None m is k = absurd (cc)
     by_last Q e h (Some d) None is k = absurd k
     by_last Q e h (Some d) (Some x) is k =
         let same : d ≡ e = cc in
-        subst Q (sym (ap (λ (y : Entry K V). y.value) k.1 ∙ ap (risen join k.0) same)) (h k.0)
+        subst Q (sym (ap (λ (y : Entry K V). y.value) k.1 ∙ ap (value_after join k.0) same)) (h k.0)
 
-    pub whole-last : (e : Entry K V) → last_where p es ≡ Some e → e.delta ≡ false → value_of (last_where p (stood cmp join es)) ≡ e.value
+    pub whole-last : (e : Entry K V) → last_where p es ≡ Some e → e.delta ≡ false → value_of (last_where p (resolved cmp join es)) ≡ e.value
     whole-last e is whole =
-        by_last (λ v. v ≡ e.value) e (λ held. rw whole refl) (last_where p es) (last_where p (stood cmp join es)) is (risen-last p blind es (stood cmp join es) (stood-risen cmp (λ k. None) es))
+        by_last (λ v. v ≡ e.value) e (λ held. rw whole refl) (last_where p es) (last_where p (resolved cmp join es)) is (value_after-last p blind es (resolved cmp join es) (resolved-value_after cmp (λ k. None) es))
 
-    pub valued-last : (e : Entry K V) → last_where p es ≡ Some e → IsSome e.value → IsSome (value_of (last_where p (stood cmp join es)))
+    pub valued-last : (e : Entry K V) → last_where p es ≡ Some e → IsSome e.value → IsSome (value_of (last_where p (resolved cmp join es)))
     valued-last e is some =
-        by_last IsSome e (λ held. some-risen held e e.delta refl some) (last_where p es) (last_where p (stood cmp join es)) is (risen-last p blind es (stood cmp join es) (stood-risen cmp (λ k. None) es))
+        by_last IsSome e (λ held. some-value_after held e e.delta refl some) (last_where p es) (last_where p (resolved cmp join es)) is (value_after-last p blind es (resolved cmp join es) (resolved-value_after cmp (λ k. None) es))
 
 -- ---- where no entry is a delta, each has its own value
-pub whole-stood : {K V : Type 0} (cmp : K → K → Ordering) (join : V → V → V) (m : PlainMap K V) (es : List (Entry K V)) → AreWhole es → stood_on cmp join m es ≡ es
-whole-stood cmp join m [] h = refl
-whole-stood {K} {V} cmp join m (e ∷ es) h =
-    let own : risen join (m e.key) e ≡ e.value = rw (h zero e refl) refl in
-    let first : record e { value = risen join (m e.key) e } ≡ e = ap (λ (v : Option V). record e { value = v }) own in
-    let rest = whole-stood cmp join (with_at cmp m e.key (risen join (m e.key) e)) es (λ i. h (suc i)) in
+pub whole-resolved : {K V : Type 0} (cmp : K → K → Ordering) (join : V → V → V) (m : PlainMap K V) (es : List (Entry K V)) → AreWhole es → resolved_from cmp join m es ≡ es
+whole-resolved cmp join m [] h = refl
+whole-resolved {K} {V} cmp join m (e ∷ es) h =
+    let own : value_after join (m e.key) e ≡ e.value = rw (h zero e refl) refl in
+    let first : record e { value = value_after join (m e.key) e } ≡ e = ap (λ (v : Option V). record e { value = v }) own in
+    let rest = whole-resolved cmp join (with_at cmp m e.key (value_after join (m e.key) e)) es (λ i. h (suc i)) in
     λ i. first i ∷ rest i

@@ -8,32 +8,32 @@ use Rattle.fkv_texts.specs.Text.{entry_at, has_key}
 use Rattle.fkv_texts.specs.Chains.{IsIn}
 
 -- a value or part, and the part after it, either of which may be missing
-abbrev pub onto : {V : Type 0} → (V → V → V) → Option V → Option V → Option V
-onto join None w = w
-onto join (Some v) None = Some v
-onto join (Some v) (Some w) = Some (join v w)
+abbrev pub combined : {V : Type 0} → (V → V → V) → Option V → Option V → Option V
+combined join None w = w
+combined join (Some v) None = Some v
+combined join (Some v) (Some w) = Some (join v w)
 
 -- parts may be joined first
 abbrev pub IsAssociative : {V : Type 0} → (V → V → V) → Type 0
 IsAssociative {V} join = (u v w : V) → join (join u v) w ≡ join u (join v w)
 
 -- what a key has once an entry stands, from what it had
-abbrev pub risen : {K V : Type 0} → (V → V → V) → Option V → Entry K V → Option V
-risen join held e = cond e.delta (onto join held e.value) e.value
+abbrev pub value_after : {K V : Type 0} → (V → V → V) → Option V → Entry K V → Option V
+value_after join held e = cond e.delta (combined join held e.value) e.value
 
 -- an entry with another value, or none
-abbrev pub having : {K V : Type 0} → Option V → Entry K V → Entry K V
-having v e = record e { value = v }
+abbrev pub with_other_value : {K V : Type 0} → Option V → Entry K V → Entry K V
+with_other_value v e = record e { value = v }
 
 -- each entry with what its key has once it stands, from what keys had before
-abbrev pub stood_on : {K V : Type 0} → (K → K → Ordering) → (V → V → V) → PlainMap K V → List (Entry K V) → List (Entry K V)
-stood_on cmp join m [] = []
-stood_on cmp join m (e ∷ es) =
-    having (risen join (m e.key) e) e ∷ stood_on cmp join (with_at cmp m e.key (risen join (m e.key) e)) es
+abbrev pub resolved_from : {K V : Type 0} → (K → K → Ordering) → (V → V → V) → PlainMap K V → List (Entry K V) → List (Entry K V)
+resolved_from cmp join m [] = []
+resolved_from cmp join m (e ∷ es) =
+    with_other_value (value_after join (m e.key) e) e ∷ resolved_from cmp join (with_at cmp m e.key (value_after join (m e.key) e)) es
 
 -- the same, where no key had a value before
-abbrev pub stood : {K V : Type 0} → (K → K → Ordering) → (V → V → V) → List (Entry K V) → List (Entry K V)
-stood cmp join es = stood_on cmp join (λ k. None) es
+abbrev pub resolved : {K V : Type 0} → (K → K → Ordering) → (V → V → V) → List (Entry K V) → List (Entry K V)
+resolved cmp join es = resolved_from cmp join (λ k. None) es
 
 -- no entry is a delta
 abbrev pub AreWhole : {K V : Type 0} → List (Entry K V) → Type 0
@@ -50,21 +50,21 @@ AreDeltasBetween {K} {V} cmp es k low high =
 
 -- a test that does not look at values
 abbrev pub IgnoresValues : {K V : Type 0} → (Entry K V → Bool) → Type 0
-IgnoresValues {K} {V} p = (e : Entry K V) (v : Option V) → p (having v e) ≡ p e
+IgnoresValues {K} {V} p = (e : Entry K V) (v : Option V) → p (with_other_value v e) ≡ p e
 
 -- ---- reading
 -- over entries of one key, newest first: their parts joined before those collected, down to an entry that is no delta
 abbrev pub gathered : {K V : Type 0} → (V → V → V) → List (Entry K V) → Option V → Option V × Option (Entry K V)
 gathered join [] c = (c, None)
-gathered join (e ∷ es) c = cond e.delta (gathered join es (onto join e.value c)) (c, Some e)
+gathered join (e ∷ es) c = cond e.delta (gathered join es (combined join e.value c)) (c, Some e)
 
 -- the entries of a key at or below an address, newest first
-abbrev pub falling_to : {K V : Type 0} → (K → K → Ordering) → List (Entry K V) → K → ℕ → List (Entry K V)
-falling_to cmp es k high = reverse (filter (λ e. nat_le e.address high && has_key cmp k e) es)
+abbrev pub newest_first_to : {K V : Type 0} → (K → K → Ordering) → List (Entry K V) → K → ℕ → List (Entry K V)
+newest_first_to cmp es k high = reverse (filter (λ e. nat_le e.address high && has_key cmp k e) es)
 
 -- and of those the ones above another address
-abbrev pub falling_between : {K V : Type 0} → (K → K → Ordering) → List (Entry K V) → K → ℕ → ℕ → List (Entry K V)
-falling_between cmp es k low high =
+abbrev pub newest_first_between : {K V : Type 0} → (K → K → Ordering) → List (Entry K V) → K → ℕ → ℕ → List (Entry K V)
+newest_first_between cmp es k low high =
     reverse (filter (λ e. nat_lt low e.address && (nat_le e.address high && has_key cmp k e)) es)
 
 -- ---- clearing

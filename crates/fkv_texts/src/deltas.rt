@@ -12,8 +12,8 @@ ghost use Rattle.fkv_texts.specs.Text.{last_where, entry_at, value_at, has_key, 
 ghost use Rattle.fkv_texts.specs.Text.{IsRising, IsFrom, IsBelow, changed, text_from};
 ghost use Rattle.fkv_texts.specs.Places.{IsLaidOut};
 ghost use Rattle.fkv_texts.specs.Chains.{IsClassTest, last_of_class, Leads, IsChained, IsChainFrom, leads_to};
-ghost use Rattle.fkv_texts.specs.Deltas.{onto, IsAssociative, risen, having, stood_on, stood, AreWhole, IgnoresValues};
-ghost use Rattle.fkv_texts.specs.Deltas.{gathered, falling_to, falling_between};
+ghost use Rattle.fkv_texts.specs.Deltas.{combined, IsAssociative, value_after, with_other_value, resolved_from, resolved, AreWhole, IgnoresValues};
+ghost use Rattle.fkv_texts.specs.Deltas.{gathered, newest_first_to, newest_first_between};
 ghost use Rattle.fkv_texts.specs.Deltas.{IsCovered, IsSuperseded, IsCleared};
 ghost use Rattle.fkv_texts.specs.WrongDeltas.{DeltasJoin, WholesEnd, FirstDeltasStand, PartsGather, LaterIsLater};
 ghost use Rattle.fkv_texts.specs.WrongDeltas.{WholesCover, CutNeedsClearing};
@@ -22,67 +22,67 @@ ghost use Rattle.fkv_texts.specs.WrongDeltas.{WholesCover, CutNeedsClearing};
 /// other values alone.
 pub fn places<K, V, C>()
     ensures same { (cmp : K → K → Ordering) (join : V → V → V) (es : List (Entry K V))
-        → map (having None) (stood cmp join es) ≡ map (having None) es }
+        → map (with_other_value None) (resolved cmp join es) ≡ map (with_other_value None) es }
     ensures laid_out { (cmp : K → K → Ordering) (join : V → V → V) (es : List (Entry K V)) (bits size begin tail : ℕ)
-        → IsLaidOut bits size begin tail (stood cmp join es) ↔ IsLaidOut bits size begin tail es }
+        → IsLaidOut bits size begin tail (resolved cmp join es) ↔ IsLaidOut bits size begin tail es }
     ensures rising { (cmp : K → K → Ordering) (join : V → V → V) (es : List (Entry K V))
-        → IsRising (stood cmp join es) ↔ IsRising es }
+        → IsRising (resolved cmp join es) ↔ IsRising es }
     ensures from { (cmp : K → K → Ordering) (join : V → V → V) (es : List (Entry K V)) (begin : ℕ)
-        → IsFrom begin (stood cmp join es) ↔ IsFrom begin es }
+        → IsFrom begin (resolved cmp join es) ↔ IsFrom begin es }
     ensures below { (cmp : K → K → Ordering) (join : V → V → V) (es : List (Entry K V)) (tail : ℕ)
-        → IsBelow tail (stood cmp join es) ↔ IsBelow tail es }
+        → IsBelow tail (resolved cmp join es) ↔ IsBelow tail es }
     ensures chained { (cmp : K → K → Ordering) (join : V → V → V) (es : List (Entry K V))
         (class : K → C) (same : C → C → Bool) (begin : ℕ)
-        → IsChained class same begin (stood cmp join es) ↔ IsChained class same begin es }
+        → IsChained class same begin (resolved cmp join es) ↔ IsChained class same begin es }
     ensures leads { (cmp : K → K → Ordering) (join : V → V → V) (es : List (Entry K V))
         (class : K → C) (same : C → C → Bool) (begin : ℕ) (c : C) (a : ℕ)
-        → Leads begin (last_of_class class same (stood cmp join es) c) a
+        → Leads begin (last_of_class class same (resolved cmp join es) c) a
         ↔ Leads begin (last_of_class class same es c) a }
     // what is found at an address, or of a key, is the same entry, with what its key has there
     ensures entry { (cmp : K → K → Ordering) (join : V → V → V) (es : List (Entry K V)) (a : ℕ)
-        → entry_at (stood cmp join es) a ≡ option_map (having (value_at (stood cmp join es) a)) (entry_at es a) }
+        → entry_at (resolved cmp join es) a ≡ option_map (with_other_value (value_at (resolved cmp join es) a)) (entry_at es a) }
     ensures last { (cmp : K → K → Ordering) (join : V → V → V) (es : List (Entry K V)) (k : K)
-        → last_of cmp (stood cmp join es) k
-        ≡ option_map (having (live cmp (stood cmp join es) k)) (last_of cmp es k) }
+        → last_of cmp (resolved cmp join es) k
+        ≡ option_map (with_other_value (live cmp (resolved cmp join es) k)) (last_of cmp es k) }
     ensures newest { (cmp : K → K → Ordering) (join : V → V → V) (es : List (Entry K V)) (k : K) (a : ℕ)
-        → newest cmp (stood cmp join es) k a
-        ≡ option_map (having (value_of (newest cmp (stood cmp join es) k a))) (newest cmp es k a) }
+        → newest cmp (resolved cmp join es) k a
+        ≡ option_map (with_other_value (value_of (newest cmp (resolved cmp join es) k a))) (newest cmp es k a) }
     ensures last_where { (cmp : K → K → Ordering) (join : V → V → V) (es : List (Entry K V)) (p : Entry K V → Bool)
         → IgnoresValues p
-        → last_where p (stood cmp join es)
-        ≡ option_map (having (value_of (last_where p (stood cmp join es)))) (last_where p es) }
+        → last_where p (resolved cmp join es)
+        ≡ option_map (with_other_value (value_of (last_where p (resolved cmp join es)))) (last_where p es) }
     // an entry that is no delta, a tombstone too, has its own value; and one that has a value has one once it stands
     ensures whole { (cmp : K → K → Ordering) (join : V → V → V) (es : List (Entry K V)) (p : Entry K V → Bool)
         (e : Entry K V)
         → IgnoresValues p
         → last_where p es ≡ Some e
         → e.delta ≡ false
-        → value_of (last_where p (stood cmp join es)) ≡ e.value }
+        → value_of (last_where p (resolved cmp join es)) ≡ e.value }
     ensures valued { (cmp : K → K → Ordering) (join : V → V → V) (es : List (Entry K V)) (p : Entry K V → Bool)
         (e : Entry K V)
         → IgnoresValues p
         → last_where p es ≡ Some e
         → IsSome e.value
-        → IsSome (value_of (last_where p (stood cmp join es))) }
+        → IsSome (value_of (last_where p (resolved cmp join es))) }
 {}
 
 /// What keys have once entries stand: each entry of a key in its turn, a delta joined with what the key had.
 pub fn values<K, V>()
     ensures appended { (cmp : K → K → Ordering) (join : V → V → V) (es : List (Entry K V)) (e : Entry K V)
-        → stood cmp join (es ++ e ∷ [])
-        ≡ stood cmp join es ++ having (risen join (live cmp (stood cmp join es) e.key) e) e ∷ [] }
+        → resolved cmp join (es ++ e ∷ [])
+        ≡ resolved cmp join es ++ with_other_value (value_after join (live cmp (resolved cmp join es) e.key) e) e ∷ [] }
     ensures live { (cmp : K → K → Ordering) (join : V → V → V) (es : List (Entry K V)) (k : K)
         → IsKeyOrder cmp
-        → live cmp (stood cmp join es) k ≡ fold (risen join) None (filter (has_key cmp k) es) }
+        → live cmp (resolved cmp join es) k ≡ fold (value_after join) None (filter (has_key cmp k) es) }
     ensures newest { (cmp : K → K → Ordering) (join : V → V → V) (es : List (Entry K V)) (k : K) (a : ℕ)
         → IsKeyOrder cmp
         → IsRising es
-        → value_of (newest cmp (stood cmp join es) k a)
-        ≡ fold (risen join) None (filter (λ e. nat_le e.address a && has_key cmp k e) es) }
+        → value_of (newest cmp (resolved cmp join es) k a)
+        ≡ fold (value_after join) None (filter (λ e. nat_le e.address a && has_key cmp k e) es) }
     // where no entry is a delta, each has its own value
     ensures whole { (cmp : K → K → Ordering) (join : V → V → V) (m : PlainMap K V) (es : List (Entry K V))
         → AreWhole es
-        → stood_on cmp join m es ≡ es }
+        → resolved_from cmp join m es ≡ es }
     // a change of the last entry of a key, which is no delta, changes what no other entry stands for
     ensures changed { (cmp : K → K → Ordering) (join : V → V → V) (es : List (Entry K V)) (a : ℕ) (v : Option V)
         (e : Entry K V)
@@ -91,7 +91,7 @@ pub fn values<K, V>()
         → entry_at es a ≡ Some e
         → e.delta ≡ false
         → last_of cmp es e.key ≡ Some e
-        → stood cmp join (changed es a v) ≡ changed (stood cmp join es) a v }
+        → resolved cmp join (changed es a v) ≡ changed (resolved cmp join es) a v }
 {}
 
 /// What a cleared text still says once its lower part goes, where what deltas stand for may go with their bases.
@@ -102,7 +102,7 @@ pub fn uncovered_stays<K, V>()
         → IsRising es
         → IsCleared cmp es limit
         → low ≤ limit
-        → Same (live cmp (stood cmp join (text_from low es))) (live cmp (stood cmp join es)) }
+        → Same (live cmp (resolved cmp join (text_from low es))) (live cmp (resolved cmp join es)) }
     // and had it at an address, where the newest entry of the key there is not covered
     ensures newest { (cmp : K → K → Ordering) (join : V → V → V) (es : List (Entry K V)) (low limit : ℕ) (k : K) (a : ℕ)
         → IsKeyOrder cmp
@@ -110,8 +110,8 @@ pub fn uncovered_stays<K, V>()
         → IsCleared cmp es limit
         → low ≤ limit
         → ((e : Entry K V) → newest cmp es k a ≡ Some e → IsCovered cmp es e → ⊥)
-        → value_of (newest cmp (stood cmp join (text_from low es)) k a)
-        ≡ value_of (newest cmp (stood cmp join es) k a) }
+        → value_of (newest cmp (resolved cmp join (text_from low es)) k a)
+        ≡ value_of (newest cmp (resolved cmp join es) k a) }
     // that entry is there still, or there is none where it goes
     ensures stays { (cmp : K → K → Ordering) (es : List (Entry K V)) (low : ℕ) (k : K) (a : ℕ) (e : Entry K V)
         → newest cmp es k a ≡ Some e
@@ -157,7 +157,7 @@ pub fn covers<K, V>()
         → entry_at es e.address ≡ Some e
         → IsCleared cmp es e.address
         → (IsCovered cmp es e → ⊥)
-        → value_of (newest cmp (stood cmp join es) e.key e.address) ≡ e.value }
+        → value_of (newest cmp (resolved cmp join es) e.key e.address) ≡ e.value }
 {}
 
 /// What is superseded stays so as a text grows.
@@ -191,15 +191,15 @@ pub fn superseded_stays<K, V>()
 /// A reader that goes down the entries of a key and joins their parts, each before those that it has, comes to what the
 /// key has: `parts` are those from above, which may be none.
 pub fn gathers<K, V>()
-    ensures none { (join : V → V → V) (v : Option V) → onto join v None ≡ v }
+    ensures none { (join : V → V → V) (v : Option V) → combined join v None ≡ v }
     // down to the first entry that is no delta, or to the end
     ensures all { (cmp : K → K → Ordering) (join : V → V → V) (es : List (Entry K V)) (k : K) (a : ℕ)
         (parts joined : Option V) (end : Option (Entry K V))
         → IsKeyOrder cmp
         → IsAssociative join
         → IsRising es
-        → gathered join (falling_to cmp es k a) parts ≡ (joined, end)
-        → onto join (value_of (newest cmp (stood cmp join es) k a)) parts ≡ onto join (value_of end) joined }
+        → gathered join (newest_first_to cmp es k a) parts ≡ (joined, end)
+        → combined join (value_of (newest cmp (resolved cmp join es) k a)) parts ≡ combined join (value_of end) joined }
     // above an address: such an entry stands there
     ensures met { (cmp : K → K → Ordering) (join : V → V → V) (es : List (Entry K V)) (k : K) (low a : ℕ)
         (parts joined : Option V) (e : Entry K V)
@@ -207,8 +207,8 @@ pub fn gathers<K, V>()
         → IsAssociative join
         → IsRising es
         → low ≤ a
-        → gathered join (falling_between cmp es k low a) parts ≡ (joined, Some e)
-        → onto join (value_of (newest cmp (stood cmp join es) k a)) parts ≡ onto join e.value joined }
+        → gathered join (newest_first_between cmp es k low a) parts ≡ (joined, Some e)
+        → combined join (value_of (newest cmp (resolved cmp join es) k a)) parts ≡ combined join e.value joined }
     // or what the key has at that address is wanted still
     ensures on { (cmp : K → K → Ordering) (join : V → V → V) (es : List (Entry K V)) (k : K) (low a : ℕ)
         (parts joined : Option V)
@@ -216,9 +216,9 @@ pub fn gathers<K, V>()
         → IsAssociative join
         → IsRising es
         → low ≤ a
-        → gathered join (falling_between cmp es k low a) parts ≡ (joined, None)
-        → onto join (value_of (newest cmp (stood cmp join es) k a)) parts
-        ≡ onto join (value_of (newest cmp (stood cmp join es) k low)) joined }
+        → gathered join (newest_first_between cmp es k low a) parts ≡ (joined, None)
+        → combined join (value_of (newest cmp (resolved cmp join es) k a)) parts
+        ≡ combined join (value_of (newest cmp (resolved cmp join es) k low)) joined }
 {}
 
 /// The same along a chain, from an entry of the key's class down to an address.
@@ -236,7 +236,7 @@ pub fn chain_gathers<K, V, C>()
         → class d.key ≡ class k
         → IsChainFrom low es d.address upper
         → gathered join (filter (has_key cmp k) upper) parts ≡ (joined, Some e)
-        → onto join (value_of (newest cmp (stood cmp join es) k d.address)) parts ≡ onto join e.value joined }
+        → combined join (value_of (newest cmp (resolved cmp join es) k d.address)) parts ≡ combined join e.value joined }
     // or what the key has where the chain leads on is wanted still
     ensures on { (cmp : K → K → Ordering) (join : V → V → V) (class : K → C) (same : C → C → Bool)
         (begin low : ℕ) (es upper : List (Entry K V)) (k : K) (i : ℕ) (d : Entry K V) (parts joined : Option V)
@@ -250,8 +250,8 @@ pub fn chain_gathers<K, V, C>()
         → class d.key ≡ class k
         → IsChainFrom low es d.address upper
         → gathered join (filter (has_key cmp k) upper) parts ≡ (joined, None)
-        → onto join (value_of (newest cmp (stood cmp join es) k d.address)) parts
-        ≡ onto join (value_of (newest cmp (stood cmp join es) k (leads_to d.address upper))) joined }
+        → combined join (value_of (newest cmp (resolved cmp join es) k d.address)) parts
+        ≡ combined join (value_of (newest cmp (resolved cmp join es) k (leads_to d.address upper))) joined }
 {}
 
 /// What deltas stand for, and what they cover and do not, shown on small texts.

@@ -12,7 +12,7 @@ use Rattle.fkv_blocks.specs.Shares.{AreRowsIn, IsBadBlock, IsStop}
 use Rattle.fkv_blocks.specs.declared.blocks.Stop.{Stop}
 use Rattle.fkv_blocks.specs.declared.spans.Ticket.{Ticket}
 use Rattle.fkv_feeds.specs.Tables.{most_rows}
-use Rattle.fkv_feeds.specs.declared.modes.RowMode.{RowMode}
+use Rattle.fkv_feeds.specs.declared.counting.RowMode.{RowMode}
 use Rattle.fkv_store.specs.Passes.{PassView}
 use Rattle.fkv_store.specs.Stores.{IsTold}
 use Rattle.fkv_workers.specs.Shares.{HasShare}
@@ -31,20 +31,20 @@ on_err (Ok x) P Q h f = tt
 on_err (Err e) P Q h f = f e h
 
 -- what is said of each result, beside its job
-pub each_third : {W R : Type 0} (A : W → R → Type 0) (B : W → R → Type 0) (P : R → Type 0) (works : List W) (results : List R) → AllZip (λ w r. A w r × B w r × P r) works results → All P results
+pub each_third : {W R : Type 0} (A : W → R → Type 0) (B : W → R → Type 0) (P : R → Type 0) (jobs : List W) (results : List R) → AllZip (λ w r. A w r × B w r × P r) jobs results → All P results
 each_third A B P [] [] all = All-nil P
 each_third A B P [] (r ∷ rs) all = absurd all
 each_third A B P (w ∷ ws) [] all = absurd all
 each_third A B P (w ∷ ws) (r ∷ rs) all = All-cons P r rs all.0.2 (each_third A B P ws rs all.1)
 
-pub each_second : {W R : Type 0} (A : W → R → Type 0) (B : R → Type 0) (P : R → Type 0) (works : List W) (results : List R) → AllZip (λ w r. A w r × B r × P r) works results → All B results
+pub each_second : {W R : Type 0} (A : W → R → Type 0) (B : R → Type 0) (P : R → Type 0) (jobs : List W) (results : List R) → AllZip (λ w r. A w r × B r × P r) jobs results → All B results
 each_second A B P [] [] all = All-nil B
 each_second A B P [] (r ∷ rs) all = absurd all
 each_second A B P (w ∷ ws) [] all = absurd all
 each_second A B P (w ∷ ws) (r ∷ rs) all = All-cons B r rs all.0.1 (each_second A B P ws rs all.1)
 
 -- what is said of each in other words
-pub map_zip : {W R : Type 0} (P Q : W → R → Type 0) (works : List W) (results : List R) → AllZip P works results → ((w : W) (r : R) → P w r → Q w r) → AllZip Q works results
+pub map_zip : {W R : Type 0} (P Q : W → R → Type 0) (jobs : List W) (results : List R) → AllZip P jobs results → ((w : W) (r : R) → P w r → Q w r) → AllZip Q jobs results
 map_zip P Q [] [] all f = tt
 map_zip P Q [] (r ∷ rs) all f = absurd all
 map_zip P Q (w ∷ ws) [] all f = absurd all
@@ -62,9 +62,9 @@ module _ {W R V O : Type 0} (feeds : List (Option (List ℕ))) (code : Name → 
     kept : AllZip (λ pass rows. HasShare code (length pass.told) pass.own rows) (map pass_of results) (map (flat_map (λ part. part)) parts)
     made : All (λ pass. AreMadeBy mode pass.own) (map pass_of results)
 
-  made_by : (works : List W) (results : List R) → keeps ≡ true
-      → AllZip (λ work r. IfNone (fault_of r) (HasDone (Reads r) keeps code (mode_of work) (pass_of r)) × others work r) works results
-      → All (λ work. mode_of work ≡ mode) works
+  made_by : (jobs : List W) (results : List R) → keeps ≡ true
+      → AllZip (λ job r. IfNone (fault_of r) (HasDone (Reads r) keeps code (mode_of job) (pass_of r)) × others job r) jobs results
+      → All (λ job. mode_of job ≡ mode) jobs
       → All (λ fault. fault ≡ None) (map fault_of results)
       → Made results
   made_by [] [] k each modes none = record { parts = []; read = tt; kept = tt; made = All-nil (λ pass. AreMadeBy mode pass.own) }
@@ -73,35 +73,35 @@ module _ {W R V O : Type 0} (feeds : List (Option (List ℕ))) (code : Name → 
   made_by (w ∷ ws) (r ∷ rs) k each modes none =
       let done : HasDone (Reads r) keeps code (mode_of w) (pass_of r) =
       subst (λ fault. IfNone fault (HasDone (Reads r) keeps code (mode_of w) (pass_of r))) (All-head (λ fault. fault ≡ None) (fault_of r) (map fault_of rs) none) each.0.0 in
-      let rest = made_by ws rs k each.1 (All-tail (λ work. mode_of work ≡ mode) w ws modes) (All-tail (λ fault. fault ≡ None) (fault_of r) (map fault_of rs) none) in
+      let rest = made_by ws rs k each.1 (All-tail (λ job. mode_of job ≡ mode) w ws modes) (All-tail (λ fault. fault ≡ None) (fault_of r) (map fault_of rs) none) in
       record {
         parts = done.read.0 ∷ rest.parts;
         read = (done.read.1, rest.read);
         kept = (subst (HasShare code (length (pass_of r).told) (pass_of r).own) done.read.2 (done.stands.share k), rest.kept);
         made = All-cons (λ pass. AreMadeBy mode pass.own) (pass_of r) (map pass_of rs)
-            (subst (λ m. AreMadeBy m (pass_of r).own) (All-head (λ work. mode_of work ≡ mode) w ws modes) (done.stands.made k)) rest.made;
+            (subst (λ m. AreMadeBy m (pass_of r).own) (All-head (λ job. mode_of job ≡ mode) w ws modes) (done.stands.made k)) rest.made;
       }
 
-  pub shared_whole : (works : List W) (results : List R) → keeps ≡ true
-      → AllZip (λ work r. IfNone (fault_of r) (HasDone (Reads r) keeps code (mode_of work) (pass_of r)) × others work r) works results
-      → All (λ work. mode_of work ≡ mode) works
+  pub shared_whole : (jobs : List W) (results : List R) → keeps ≡ true
+      → AllZip (λ job r. IfNone (fault_of r) (HasDone (Reads r) keeps code (mode_of job) (pass_of r)) × others job r) jobs results
+      → All (λ job. mode_of job ≡ mode) jobs
       → All (λ fault. fault ≡ None) (map fault_of results)
       → AreWhole most_rows feeds (map tickets_of results)
       → IsShared code mode feeds (map pass_of results)
-  shared_whole works results k each modes none whole =
-      let m = made_by works results k each modes none in
+  shared_whole jobs results k each modes none whole =
+      let m = made_by jobs results k each modes none in
       record { shares = map (flat_map (λ part. part)) m.parts; fed = whole m.parts m.read; kept = m.kept; made = m.made }
 
   -- where the passes are handed on
-  pub shared_ok : {T E : Type 0} (r : Result T E) (items : T → List (PassView Name V ℤ O)) (works : List W) (results : List R)
-      → AllZip (λ work r. IfNone (fault_of r) (HasDone (Reads r) keeps code (mode_of work) (pass_of r)) × others work r) works results
-      → All (λ work. mode_of work ≡ mode) works
+  pub shared_ok : {T E : Type 0} (r : Result T E) (items : T → List (PassView Name V ℤ O)) (jobs : List W) (results : List R)
+      → AllZip (λ job r. IfNone (fault_of r) (HasDone (Reads r) keeps code (mode_of job) (pass_of r)) × others job r) jobs results
+      → All (λ job. mode_of job ≡ mode) jobs
       → IfOk r (λ x. items x ≡ map pass_of results)
       → OnOk r (All (λ fault. fault ≡ None) (map fault_of results))
       → OnOk r (AreWhole most_rows feeds (map tickets_of results))
       → IfOk r (λ x. keeps ≡ true → IsShared code mode feeds (items x))
-  shared_ok (Ok x) items works results each modes is none whole = λ k. subst (IsShared code mode feeds) (sym is) (shared_whole works results k each modes none whole)
-  shared_ok (Err e) items works results each modes is none whole = tt
+  shared_ok (Ok x) items jobs results each modes is none whole = λ k. subst (IsShared code mode feeds) (sym is) (shared_whole jobs results k each modes none whole)
+  shared_ok (Err e) items jobs results each modes is none whole = tt
 
 -- ---- what stopped the first worker
 module _ (feeds : List (Option (List ℕ))) (limit feed low : ℕ) where

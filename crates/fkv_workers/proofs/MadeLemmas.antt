@@ -9,8 +9,8 @@ use Rattle.fkv_functions.specs.declared.names.Name.{Name}
 use Rattle.fkv_functions.specs.declared.refusals.Refused.{Refused}
 use Rattle.fkv_operations.specs.After.{is_merge}
 use Rattle.fkv_partition.specs.Views.{partition_of}
-use Rattle.fkv_feeds.specs.declared.modes.RowMode.{RowMode}
-use Rattle.fkv_feeds.specs.declared.modes.RowMode.TheVariants.{Update, Merge}
+use Rattle.fkv_feeds.specs.declared.counting.RowMode.{RowMode}
+use Rattle.fkv_feeds.specs.declared.counting.RowMode.TheVariants.{Update, Merge}
 use Rattle.fkv_store.specs.declared.running.Loads.{Loads}
 use Rattle.fkv_store.specs.Stores.{StoreView, IsTold}
 use Rattle.fkv_store.specs.Passes.{PassView, IsUpdateBy, Answers, IsStrange}

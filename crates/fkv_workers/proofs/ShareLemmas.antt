@@ -11,8 +11,8 @@ use Rattle.fkv_functions.specs.declared.names.Name.{Name}
 use Rattle.fkv_partition.specs.Views.{partition_of}
 use Rattle.fkv_histories.specs.declared.entries.Entry.{Entry}
 use Rattle.fkv_store.specs.Passes.{IsUpdateBy}
-use Rattle.fkv_feeds.specs.declared.modes.RowMode.{RowMode}
-use Rattle.fkv_feeds.specs.declared.modes.RowMode.TheVariants.{Update}
+use Rattle.fkv_feeds.specs.declared.counting.RowMode.{RowMode}
+use Rattle.fkv_feeds.specs.declared.counting.RowMode.TheVariants.{Update}
 use Rattle.fkv_operations.specs.After.{is_merge}
 use Rattle.fkv_workers.specs.Shares.{rows_at, HasRows, HasShare}
 use Rattle.fkv_workers.specs.Works.{AreMadeBy}

@@ -9,7 +9,7 @@ use Rattle.std.proofs.lemmas.List.Elements.{filter-append, All-push, All-nil, Al
 use Rattle.std.proofs.Math.Nat.{mod-lt}
 use Rattle.fkv_functions.specs.declared.names.Name.{Name}
 use Rattle.fkv_partition.specs.Views.{partition_of}
-use Rattle.fkv_feeds.specs.declared.modes.RowMode.{RowMode}
+use Rattle.fkv_feeds.specs.declared.counting.RowMode.{RowMode}
 use Rattle.fkv_store.specs.Passes.{PassView}
 use Rattle.fkv_workers.specs.Shares.{rows_at}
 use Rattle.fkv_workers.specs.Works.{StandsFor, AreSplit, Makes}

@@ -4,7 +4,7 @@ use Rattle.std.specs.List.{All}
 use Rattle.std.proofs.lemmas.List.{length-replicate, get_or-replicate}
 use Rattle.std.proofs.lemmas.List.Elements.{All-nil, All-replicate}
 use Rattle.fkv_functions.specs.declared.names.Name.{Name}
-use Rattle.fkv_feeds.specs.declared.modes.RowMode.{RowMode}
+use Rattle.fkv_feeds.specs.declared.counting.RowMode.{RowMode}
 use Rattle.fkv_histories.specs.declared.entries.Entry.{Entry}
 use Rattle.fkv_operations.specs.After.{is_merge}
 use Rattle.fkv_store.specs.Stores.{StoreView}

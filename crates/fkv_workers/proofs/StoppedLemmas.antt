@@ -9,7 +9,7 @@ use Rattle.fkv_functions.specs.declared.refusals.Refused.{Refused}
 use Rattle.fkv_functions.specs.declared.refusals.Refused.TheVariants.{NoMemory}
 use Rattle.fkv_device.specs.Failing.{FailsOnlyBy}
 use Rattle.fkv_feeds.specs.Tables.{AreFeeds, most_rows}
-use Rattle.fkv_feeds.specs.declared.modes.RowMode.{RowMode}
+use Rattle.fkv_feeds.specs.declared.counting.RowMode.{RowMode}
 use Rattle.fkv_functions.specs.declared.names.Name.{Name}
 use Rattle.fkv_store.specs.Passes.{PassView}
 use Rattle.fkv_store.specs.Stores.{IsTold, IsUnopened}
@@ -22,10 +22,10 @@ behind [] after x = refl
 behind (b ∷ before) after x = behind before after x
 
 module _ {W S R : Type 0} (feeds_in : W → List (ℕ × S)) (fault_of : R → Option Refused) (stops : List (ℕ × S) → Refused → Type 0)
-    (done also : W → R → Type 0) (workers : ℕ) (items : List S) (works : List W) (results : List R) (why : Refused) where
+    (done also : W → R → Type 0) (workers : ℕ) (items : List S) (jobs : List W) (results : List R) (why : Refused) where
   -- the fault of the first worker that has one is about a feed of its own
-  pub stopped : AreDealt workers items (map feeds_in works)
-      → AllZip (λ work r. done work r × IfSome (fault_of r) (stops (feeds_in work)) × also work r) works results
+  pub stopped : AreDealt workers items (map feeds_in jobs)
+      → AllZip (λ job r. done job r × IfSome (fault_of r) (stops (feeds_in job)) × also job r) jobs results
       → (first : IsFirstFault (map fault_of results) why)
       → (length first.before < workers) × stops (dealt workers (length first.before) items) why
   stopped hands each first =
@@ -37,11 +37,11 @@ module _ {W S R : Type 0} (feeds_in : W → List (ℕ × S)) (fault_of : R → O
       from None at h = absurd (cc)
       from (Some r) at h =
           let w = length first.before in
-          let found = beside (λ work r. done work r × IfSome (fault_of r) (stops (feeds_in work)) × also work r) works results w r each at in
-          let hand : feeds_in found.0 ≡ dealt workers w items = hands.each w (feeds_in found.0) (slice_get-map feeds_in works w ∙ ap (option_map feeds_in) found.1) in
-          let many : length works ≡ workers = sym (length-map works feeds_in) ∙ hands.count in
+          let found = beside (λ job r. done job r × IfSome (fault_of r) (stops (feeds_in job)) × also job r) jobs results w r each at in
+          let hand : feeds_in found.0 ≡ dealt workers w items = hands.each w (feeds_in found.0) (slice_get-map feeds_in jobs w ∙ ap (option_map feeds_in) found.1) in
+          let many : length jobs ≡ workers = sym (length-map jobs feeds_in) ∙ hands.count in
           let fault : fault_of r ≡ Some why = cc in (
-            subst (λ n. w < n) many (slice_get_within works w found.0 found.1),
+            subst (λ n. w < n) many (slice_get_within jobs w found.0 found.1),
             subst (λ feeds. stops feeds why) hand (subst (λ f. IfSome f (stops (feeds_in found.0))) fault found.2.1),
           )
 
@@ -85,9 +85,9 @@ front (b ∷ before) rest (suc v) lt = front before rest v (omega arith)
 
 module _ {W S R V O : Type 0} (remaining : S → Option (List ℕ)) (failures : S → ℕ) (keeps : Bool) (code : Name → ℕ)
     (feeds_in : W → List (ℕ × S)) (mode_of : W → RowMode) (pass_of : R → PassView Name V ℤ O) (fault_of : R → Option Refused)
-    (stops : W → R → Type 0) (workers : ℕ) (items : List S) (works : List W) (results : List R) (why : Refused)
-    (hands : AreDealt workers items (map feeds_in works))
-    (each : AllZip (λ work r. IfNone (fault_of r) (HasDone (AreFeeds most_rows (map (λ feed. remaining feed.1) (feeds_in work))) keeps code (mode_of work) (pass_of r)) × stops work r) works results)
+    (stops : W → R → Type 0) (workers : ℕ) (items : List S) (jobs : List W) (results : List R) (why : Refused)
+    (hands : AreDealt workers items (map feeds_in jobs))
+    (each : AllZip (λ job r. IfNone (fault_of r) (HasDone (AreFeeds most_rows (map (λ feed. remaining feed.1) (feeds_in job))) keeps code (mode_of job) (pass_of r)) × stops job r) jobs results)
   where
     -- one has read its feeds to their ends
     has_read : (v : ℕ) → slice_get (map fault_of results) v ≡ Some None → HasRead remaining failures (dealt workers v items)
@@ -96,8 +96,8 @@ module _ {W S R V O : Type 0} (remaining : S → Option (List ℕ)) (failures : 
         from : (o : Option R) → slice_get results v ≡ o → option_map fault_of o ≡ Some None → HasRead remaining failures (dealt workers v items)
         from None at h = absurd (cc)
         from (Some r) at h =
-            let found = beside (λ work r. IfNone (fault_of r) (HasDone (AreFeeds most_rows (map (λ feed. remaining feed.1) (feeds_in work))) keeps code (mode_of work) (pass_of r)) × stops work r) works results v r each at in
-            let hand : feeds_in found.0 ≡ dealt workers v items = hands.each v (feeds_in found.0) (slice_get-map feeds_in works v ∙ ap (option_map feeds_in) found.1) in
+            let found = beside (λ job r. IfNone (fault_of r) (HasDone (AreFeeds most_rows (map (λ feed. remaining feed.1) (feeds_in job))) keeps code (mode_of job) (pass_of r)) × stops job r) jobs results v r each at in
+            let hand : feeds_in found.0 ≡ dealt workers v items = hands.each v (feeds_in found.0) (slice_get-map feeds_in jobs v ∙ ap (option_map feeds_in) found.1) in
             let fault : fault_of r ≡ None = cc in
             let done : HasDone (AreFeeds most_rows (map (λ feed. remaining feed.1) (feeds_in found.0))) keeps code (mode_of found.0) (pass_of r) =
             subst (λ f. IfNone f (HasDone (AreFeeds most_rows (map (λ feed. remaining feed.1) (feeds_in found.0))) keeps code (mode_of found.0) (pass_of r))) fault found.2.0 in
@@ -106,7 +106,7 @@ module _ {W S R V O : Type 0} (remaining : S → Option (List ℕ)) (failures : 
     pub all_read : All (λ fault. fault ≡ None) (map fault_of results) → HaveRead remaining failures workers workers items
     all_read none v lt =
         let many : length (map fault_of results) ≡ workers =
-        length-map results fault_of ∙ (AllZip-long _ works results each ∙ (sym (length-map works feeds_in) ∙ hands.count)) in
+        length-map results fault_of ∙ (AllZip-long _ jobs results each ∙ (sym (length-map jobs feeds_in) ∙ hands.count)) in
         has_read v (none-there (map fault_of results) v none (omega (arith, many, lt)))
 
     pub read_before : (first : IsFirstFault (map fault_of results) why) → HaveRead remaining failures (length first.before) workers items

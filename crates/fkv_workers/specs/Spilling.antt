@@ -9,7 +9,7 @@ use Rattle.fkv_device.specs.Failing.{FailsOnlyBy}
 use Rattle.fkv_device.specs.Standing.{Standing}
 use Rattle.fkv_alone.specs.Causes.{CanFailToRead}
 use Rattle.fkv_feeds.specs.Spilling.{ArePairsOf}
-use Rattle.fkv_feeds.specs.declared.modes.RowMode.{RowMode}
+use Rattle.fkv_feeds.specs.declared.counting.RowMode.{RowMode}
 use Rattle.fkv_feeds.specs.declared.spilling.SpilledRun.{SpilledRun}
 use Rattle.fkv_partition.specs.Views.{PartitionView}
 use Rattle.fkv_spills.specs.Parts.{HasPairs}

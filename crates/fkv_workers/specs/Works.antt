@@ -11,8 +11,8 @@ use Rattle.fkv_functions.specs.declared.refusals.Refused.{Refused}
 use Rattle.fkv_functions.specs.declared.refusals.Refused.TheVariants.{BadConfig}
 use Rattle.fkv_feed_rows.specs.Feeds.{TellsUnread}
 use Rattle.fkv_feeds.specs.Tables.{AreFeeds, most_rows}
-use Rattle.fkv_feeds.specs.declared.modes.RowMode.{RowMode}
-use Rattle.fkv_feeds.specs.declared.modes.RowMode.TheVariants.{Update}
+use Rattle.fkv_feeds.specs.declared.counting.RowMode.{RowMode}
+use Rattle.fkv_feeds.specs.declared.counting.RowMode.TheVariants.{Update}
 use Rattle.fkv_operations.specs.After.{is_merge}
 use Rattle.fkv_closing.specs.Closing.{IsClosed}
 use Rattle.fkv_histories.specs.declared.entries.Entry.{Entry}

@@ -11,18 +11,18 @@ ghost use Rattle.fkv_store.specs.Stores.{IsTold};
 ghost use Rattle.fkv_workers.specs.Spilling.{IsSpilledFrom, IsSpillEnding};
 ghost use Rattle.fkv_workers.specs.Works.{IsMadeOf, IsRunnable, IsShared, IsUnread};
 
-use crate::dealing::works;
 use crate::keeping::keeper_of;
 use crate::running::is_runnable;
 use crate::sharing::{SharedFeeds, Tickets};
 use crate::tabling::{spilled, tabled};
-use crate::working::Worked;
-use fkv_blocks::{Ended, Feeds, Origin, Stop, Ticket};
+use crate::worker_jobs::jobs;
+use crate::working::WorkerResult;
+use fkv_blocks::{Feeds, Origin, ReadFeeds, Stop, Ticket};
 use fkv_device::Disk;
-use fkv_feeds::{LIMIT, RowMode, Run, SpilledRun};
+use fkv_feeds::{LIMIT, RowMode, SpilledRun, TableRun};
 use fkv_functions::{Mergeable, Name, OrderFree, Refused};
 use fkv_histories::Recorder;
-use fkv_jobs::{Ran, run_jobs};
+use fkv_jobs::{JobResults, run_jobs};
 use fkv_partition::Config;
 use fkv_store::{Gate, Pass, Store};
 use fkv_streams::Source;
@@ -38,7 +38,7 @@ const BLOCK: usize = 1 << 18;
 
 /// What workers hand back, apart: their passes, their tickets, and the first place at which one of them stopped.
 #[derive(Drop)]
-struct Parted<F: Mergeable, D: Disk, H: Recorder<F>> {
+struct WorkerResults<F: Mergeable, D: Disk, H: Recorder<F>> {
     passes: Vec<Pass<F, D, H>>,
     hands: Vec<Vec<Ticket>>,
     first: Option<Stop>,
@@ -68,23 +68,23 @@ fn first_of(first: Option<Stop>, other: Stop) -> Stop
 /// What workers hand back, apart. Refused: `NoMemory`.
 fn taken_apart<B: Origin, F: Mergeable, D: Disk, H: Recorder<F>>(
     alloc: Global,
-    worked: Vec<Worked<F, D, H, Tickets>>,
-) -> Result<Parted<F, D, H>, Refused>
-    requires read { All (λ w. WereRead B.feeds w.had.tickets.items) worked.items }
+    results: Vec<WorkerResult<F, D, H, Tickets>>,
+) -> Result<WorkerResults<F, D, H>, Refused>
+    requires read { All (λ w. WereRead B.feeds w.had.tickets.items) results.items }
     requires stops { All (λ w. IfSome w.fault (λ why. IsTold why ⊎ IsStop B.feeds most_rows
-        (record { feed = w.had.feed; low = w.had.low; refused = why; has_failed = w.had.has_failed }))) worked.items }
-    ensures passes { IfOk result (λ p. p.passes.items ≡ map (λ w. w.pass) worked.items) }
-    ensures hands { IfOk result (λ p. map (λ hand. hand.items) p.hands.items ≡ map (λ w. w.had.tickets.items) worked.items) }
+        (record { feed = w.had.feed; low = w.had.low; refused = why; has_failed = w.had.has_failed }))) results.items }
+    ensures passes { IfOk result (λ p. p.passes.items ≡ map (λ w. w.pass) results.items) }
+    ensures hands { IfOk result (λ p. map (λ hand. hand.items) p.hands.items ≡ map (λ w. w.had.tickets.items) results.items) }
     ensures read { IfOk result (λ p. All (WereRead B.feeds) (map (λ hand. hand.items) p.hands.items)) }
-    ensures none { IfOk result (λ p. p.first ≡ None → All (λ fault. fault ≡ None) (map (λ w. w.fault) worked.items)) }
+    ensures none { IfOk result (λ p. p.first ≡ None → All (λ fault. fault ≡ None) (map (λ w. w.fault) results.items)) }
     ensures first { IfOk result (λ p. IfSome p.first (λ stop. IsTold stop.refused ⊎ IsStop B.feeds most_rows stop)) }
     ensures only { IfErr result (λ e. e ≡ Refused.NoMemory) }
 {
     let mut passes = Vec::new(alloc);
     let mut hands = Vec::new(alloc);
     let mut first = None;
-    for one in worked {
-        let Worked { pass, had, fault } = one;
+    for one in results {
+        let WorkerResult { pass, had, fault } = one;
         let Tickets {
             tickets,
             feed,
@@ -110,7 +110,7 @@ fn taken_apart<B: Origin, F: Mergeable, D: Disk, H: Recorder<F>>(
             return Err(Refused::NoMemory);
         };
     }
-    Ok(Parted {
+    Ok(WorkerResults {
         passes,
         hands,
         first,
@@ -120,7 +120,7 @@ fn taken_apart<B: Origin, F: Mergeable, D: Disk, H: Recorder<F>>(
 /// What is told of the first place at which a worker stopped: what the store refused there, or what is wrong with the feed.
 fn told_of<S: Source + Drop, B: Origin>(
     alloc: Global,
-    feeds: &Ended<S, B>,
+    feeds: &ReadFeeds<S, B>,
     hands: &[Vec<Ticket>],
     stop: Stop,
 ) -> Refused
@@ -140,7 +140,7 @@ fn told_of<S: Source + Drop, B: Origin>(
 /// as the keeper is; and as the blocks are not all.
 fn concluded<S: Source + Drop, B: Origin>(
     alloc: Global,
-    feeds: &Ended<S, B>,
+    feeds: &ReadFeeds<S, B>,
     hands: &[Vec<Ticket>],
     first: Option<Stop>,
     kept: Result<(), Refused>,
@@ -168,7 +168,7 @@ fn concluded<S: Source + Drop, B: Origin>(
 fn joined<S: Source + Drop, B: Origin, F: Mergeable, D: Disk, H: Recorder<F>>(
     alloc: Global,
     feeds: Feeds<S, B>,
-    ran: Ran<Worked<F, D, H, Tickets>>,
+    ran: JobResults<WorkerResult<F, D, H, Tickets>>,
     left: &mut Vec<S>,
 ) -> Result<Vec<Pass<F, D, H>>, Refused>
     requires read { All (λ w. WereRead B.feeds w.had.tickets.items) ran.results.items }
@@ -181,8 +181,8 @@ fn joined<S: Source + Drop, B: Origin, F: Mergeable, D: Disk, H: Recorder<F>>(
     ensures refused { IfErr result (λ e. IsTold e ⊎ (e ≡ Refused.Mismatch)
         ⊎ IsFirstUnread B.feeds B.counts (map S.failures left.new.items) most_rows e) }
 {
-    let Ran { results, kept } = ran;
-    let Parted {
+    let JobResults { results, kept } = ran;
+    let WorkerResults {
         passes,
         hands,
         first,
@@ -224,7 +224,7 @@ fn shares_of<'a, S: Source + Drop, B: Origin>(
 
 /// The passes of workers in threads of their own that have read these feeds into a store, beside a keeper: each block is read by one of
 /// them, and each row is an update there, or, only where the mode asks for merges, a merge.
-fn worked<
+fn run_workers<
     S: Source + Drop + Send,
     B: Origin + Send + Sync,
     F: Mergeable + OrderFree<Key = Name, Input = i64> + Send + Sync,
@@ -265,15 +265,15 @@ where
         Ok(shares) => shares,
         Err(refused) => return Err(refused),
     };
-    let works = match works(rt, alloc, store, gate, mode, shares) {
-        Ok(works) => works,
+    let jobs = match jobs(rt, alloc, store, gate, mode, shares) {
+        Ok(jobs) => jobs,
         Err(refused) => return Err(refused),
     };
     let keeper = match keeper_of(alloc, store, gate, page_bits) {
         Ok(keeper) => keeper,
         Err(refused) => return Err(refused),
     };
-    match run_jobs(rt, alloc, &keeper, works) {
+    match run_jobs(rt, alloc, &keeper, jobs) {
         Ok(ran) => joined(alloc, shared, ran, feeds),
         Err(refused) => Err(refused),
     }
@@ -330,7 +330,7 @@ where
         Err(refused) => return Err(refused),
     };
     let bits = config.page_bits;
-    let passes = match worked::<S, Brand, F, D, H, G, T>(
+    let passes = match run_workers::<S, Brand, F, D, H, G, T>(
         rt, alloc, feeds, workers, &store, bits, gate, mode,
     ) {
         Ok(passes) => passes,
@@ -372,7 +372,7 @@ pub fn run_blocks<
     device: D,
     gate: &G,
     mode: RowMode,
-) -> Result<Run<F::Value>, Refused>
+) -> Result<TableRun<F::Value>, Refused>
 where
     F::Value: Send,
     F::Output: Send,

@@ -42,7 +42,7 @@ fn list_one<F: Mergeable<Key = Name>, D: Disk>(
         D.Reader.can_fail D.Reader.failures part.partition part.reader why) }
     ensures only { IfErr result IsUnlisted }
 {
-    part.partition.known();
+    part.partition.facts();
     let number = part.partition.number();
     let count = part.partition.count();
     let map = match part.list(alloc, functions) {

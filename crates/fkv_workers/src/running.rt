@@ -7,16 +7,16 @@ ghost use Rattle.fkv_feeds.specs.Tables.{IsTableOf};
 ghost use Rattle.fkv_functions.specs.declared.refusals.Refused.TheVariants as refused;
 ghost use Rattle.fkv_workers.specs.Works.{HaveRead, IsFedBy, IsFirst, IsFirstFault, IsMadeBy, IsRunnable, IsUnmade, IsUnworked};
 
-use crate::dealing::{passes_of, works};
-use crate::deals::deal;
+use crate::feed_shares::share_out;
 use crate::keeping::keeper_of;
 use crate::tabling::tabled;
-use crate::working::Worked;
+use crate::worker_jobs::{jobs, passes_of};
+use crate::working::WorkerResult;
 use fkv_device::Disk;
-use fkv_feeds::{RowMode, Run};
+use fkv_feeds::{RowMode, TableRun};
 use fkv_functions::{Fixed, Mergeable, Name, OrderFree, Refused};
 use fkv_histories::Recorder;
-use fkv_jobs::{Ran, run_jobs};
+use fkv_jobs::{JobResults, run_jobs};
 use fkv_partition::Config;
 use fkv_store::{Gate, Pass, Store};
 use fkv_streams::Source;
@@ -44,7 +44,7 @@ pub(crate) fn is_runnable<V: Fixed>(config: &Config, workers: usize, feeds: usiz
 /// first, then the keeper's.
 fn ended<F: Mergeable, D: Disk, H: Recorder<F>, R: Drop>(
     alloc: Global,
-    ran: Ran<Worked<F, D, H, R>>,
+    ran: JobResults<WorkerResult<F, D, H, R>>,
 ) -> Result<Vec<Pass<F, D, H>>, Refused>
     ensures ok { IfOk result (λ passes. passes.items ≡ map (λ w. w.pass) ran.results.items) }
     ensures none { OnOk result (All (λ fault. fault ≡ None) (map (λ w. w.fault) ran.results.items)) }
@@ -52,7 +52,7 @@ fn ended<F: Mergeable, D: Disk, H: Recorder<F>, R: Drop>(
     ensures refused { IfErr result (λ e. (e ≡ refused.NoMemory) ⊎ IsFirstFault (map (λ w. w.fault) ran.results.items) e
         ⊎ ((ran.kept ≡ Err e) × All (λ fault. fault ≡ None) (map (λ w. w.fault) ran.results.items))) }
 {
-    let Ran { results, kept } = ran;
+    let JobResults { results, kept } = ran;
     let passes = match passes_of(alloc, results) {
         Ok(passes) => passes,
         Err(refused) => return Err(refused),
@@ -65,14 +65,14 @@ fn ended<F: Mergeable, D: Disk, H: Recorder<F>, R: Drop>(
 
 /// The passes of workers that have read all feeds, and by which mode their rows were made.
 #[derive(Drop)]
-struct Fed<F: Mergeable, D: Disk, H: Recorder<F>> {
+struct FinishedPasses<F: Mergeable, D: Disk, H: Recorder<F>> {
     passes: Vec<Pass<F, D, H>>,
     mode: RowMode,
 }
 
 /// The passes of workers in threads of their own that have read all feeds into a store, beside a keeper: each row is an update
 /// there, or, only where the mode asks for merges, a merge.
-fn worked<
+fn run_workers<
     S: Source + Drop + Send,
     F: Mergeable + OrderFree<Key = Name, Input = i64> + Send + Sync,
     D: Disk + Send,
@@ -88,7 +88,7 @@ fn worked<
     page_bits: u64,
     gate: &G,
     mode: RowMode,
-) -> Result<Fed<F, D, H>, Refused>
+) -> Result<FinishedPasses<F, D, H>, Refused>
 where
     F::Value: Send,
     F::Output: Send,
@@ -105,24 +105,24 @@ where
     ensures refused { IfErr result (IsUnworked S.remaining S.failures workers feeds.items) }
     ensures first { IfErr result (IsFirst S.remaining S.failures workers feeds.items) }
 {
-    let hands = match deal(alloc, feeds, workers) {
+    let hands = match share_out(alloc, feeds, workers) {
         Ok(hands) => hands,
         Err(refused) => return Err(refused),
     };
-    let works = match works(rt, alloc, store, gate, mode, hands) {
-        Ok(works) => works,
+    let jobs = match jobs(rt, alloc, store, gate, mode, hands) {
+        Ok(jobs) => jobs,
         Err(refused) => return Err(refused),
     };
     let keeper = match keeper_of(alloc, store, gate, page_bits) {
         Ok(keeper) => keeper,
         Err(refused) => return Err(refused),
     };
-    let ran = match run_jobs(rt, alloc, &keeper, works) {
+    let ran = match run_jobs(rt, alloc, &keeper, jobs) {
         Ok(ran) => ran,
         Err(refused) => return Err(refused),
     };
     match ended(alloc, ran) {
-        Ok(passes) => Ok(Fed { passes, mode }),
+        Ok(passes) => Ok(FinishedPasses { passes, mode }),
         Err(refused) => Err(refused),
     }
 }
@@ -155,7 +155,7 @@ pub fn run_feeds<
     config: &Config,
     device: D,
     gate: &G,
-) -> Result<Run<F::Value>, Refused>
+) -> Result<TableRun<F::Value>, Refused>
 where
     F::Value: Send,
     F::Output: Send,
@@ -209,7 +209,7 @@ pub fn run_feeds_by<
     device: D,
     gate: &G,
     mode: RowMode,
-) -> Result<Run<F::Value>, Refused>
+) -> Result<TableRun<F::Value>, Refused>
 where
     F::Value: Send,
     F::Output: Send,
@@ -235,10 +235,10 @@ where
         Err(refused) => return Err(refused),
     };
     let bits = config.page_bits;
-    let fed = match worked(rt, alloc, feeds, workers, &store, bits, gate, mode) {
+    let fed = match run_workers(rt, alloc, feeds, workers, &store, bits, gate, mode) {
         Ok(fed) => fed,
         Err(refused) => return Err(refused),
     };
-    let Fed { passes, mode } = fed;
+    let FinishedPasses { passes, mode } = fed;
     tabled(rt, alloc, store, passes, config, mode, workers)
 }

@@ -7,7 +7,7 @@ ghost use Rattle.fkv_blocks.specs.Shares.{AreRowsIn, IsStop, WereRead};
 ghost use Rattle.fkv_feeds.specs.Tables.{AreFeeds, most_rows};
 ghost use Rattle.fkv_workers.specs.Works.{IsUnreadOf};
 
-use crate::deals::FeedShare;
+use crate::feed_shares::FeedShare;
 use fkv_blocks::{BlockSink, Feeds, Origin, Stop, Ticket};
 use fkv_feed_rows::{RowSink, read_feed};
 use fkv_feeds::LIMIT;

@@ -52,7 +52,7 @@ fn spill_one<F: Mergeable<Key = Name>, D: Disk>(
     ensures refused { IfErr result (IsUnspilled D.Receipt.keeps D.Receipt.stands D.Reader.can_fail D.Reader.failures
         D.Writer.failures part.partition part.reader) }
 {
-    part.partition.known();
+    part.partition.facts();
     let number = part.partition.number();
     let count = part.partition.count();
     let listed = match part.list_apart(alloc, functions) {

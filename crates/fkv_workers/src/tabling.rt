@@ -20,12 +20,12 @@ use crate::laws::tables_join;
 use crate::listing::table_of;
 use crate::spilling::spill_parts;
 use fkv_device::Disk;
-use fkv_feeds::{Counts, Plan, RowMode, Run, SpilledRun};
+use fkv_feeds::{Plan, RowMode, RunCounts, SpilledRun, TableRun};
 use fkv_functions::{Mergeable, Name, OrderFree, Refused};
 use fkv_histories::Recorder;
 use fkv_partition::Config;
 use fkv_spills::SpilledTable;
-use fkv_store::{Ended, Pass, Store};
+use fkv_store::{ClosedStore, Pass, Store};
 use std::alloc::Global;
 use std::rt::Clock;
 use std::sync::Wait;
@@ -46,7 +46,7 @@ pub(crate) fn tabled<
     config: &Config,
     mode: RowMode,
     workers: usize,
-) -> Result<Run<F::Value>, Refused>
+) -> Result<TableRun<F::Value>, Refused>
 where
     F::Value: Send,
     F::Output: Send,
@@ -71,7 +71,7 @@ where
         Ok(ended) => ended,
         Err(refused) => return Err(refused),
     };
-    let Ended {
+    let ClosedStore {
         functions,
         partitions,
         finished,
@@ -82,9 +82,9 @@ where
         Ok(table) => table,
         Err(refused) => return Err(refused),
     };
-    Ok(Run {
+    Ok(TableRun {
         table,
-        counts: Counts {
+        counts: RunCounts {
             rows: finished,
             appended: None,
         },
@@ -141,7 +141,7 @@ where
         Ok(ended) => ended,
         Err(refused) => return Err(refused),
     };
-    let Ended {
+    let ClosedStore {
         functions,
         partitions,
         finished,
@@ -156,7 +156,7 @@ where
     Ok(SpilledRun {
         pairs,
         keys,
-        counts: Counts {
+        counts: RunCounts {
             rows: finished,
             appended: None,
         },

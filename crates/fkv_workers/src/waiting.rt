@@ -10,10 +10,10 @@ use std::alloc::Global;
 const TOGETHER: usize = 64;
 
 /// For each partition the rows with keys there that wait, in order.
-pub(crate) type Waiting = Vec<Vec<(Name, i64)>>;
+pub(crate) type WaitingRows = Vec<Vec<(Name, i64)>>;
 
 /// No rows, for each of so many partitions. Refused: `NoMemory`.
-pub(crate) fn none_wait(alloc: Global, count: usize) -> Result<Waiting, Refused>
+pub(crate) fn none_wait(alloc: Global, count: usize) -> Result<WaitingRows, Refused>
     ensures ok { IfOk result (λ waiting. map (λ rows. rows.items) waiting.items ≡ replicate count []) }
     ensures only { IfErr result (λ e. e ≡ refused.NoMemory) }
 {
@@ -32,7 +32,7 @@ pub(crate) fn none_wait(alloc: Global, count: usize) -> Result<Waiting, Refused>
 /// Has one row more wait, behind the others of its partition. `Ok` tells whether they are enough to be made updates. Refused:
 /// `NoMemory`.
 pub(crate) fn put(
-    waiting: &mut Waiting,
+    waiting: &mut WaitingRows,
     partition: usize,
     key: &Name,
     amount: i64,
@@ -51,7 +51,7 @@ pub(crate) fn put(
 }
 
 /// The rows of a partition that wait.
-pub(crate) fn rows_of(waiting: &Waiting, partition: usize) -> &[(Name, i64)]
+pub(crate) fn rows_of(waiting: &WaitingRows, partition: usize) -> &[(Name, i64)]
     requires { partition < vec_len waiting.now }
     ensures { result.now ≡ slice_index_or (map (λ rows. rows.items) waiting.now.items) partition [] }
 {
@@ -59,7 +59,7 @@ pub(crate) fn rows_of(waiting: &Waiting, partition: usize) -> &[(Name, i64)]
 }
 
 /// Has no row of a partition wait any more.
-pub(crate) fn clear(waiting: &mut Waiting, partition: usize)
+pub(crate) fn clear(waiting: &mut WaitingRows, partition: usize)
     requires { partition < vec_len waiting.old }
     ensures { map (λ rows. rows.items) waiting.new.items
         ≡ slice_set (map (λ rows. rows.items) waiting.old.items) partition [] }

@@ -3,12 +3,12 @@ ghost use Rattle.std.specs.Prelude.{◌≡◌, ◌<◌, ◌⊎◌, ◌++◌, ◌
 ghost use Rattle.std.specs.Int.{w64};
 ghost use Rattle.std.specs.List.{All};
 ghost use Rattle.fkv_functions.specs.declared.names.Name.{Name};
-ghost use Rattle.fkv_feeds.specs.declared.modes.RowMode.{RowMode};
+ghost use Rattle.fkv_feeds.specs.declared.counting.RowMode.{RowMode};
 ghost use Rattle.fkv_store.specs.Stores.{IsTold};
 ghost use Rattle.fkv_workers.specs.Works.{StandsFor, AreSplit, HasDone, loads_of};
 
 use crate::sharing::{Reading, Share};
-use crate::waiting::{Waiting, clear, put, rows_of};
+use crate::waiting::{WaitingRows, clear, put, rows_of};
 use fkv_blocks::BlockSink;
 use fkv_device::Disk;
 use fkv_feed_rows::RowSink;
@@ -42,7 +42,7 @@ struct Rows<'a, W, F: Mergeable, D: Disk, H: Recorder<F>, G, M> {
     gate: &'a G,
     mode: RowMode,
     pass: Pass<F, D, H>,
-    waiting: Waiting,
+    waiting: WaitingRows,
     /// Whether the pass refused a row: then none is made after it.
     stopped: bool,
     by: PhantomData<M>,
@@ -202,20 +202,20 @@ impl<
 
 /// What one worker is to do.
 #[derive(Drop)]
-pub(crate) struct Work<'a, C: Share, F: Mergeable, D: Disk, H: Recorder<F>, G> {
+pub(crate) struct WorkerJob<'a, C: Share, F: Mergeable, D: Disk, H: Recorder<F>, G> {
     pub alloc: Global,
     pub store: &'a Store<F, D, H>,
     pub gate: &'a G,
     pub mode: RowMode,
     pub pass: Pass<F, D, H>,
     /// No rows, of each partition.
-    pub waiting: Waiting,
+    pub waiting: WaitingRows,
     pub share: C,
 }
 
 /// What a worker hands back: its pass, which rests, what tells of what it read, and why it stopped, if it did before its share ended.
 #[derive(Drop)]
-pub(crate) struct Worked<F: Mergeable, D: Disk, H: Recorder<F>, R> {
+pub(crate) struct WorkerResult<F: Mergeable, D: Disk, H: Recorder<F>, R> {
     pub pass: Pass<F, D, H>,
     pub had: R,
     pub fault: Option<Refused>,
@@ -269,7 +269,7 @@ fn read_by<
     H: Recorder<F>,
     G: Gate,
     M: ByMode,
->(rt: &W, asked: Work<'_, C, F, D, H, G>) -> Worked<F, D, H, C::Had>
+>(rt: &W, asked: WorkerJob<'_, C, F, D, H, G>) -> WorkerResult<F, D, H, C::Had>
     requires none { StandsFor H.keeps F.code M.mode asked.pass [] }
     requires long { length asked.pass.told ≡ asked.store.now.count }
     requires mode { asked.mode ≡ M.mode }
@@ -279,7 +279,7 @@ fn read_by<
     ensures stopped { IfSome result.fault (λ why. IsTold why ⊎ C.fails asked.entry.share result.had why) }
     ensures told { C.tells asked.entry.share result.had }
 {
-    let Work {
+    let WorkerJob {
         alloc,
         store,
         gate,
@@ -301,7 +301,7 @@ fn read_by<
     };
     let Reading { had, fault } = work_through(alloc, share, &mut rows);
     let Rows { pass, .. } = rows;
-    Worked { pass, had, fault }
+    WorkerResult { pass, had, fault }
 }
 
 /// Has a worker's pass rest at its end, so that no other worker waits for it. The worker's fault stays, if it has one: that the pass
@@ -309,23 +309,23 @@ fn read_by<
 fn rest_after<F: Mergeable, D: Disk, H: Recorder<F>, R: Drop>(
     rt: &impl Wait,
     store: &Store<F, D, H>,
-    worked: Worked<F, D, H, R>,
-) -> Worked<F, D, H, R>
-    ensures same { result.pass ≡ worked.pass }
-    ensures had { result.had ≡ worked.had }
-    ensures first { IfSome worked.fault (λ why. result.fault ≡ Some why) }
-    ensures told { worked.fault ≡ None → IfSome result.fault IsTold }
+    so_far: WorkerResult<F, D, H, R>,
+) -> WorkerResult<F, D, H, R>
+    ensures same { result.pass ≡ so_far.pass }
+    ensures had { result.had ≡ so_far.had }
+    ensures first { IfSome so_far.fault (λ why. result.fault ≡ Some why) }
+    ensures told { so_far.fault ≡ None → IfSome result.fault IsTold }
 {
-    let Worked { pass, had, fault } = worked;
+    let WorkerResult { pass, had, fault } = so_far;
     let mut pass = pass;
     let rested = pass.rest(rt, store);
     match (fault, rested) {
-        (None, Err(refused)) => Worked {
+        (None, Err(refused)) => WorkerResult {
             pass,
             had,
             fault: Some(refused),
         },
-        (fault, _) => Worked { pass, had, fault },
+        (fault, _) => WorkerResult { pass, had, fault },
     }
 }
 
@@ -337,7 +337,7 @@ fn run_work<
     D: Disk,
     H: Recorder<F>,
     G: Gate,
->(rt: &W, asked: Work<'_, C, F, D, H, G>) -> Worked<F, D, H, C::Had>
+>(rt: &W, asked: WorkerJob<'_, C, F, D, H, G>) -> WorkerResult<F, D, H, C::Had>
     requires none { StandsFor H.keeps F.code asked.mode asked.pass [] }
     requires long { length asked.pass.told ≡ asked.store.now.count }
     requires waiting { map (λ rows. rows.items) asked.waiting.items ≡ replicate asked.store.now.count [] }
@@ -347,13 +347,13 @@ fn run_work<
     ensures told { C.tells asked.entry.share result.had }
 {
     let store = asked.store;
-    let worked = read_by::<W, C, F, D, H, G, Brand>(rt, asked);
-    rest_after(rt, store, worked)
+    let so_far = read_by::<W, C, F, D, H, G, Brand>(rt, asked);
+    rest_after(rt, store, so_far)
 }
 
 impl<'a, C: Share, F: Mergeable<Key = Name, Input = i64>, D: Disk, H: Recorder<F>, G: Gate> Job
-    for Work<'a, C, F, D, H, G> {
-    type Output = Worked<F, D, H, C::Had>;
+    for WorkerJob<'a, C, F, D, H, G> {
+    type Output = WorkerResult<F, D, H, C::Had>;
 
     ghost ready = { λ j. StandsFor H.keeps F.code j.mode j.pass [] × (length j.pass.told ≡ j.store.now.count)
         × (map (λ rows. rows.items) j.waiting.items ≡ replicate j.store.now.count []) };
@@ -362,7 +362,7 @@ impl<'a, C: Share, F: Mergeable<Key = Name, Input = i64>, D: Disk, H: Recorder<F
         × IfSome w.fault (λ why. IsTold why ⊎ C.fails j.share w.had why)
         × C.tells j.share w.had };
 
-    fn run<W: Wait + Clock>(self, rt: &W) -> Worked<F, D, H, C::Had> {
+    fn run<W: Wait + Clock>(self, rt: &W) -> WorkerResult<F, D, H, C::Had> {
         run_work(rt, self)
     }
 }

@@ -20,7 +20,7 @@ impl<K: Fixed, V: Fixed, R: Receipt> Log<K, V, R> {
         if !self.is_truncation_due(page) {
             return Err(Refused::NotDue);
         }
-        self.regions.known();
+        self.regions.facts();
         let start = self.shape.start(page);
         let more = self.shape.page_of(start) - self.shape.page_of(self.begin);
         let_go(&mut self.receipts, more as usize);
@@ -32,7 +32,7 @@ impl<K: Fixed, V: Fixed, R: Receipt> Log<K, V, R> {
     fn is_truncation_due(&self, page: u64) -> bool
         ensures { IsTrue result ↔ IsTruncationDue self.now page }
     {
-        self.known();
+        self.facts();
         if page > self.unflushed() {
             return false;
         }

@@ -34,7 +34,7 @@ impl<F: Mergeable, R: Receipt> Records<F, R> {
         ensures caused { IsTrue R.keeps → IfErr result (λ e. e ≢ Refused.NoMemory → (page : ℕ)
             × MayFail R.stands P.can_fail self.now.log.receipts self.now.log.bits page) }
     {
-        self.log.known();
+        self.log.facts();
         let mut scan = self.log.scan();
         while scan.address() < self.log.tail() {
             let entry = match self.log.step(reader, &mut scan) {

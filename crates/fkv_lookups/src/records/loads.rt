@@ -10,7 +10,7 @@ ghost use Rattle.fkv_hybrid.specs.Views.{receipt_at};
 ghost use Rattle.fkv_lookups.specs.declared.chain_results.ChainResult.{ChainResult};
 ghost use Rattle.fkv_lookups.specs.Lookups.{IsOfClass, ComesToInPage, ComesTo};
 
-use crate::chain_results::{ChainResult, delta_at, onto};
+use crate::chain_results::{ChainResult, combined, delta_at};
 use crate::records::Records;
 use fkv_device::{Loaded, Receipt};
 use fkv_functions::{Mergeable, Refused};
@@ -105,7 +105,7 @@ impl<F: Mergeable, R: Receipt> Records<F, R> {
             Err(refused) => return Err(refused),
         };
         while let Some(last) = delta_at(&position) {
-            parts = onto(functions, last.value, parts);
+            parts = combined(functions, last.value, parts);
             position = match self
                 .log
                 .own_first_in_page(loaded, key, last.previous, page, low)

@@ -21,7 +21,7 @@ impl<F: Mergeable, R: Receipt> Records<F, R> {
         ensures value { result ≡ is_entered self.now.log.regions.epochs slot }
         ensures within { IsTrue result → slot < 16 }
     {
-        self.log.known();
+        self.log.facts();
         self.log.regions().is_entered(slot)
     }
 
@@ -43,7 +43,7 @@ impl<F: Mergeable, R: Receipt> Records<F, R> {
         ensures unchanged { OnErr result (self.new ≡ self.old) }
     {
         let slot = self.log.enter();
-        self.log.known();
+        self.log.facts();
         slot
     }
 
@@ -56,7 +56,7 @@ impl<F: Mergeable, R: Receipt> Records<F, R> {
         ensures refused { IfErr result (λ why. (why ≡ Refused.Unknown) × (self.new ≡ self.old)) }
     {
         let moved = self.log.refresh(slot);
-        self.log.known();
+        self.log.facts();
         moved
     }
 
@@ -69,7 +69,7 @@ impl<F: Mergeable, R: Receipt> Records<F, R> {
         ensures refused { IfErr result (λ why. (why ≡ Refused.Unknown) × (self.new ≡ self.old)) }
     {
         let moved = self.log.leave(slot);
-        self.log.known();
+        self.log.facts();
         moved
     }
 
@@ -90,7 +90,7 @@ impl<F: Mergeable, R: Receipt> Records<F, R> {
         ensures unchanged { OnErr result (self.new ≡ self.old) }
     {
         let moved = self.log.shift_read_only(page);
-        self.log.known();
+        self.log.facts();
         moved
     }
 
@@ -110,7 +110,7 @@ impl<F: Mergeable, R: Receipt> Records<F, R> {
         ensures unchanged { OnErr result (self.new ≡ self.old) }
     {
         let moved = self.log.shift_head(page);
-        self.log.known();
+        self.log.facts();
         moved
     }
 

@@ -12,4 +12,4 @@ pub use fkv_scripts::{FunctionsName, LIMIT, Line, Opening, Script, one_reading, 
 pub use fkv_streams::{CountedReader, CountedWriter, Sink, Source, write_out};
 pub use printing::text_of;
 pub use running::run_script;
-pub use written::Written;
+pub use written::FromAmount;

@@ -15,7 +15,7 @@ ghost use Rattle.fkv_steps.specs.Bytes.{standing_of, IsNamedEntry};
 ghost use Rattle.fkv_steps.specs.Running.{context_in, is_page, op_of, record_size, FollowsIssue, RunsLine, RunLines, IsPrintedBy, Prints, IsOutputOf, HasBadConfig};
 
 use crate::scripts::printing::text_of;
-use crate::scripts::written::Written;
+use crate::scripts::written::FromAmount;
 use fkv_functions::{CappedSumFns, CountFns, MaxFns, Mergeable, Name, Refused, SumFns};
 use fkv_lives::{Access, ContextId, Outcome, OutcomeOf, Printed, Step};
 use fkv_operations::{KeyedOp, Op};
@@ -27,7 +27,7 @@ use fkv_worlds::worlds::World;
 use std::alloc::Global;
 
 /// The operation of a line, on values.
-fn on_values<V: Written>(op: KeyedOp<Name, i64, i64>) -> Op<Name, V, i64>
+fn on_values<V: FromAmount>(op: KeyedOp<Name, i64, i64>) -> Op<Name, V, i64>
     ensures { result ≡ op_of V.written op }
 {
     match op {
@@ -47,9 +47,9 @@ fn run_line<F: Mergeable<Key = Name, Input = i64>>(
     line: &Line,
 ) -> Option<Result<OutcomeOf<F>, Refused>>
 where
-    F::Value: Written,
+    F::Value: FromAmount,
     ensures { IfSome result (λ told. RunsLine standing_of (IsNamedEntry F.Value.codec)
-        name_cmp F.parts.joined F.meaning F.code F.Value.Written.written world.old world.new told line.now) }
+        name_cmp F.parts.joined F.meaning F.code F.Value.FromAmount.written world.old world.new told line.now) }
 {
     let step = match *line {
         Line::Enter { partition } => Step::Enter(partition as usize),
@@ -113,9 +113,9 @@ fn do_operation<F: Mergeable<Key = Name, Input = i64>>(
     op: KeyedOp<Name, i64, i64>,
 ) -> Option<Result<OutcomeOf<F>, Refused>>
 where
-    F::Value: Written,
+    F::Value: FromAmount,
     ensures { IfSome result (λ told. RunsLine standing_of (IsNamedEntry F.Value.codec)
-        name_cmp F.parts.joined F.meaning F.code F.Value.Written.written world.old world.new told (Line.Do partition slot op)) }
+        name_cmp F.parts.joined F.meaning F.code F.Value.FromAmount.written world.old world.new told (Line.Do partition slot op)) }
 {
     let Some(issued) = world.try_step(functions, Step::Issue(partition, slot, on_values(op))) else {
         return None;
@@ -131,9 +131,9 @@ fn compact<F: Mergeable<Key = Name, Input = i64>>(
     slot: usize,
 ) -> Option<Result<OutcomeOf<F>, Refused>>
 where
-    F::Value: Written,
+    F::Value: FromAmount,
     ensures { IfSome result (λ told. RunsLine standing_of (IsNamedEntry F.Value.codec)
-        name_cmp F.parts.joined F.meaning F.code F.Value.Written.written
+        name_cmp F.parts.joined F.meaning F.code F.Value.FromAmount.written
         world.old world.new told (Line.Compact partition slot)) }
 {
     let Some(issued) = world.try_step(functions, Step::Issue(partition, slot, Op::Relocate)) else {
@@ -175,9 +175,9 @@ fn flush<F: Mergeable<Key = Name, Input = i64>>(
     access: Access,
 ) -> Option<Result<OutcomeOf<F>, Refused>>
 where
-    F::Value: Written,
+    F::Value: FromAmount,
     ensures { IfSome result (λ told. RunsLine standing_of (IsNamedEntry F.Value.codec)
-        name_cmp F.parts.joined F.meaning F.code F.Value.Written.written
+        name_cmp F.parts.joined F.meaning F.code F.Value.FromAmount.written
         world.old world.new told (Line.Flush partition access)) }
 {
     let Some(taken) = world.try_step(functions, Step::Take(partition)) else {
@@ -197,9 +197,9 @@ fn run_lines<F: Mergeable<Key = Name, Input = i64>>(
     lines: &[Line],
 ) -> Result<Vec<Result<OutcomeOf<F>, Refused>>, Refused>
 where
-    F::Value: Written,
+    F::Value: FromAmount,
     ensures ok { IfOk result (λ told. RunLines standing_of (IsNamedEntry F.Value.codec)
-        name_cmp F.parts.joined F.meaning F.code F.Value.Written.written world.old lines.now told.items world.new) }
+        name_cmp F.parts.joined F.meaning F.code F.Value.FromAmount.written world.old lines.now told.items world.new) }
     ensures only { IfErr result (λ refused. refused ≡ Refused.NoMemory) }
 {
     let mut told = Vec::new(alloc);
@@ -223,11 +223,11 @@ fn printed_by<F: Mergeable<Key = Name, Input = i64>>(
     lines: &[Line],
 ) -> Result<Vec<u8>, Refused>
 where
-    F::Value: Written + Printed,
+    F::Value: FromAmount + Printed,
     F::Output: Printed,
     ensures ok { IfOk result (λ text. IsPrintedBy standing_of
         (IsNamedEntry F.Value.codec) name_cmp F.parts.joined F.meaning F.code
-        F.Value.Written.written
+        F.Value.FromAmount.written
         F.Value.text F.Output.text F.MERGES config.now (size_of 32 F.Value.SIZE) lines.now text.items) }
     ensures good { result ≢ Err Refused.BadConfig → IsWithinLimits config.now (size_of 32 F.Value.SIZE) }
     ensures bad { result ≡ Err Refused.BadConfig → ¬ IsWithinLimits config.now (size_of 32 F.Value.SIZE) }
@@ -247,13 +247,13 @@ fn printed_in<F: Mergeable<Key = Name, Input = i64>>(
     lines: &[Line],
 ) -> Result<Vec<u8>, Refused>
 where
-    F::Value: Written + Printed,
+    F::Value: FromAmount + Printed,
     F::Output: Printed,
     // Of whatever configuration the world is, with nothing in it.
     ensures ok { IfOk result (λ text. (config : Config) (size : ℕ) → world.old ≡ empty_world F.MERGES config size
         → IsPrintedBy standing_of (IsNamedEntry F.Value.codec) name_cmp
         F.parts.joined F.meaning
-        F.code F.Value.Written.written F.Value.text F.Output.text F.MERGES config size lines.now text.items) }
+        F.code F.Value.FromAmount.written F.Value.text F.Output.text F.MERGES config size lines.now text.items) }
     ensures only { IfErr result (λ refused. refused ≡ Refused.NoMemory) }
 {
     let told = match run_lines(alloc, world, functions, lines) {

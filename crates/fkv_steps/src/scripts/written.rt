@@ -3,7 +3,7 @@ ghost use Rattle.std.specs.Prelude.{◌≡◌, ℤ};
 ghost use Rattle.fkv_steps.specs.Running.{count_of};
 
 /// A value that an amount writes.
-pub trait Written: Sized {
+pub trait FromAmount: Sized {
     /// The value that an amount writes.
     ghost written: { ℤ → Self };
 
@@ -13,7 +13,7 @@ pub trait Written: Sized {
 }
 
 /// A count: the amount, or 0 where it is below 0, which no script writes into a store of counts.
-impl Written for u64 {
+impl FromAmount for u64 {
     ghost written = { count_of };
 
     fn from_amount(amount: i64) -> u64 {
@@ -22,7 +22,7 @@ impl Written for u64 {
 }
 
 /// The amount itself.
-impl Written for i64 {
+impl FromAmount for i64 {
     ghost written = { λ n. n };
 
     fn from_amount(amount: i64) -> i64 {
@@ -31,7 +31,7 @@ impl Written for i64 {
 }
 
 /// The amount itself.
-impl Written for i128 {
+impl FromAmount for i128 {
     ghost written = { λ n. n };
 
     fn from_amount(amount: i64) -> i128 {

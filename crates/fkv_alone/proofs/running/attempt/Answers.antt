@@ -37,7 +37,7 @@ returns-in-Ok-drive-clause-ends g c =
     let w = c.issue.new.self in
     let k = c.in-Ok-issue.context in
     let issued = issue-told g.F.Functions.code v w c.args.slot k c.in-Ok.now c.args.op (issued-on-key g.F.Functions.code v w c.args.slot c.in-Ok.now c.args.op c.op.result (Ok k) c.op.ensures c.in-Ok-issue.ensures.effect) in
-    let begun = issue-begun g.F.Functions.code v w c.args.slot k c.in-Ok.now c.args.op issued c.known.ensures.sound.places c.in-Ok-issue.ensures.within.0 in
+    let begun = issue-begun g.F.Functions.code v w c.args.slot k c.in-Ok.now c.args.op issued c.facts.ensures.sound.places c.in-Ok-issue.ensures.within.0 in
     let drives = c.in-Ok-drive.ensures.drives c.args.op v c.in-Ok.now begun.ready in
     driven-ends g.R.Receipt.keeps g.R.Receipt.stands g.F.Key.Ord.cmp g.F.Mergeable.parts.joined g.F.Functions.meaning g.F.Functions.code c.args.op v c.drive.new.partition c.args.slot k c.args.limit c.args.clock.now c.in-Ok.now c.drive.new.clock (g.P.PageReader.failures c.args.reader.now) (g.P.PageReader.failures c.drive.new.reader) issued.opens first.0 first.2 c.in-Ok-drive.progress (rw first.1 at drives)
 
@@ -48,7 +48,7 @@ returns-in-Err-drive-clause-ends g c =
     let w = c.issue.new.self in
     let k = c.in-Ok-issue.context in
     let issued = issue-told g.F.Functions.code v w c.args.slot k c.in-Ok.now c.args.op (issued-on-key g.F.Functions.code v w c.args.slot c.in-Ok.now c.args.op c.op.result (Ok k) c.op.ensures c.in-Ok-issue.ensures.effect) in
-    let begun = issue-begun g.F.Functions.code v w c.args.slot k c.in-Ok.now c.args.op issued c.known.ensures.sound.places c.in-Ok-issue.ensures.within.0 in
+    let begun = issue-begun g.F.Functions.code v w c.args.slot k c.in-Ok.now c.args.op issued c.facts.ensures.sound.places c.in-Ok-issue.ensures.within.0 in
     let drives = c.in-Err-drive.ensures.drives c.args.op v c.in-Ok.now begun.ready in
     let given = c.give_up_untimed-given_up.new.self in
     driven-over g.R.Receipt.keeps g.R.Receipt.stands g.F.Key.Ord.cmp g.F.Mergeable.parts.joined g.F.Functions.meaning g.F.Functions.code c.args.op v c.drive.new.partition c.args.slot k c.args.limit c.args.clock.now c.in-Ok.now c.drive.new.clock (g.P.PageReader.failures c.args.reader.now) (g.P.PageReader.failures c.drive.new.reader) issued.opens first.0 first.2 given c.in-Err-drive.refused (rw first.1 at drives)
@@ -61,7 +61,7 @@ returns-in-Ok-drive-clause-bound g c = λ kept clear.
     let w = c.issue.new.self in
     let k = c.in-Ok-issue.context in
     let issued = issue-told g.F.Functions.code v w c.args.slot k c.in-Ok.now c.args.op (issued-on-key g.F.Functions.code v w c.args.slot c.in-Ok.now c.args.op c.op.result (Ok k) c.op.ensures c.in-Ok-issue.ensures.effect) in
-    let begun = issue-begun g.F.Functions.code v w c.args.slot k c.in-Ok.now c.args.op issued c.known.ensures.sound.places c.in-Ok-issue.ensures.within.0 in
+    let begun = issue-begun g.F.Functions.code v w c.args.slot k c.in-Ok.now c.args.op issued c.facts.ensures.sound.places c.in-Ok-issue.ensures.within.0 in
     let hashed : c.hash-hash.result ≡ g.F.Functions.code (key_of c.args.op) = c.hash-hash.ensures ∙ ap g.F.Functions.code c.key.ensures in
     let fits = c.hash-hash.type_inv in
     let range : g.F.Functions.code (key_of c.args.op) < 2 ^ 64 = subst (λ h. h < 2 ^ 64) hashed fits in
@@ -78,7 +78,7 @@ returns-in-Err-drive-clause-bound g c = λ kept clear.
     let w = c.issue.new.self in
     let k = c.in-Ok-issue.context in
     let issued = issue-told g.F.Functions.code v w c.args.slot k c.in-Ok.now c.args.op (issued-on-key g.F.Functions.code v w c.args.slot c.in-Ok.now c.args.op c.op.result (Ok k) c.op.ensures c.in-Ok-issue.ensures.effect) in
-    let begun = issue-begun g.F.Functions.code v w c.args.slot k c.in-Ok.now c.args.op issued c.known.ensures.sound.places c.in-Ok-issue.ensures.within.0 in
+    let begun = issue-begun g.F.Functions.code v w c.args.slot k c.in-Ok.now c.args.op issued c.facts.ensures.sound.places c.in-Ok-issue.ensures.within.0 in
     let hashed : c.hash-hash.result ≡ g.F.Functions.code (key_of c.args.op) = c.hash-hash.ensures ∙ ap g.F.Functions.code c.key.ensures in
     let fits = c.hash-hash.type_inv in
     let range : g.F.Functions.code (key_of c.args.op) < 2 ^ 64 = subst (λ h. h < 2 ^ 64) hashed fits in
@@ -110,7 +110,7 @@ returns-in-Err-drive-clause-enough g c = λ kept clear low e.
     let w = c.issue.new.self in
     let k = c.in-Ok-issue.context in
     let issued = issue-told g.F.Functions.code v w c.args.slot k c.in-Ok.now c.args.op (issued-on-key g.F.Functions.code v w c.args.slot c.in-Ok.now c.args.op c.op.result (Ok k) c.op.ensures c.in-Ok-issue.ensures.effect) in
-    let begun = issue-begun g.F.Functions.code v w c.args.slot k c.in-Ok.now c.args.op issued c.known.ensures.sound.places c.in-Ok-issue.ensures.within.0 in
+    let begun = issue-begun g.F.Functions.code v w c.args.slot k c.in-Ok.now c.args.op issued c.facts.ensures.sound.places c.in-Ok-issue.ensures.within.0 in
     let hashed : c.hash-hash.result ≡ g.F.Functions.code (key_of c.args.op) = c.hash-hash.ensures ∙ ap g.F.Functions.code c.key.ensures in
     let fits = c.hash-hash.type_inv in
     let range : g.F.Functions.code (key_of c.args.op) < 2 ^ 64 = subst (λ h. h < 2 ^ 64) hashed fits in
@@ -194,7 +194,7 @@ returns-in-Ok-drive-clause-unread g c = λ merge.
     let w = c.issue.new.self in
     let k = c.in-Ok-issue.context in
     let issued = issue-told g.F.Functions.code v w c.args.slot k c.in-Ok.now c.args.op (issued-on-key g.F.Functions.code v w c.args.slot c.in-Ok.now c.args.op c.op.result (Ok k) c.op.ensures c.in-Ok-issue.ensures.effect) in
-    let begun = issue-begun g.F.Functions.code v w c.args.slot k c.in-Ok.now c.args.op issued c.known.ensures.sound.places c.in-Ok-issue.ensures.within.0 in
+    let begun = issue-begun g.F.Functions.code v w c.args.slot k c.in-Ok.now c.args.op issued c.facts.ensures.sound.places c.in-Ok-issue.ensures.within.0 in
     c.in-Ok-drive.ensures.unread c.args.op v c.in-Ok.now begun.ready merge
 
 pub returns-in-Err-drive-clause-unread : goal.returns-in-Err-drive-clause-unread
@@ -204,7 +204,7 @@ returns-in-Err-drive-clause-unread g c = λ merge.
     let w = c.issue.new.self in
     let k = c.in-Ok-issue.context in
     let issued = issue-told g.F.Functions.code v w c.args.slot k c.in-Ok.now c.args.op (issued-on-key g.F.Functions.code v w c.args.slot c.in-Ok.now c.args.op c.op.result (Ok k) c.op.ensures c.in-Ok-issue.ensures.effect) in
-    let begun = issue-begun g.F.Functions.code v w c.args.slot k c.in-Ok.now c.args.op issued c.known.ensures.sound.places c.in-Ok-issue.ensures.within.0 in
+    let begun = issue-begun g.F.Functions.code v w c.args.slot k c.in-Ok.now c.args.op issued c.facts.ensures.sound.places c.in-Ok-issue.ensures.within.0 in
     c.in-Err-drive.ensures.unread c.args.op v c.in-Ok.now begun.ready merge
 
 pub returns-in-Ok-drive-clause-loads : goal.returns-in-Ok-drive-clause-loads
@@ -214,7 +214,7 @@ returns-in-Ok-drive-clause-loads g c = λ kept clear.
     let w = c.issue.new.self in
     let k = c.in-Ok-issue.context in
     let issued = issue-told g.F.Functions.code v w c.args.slot k c.in-Ok.now c.args.op (issued-on-key g.F.Functions.code v w c.args.slot c.in-Ok.now c.args.op c.op.result (Ok k) c.op.ensures c.in-Ok-issue.ensures.effect) in
-    let begun = issue-begun g.F.Functions.code v w c.args.slot k c.in-Ok.now c.args.op issued c.known.ensures.sound.places c.in-Ok-issue.ensures.within.0 in
+    let begun = issue-begun g.F.Functions.code v w c.args.slot k c.in-Ok.now c.args.op issued c.facts.ensures.sound.places c.in-Ok-issue.ensures.within.0 in
     let hashed : c.hash-hash.result ≡ g.F.Functions.code (key_of c.args.op) = c.hash-hash.ensures ∙ ap g.F.Functions.code c.key.ensures in
     let fits = c.hash-hash.type_inv in
     let range : g.F.Functions.code (key_of c.args.op) < 2 ^ 64 = subst (λ h. h < 2 ^ 64) hashed fits in
@@ -228,7 +228,7 @@ returns-in-Err-drive-clause-loads g c = λ kept clear.
     let w = c.issue.new.self in
     let k = c.in-Ok-issue.context in
     let issued = issue-told g.F.Functions.code v w c.args.slot k c.in-Ok.now c.args.op (issued-on-key g.F.Functions.code v w c.args.slot c.in-Ok.now c.args.op c.op.result (Ok k) c.op.ensures c.in-Ok-issue.ensures.effect) in
-    let begun = issue-begun g.F.Functions.code v w c.args.slot k c.in-Ok.now c.args.op issued c.known.ensures.sound.places c.in-Ok-issue.ensures.within.0 in
+    let begun = issue-begun g.F.Functions.code v w c.args.slot k c.in-Ok.now c.args.op issued c.facts.ensures.sound.places c.in-Ok-issue.ensures.within.0 in
     let hashed : c.hash-hash.result ≡ g.F.Functions.code (key_of c.args.op) = c.hash-hash.ensures ∙ ap g.F.Functions.code c.key.ensures in
     let fits = c.hash-hash.type_inv in
     let range : g.F.Functions.code (key_of c.args.op) < 2 ^ 64 = subst (λ h. h < 2 ^ 64) hashed fits in

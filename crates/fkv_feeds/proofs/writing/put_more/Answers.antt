@@ -13,7 +13,7 @@ returns-in-Ok-None-clause-ok g c xs h =
     let rest = ap (drop 1) none in (
       drop 1 xs,
       c.in-Ok-None.ensures.after xs h,
-      ([], passes-none _ _, ap (table_text (fields_of g.V.Shown.FIELDS g.V.Shown.field_at)) (rest ∙ sym none)),
+      ([], passes-none _ _, ap (table_text (fields_of g.V.RowFields.FIELDS g.V.RowFields.field_at)) (rest ∙ sym none)),
       (λ e. rest),
     )
 
@@ -22,9 +22,9 @@ returns-in-Ok-clause-ok g c xs h = (
   drop 1 xs,
   c.in-Ok-Some.ensures.after xs h,
   (
-    pair_text (fields_of g.V.Shown.FIELDS g.V.Shown.field_at) c.in-Ok-Some.pair,
+    pair_text (fields_of g.V.RowFields.FIELDS g.V.RowFields.field_at) c.in-Ok-Some.pair,
     c.in-Ok.ensures.ok,
-    ap (table_text (fields_of g.V.Shown.FIELDS g.V.Shown.field_at)) (sym (first-cons xs c.in-Ok-Some.pair (sym c.in-Ok-Some.field-0-is ∙ c.in-Ok-Some.ensures.pair xs h))),
+    ap (table_text (fields_of g.V.RowFields.FIELDS g.V.RowFields.field_at)) (sym (first-cons xs c.in-Ok-Some.pair (sym c.in-Ok-Some.field-0-is ∙ c.in-Ok-Some.ensures.pair xs h))),
   ),
   (λ e. absurd (false≢true (sym e))),
 )
@@ -34,7 +34,7 @@ returns-in-Err-clause-front g c xs h = (0, Appends-nil _)
 
 pub returns-in-Err-put_row-clause-front : goal.returns-in-Err-put_row-clause-front
 returns-in-Err-put_row-clause-front g c xs h =
-    let value = fields_of g.V.Shown.FIELDS g.V.Shown.field_at in
+    let value = fields_of g.V.RowFields.FIELDS g.V.RowFields.field_at in
     subst (λ ys. AppendsPrefix (g.W.Sink.contents c.args.sink.now) (g.W.Sink.contents c.put_row.new.sink) (c.args.buffer.now ++ table_text value ys))
     (sym (first-cons xs c.in-Ok-Some.pair (sym c.in-Ok-Some.field-0-is ∙ c.in-Ok-Some.ensures.pair xs h)))
     (prefix-longer _ _ c.args.buffer.now (pair_text value c.in-Ok-Some.pair) (table_text value (drop 1 xs)) c.in-Err-put_row.ensures.refused)
@@ -54,7 +54,7 @@ returns-in-Ok-None-clause-rows g c = ([], passes-none _ _, tt)
 
 pub returns-in-Ok-clause-rows : goal.returns-in-Ok-clause-rows
 returns-in-Ok-clause-rows g c =
-    let value = fields_of g.V.Shown.FIELDS g.V.Shown.field_at in (
+    let value = fields_of g.V.RowFields.FIELDS g.V.RowFields.field_at in (
       c.in-Ok-Some.pair ∷ [],
       subst (λ t. PassesOn (g.W.Sink.contents c.args.sink.now) (g.W.Sink.contents c.put_row.new.sink) c.put_row.new.buffer (c.args.buffer.now ++ t))
           (sym (one-row value c.in-Ok-Some.pair)) c.in-Ok.ensures.ok,
@@ -66,7 +66,7 @@ returns-in-Err-clause-rows g c = ([], tt, (0, Appends-nil _))
 
 pub returns-in-Err-put_row-clause-rows : goal.returns-in-Err-put_row-clause-rows
 returns-in-Err-put_row-clause-rows g c =
-    let value = fields_of g.V.Shown.FIELDS g.V.Shown.field_at in (
+    let value = fields_of g.V.RowFields.FIELDS g.V.RowFields.field_at in (
       c.in-Ok-Some.pair ∷ [],
       tt,
       subst (λ t. AppendsPrefix (g.W.Sink.contents c.args.sink.now) (g.W.Sink.contents c.put_row.new.sink) (c.args.buffer.now ++ t))

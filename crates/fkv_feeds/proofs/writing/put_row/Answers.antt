@@ -17,23 +17,23 @@ row count at pair name e = ap (λ n. row_text default_writer (n ∷ fields_of co
 pub returns-in-Ok-clause-ok : goal.returns-in-Ok-clause-ok
 returns-in-Ok-clause-ok g c =
     let key : List ℕ = c.bytes.result.now in
-    let fields : List ℕ = fields_text default_writer (fields_of g.V.Shown.FIELDS g.V.Shown.field_at c.args.pair.now.1) in
+    let fields : List ℕ = fields_text default_writer (fields_of g.V.RowFields.FIELDS g.V.RowFields.field_at c.args.pair.now.1) in
     subst (λ t. OnOk c.put_ended.result (PassesOn (g.W.Sink.contents c.args.sink.now) (g.W.Sink.contents c.put_ended.new.sink) c.put_ended.new.buffer (c.args.buffer.now ++ t)))
-    (row-parts g.V.Shown.FIELDS g.V.Shown.field_at c.args.pair.now.1 key g.met.V.Shown.some ∙ row g.V.Shown.FIELDS g.V.Shown.field_at c.args.pair.now key c.bytes.ensures.value)
+    (row-parts g.V.RowFields.FIELDS g.V.RowFields.field_at c.args.pair.now.1 key g.met.V.RowFields.some ∙ row g.V.RowFields.FIELDS g.V.RowFields.field_at c.args.pair.now key c.bytes.ensures.value)
     (passes-last _ _ _ c.args.buffer.now c.put_field.new.buffer c.put_ended.new.buffer (field_text default_writer key) (fields ++ 10 ∷ []) c.put_ended.result c.in-Ok.ensures.ok c.put_ended.ensures.ok)
 
 pub returns-in-Ok-clause-refused : goal.returns-in-Ok-clause-refused
 returns-in-Ok-clause-refused g c =
     let key : List ℕ = c.bytes.result.now in
-    let fields : List ℕ = fields_text default_writer (fields_of g.V.Shown.FIELDS g.V.Shown.field_at c.args.pair.now.1) in
+    let fields : List ℕ = fields_text default_writer (fields_of g.V.RowFields.FIELDS g.V.RowFields.field_at c.args.pair.now.1) in
     subst (λ t. OnErr c.put_ended.result (AppendsPrefix (g.W.Sink.contents c.args.sink.now) (g.W.Sink.contents c.put_ended.new.sink) (c.args.buffer.now ++ t)))
-    (row-parts g.V.Shown.FIELDS g.V.Shown.field_at c.args.pair.now.1 key g.met.V.Shown.some ∙ row g.V.Shown.FIELDS g.V.Shown.field_at c.args.pair.now key c.bytes.ensures.value)
+    (row-parts g.V.RowFields.FIELDS g.V.RowFields.field_at c.args.pair.now.1 key g.met.V.RowFields.some ∙ row g.V.RowFields.FIELDS g.V.RowFields.field_at c.args.pair.now key c.bytes.ensures.value)
     (front-last _ _ _ c.args.buffer.now c.put_field.new.buffer (field_text default_writer key) (fields ++ 10 ∷ []) c.put_ended.result c.in-Ok.ensures.ok c.put_ended.ensures.refused)
 
 pub returns-in-Err-clause-refused : goal.returns-in-Err-clause-refused
 returns-in-Err-clause-refused g c =
     let key : List ℕ = c.bytes.result.now in
-    let fields : List ℕ = fields_text default_writer (fields_of g.V.Shown.FIELDS g.V.Shown.field_at c.args.pair.now.1) in
+    let fields : List ℕ = fields_text default_writer (fields_of g.V.RowFields.FIELDS g.V.RowFields.field_at c.args.pair.now.1) in
     subst (λ t. AppendsPrefix (g.W.Sink.contents c.args.sink.now) (g.W.Sink.contents c.put_field.new.sink) (c.args.buffer.now ++ t))
-    (row-parts g.V.Shown.FIELDS g.V.Shown.field_at c.args.pair.now.1 key g.met.V.Shown.some ∙ row g.V.Shown.FIELDS g.V.Shown.field_at c.args.pair.now key c.bytes.ensures.value)
+    (row-parts g.V.RowFields.FIELDS g.V.RowFields.field_at c.args.pair.now.1 key g.met.V.RowFields.some ∙ row g.V.RowFields.FIELDS g.V.RowFields.field_at c.args.pair.now key c.bytes.ensures.value)
     (prefix-longer _ _ c.args.buffer.now (field_text default_writer key) (fields ++ 10 ∷ []) c.in-Err.ensures.refused)

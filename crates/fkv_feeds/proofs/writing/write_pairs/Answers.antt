@@ -8,7 +8,7 @@ use Rattle.fkv_feeds.proofs.writing.write_pairs.Goals as goal
 
 pub rows-init : goal.rows-init
 rows-init g c = record {
-  put = λ xs h. (xs, h, written-none (fields_of g.V.Shown.FIELDS g.V.Shown.field_at) _ _ xs c.in-Ok.ensures.ok, λ e. absurd (false≢true (sym e)));
+  put = λ xs h. (xs, h, written-none (fields_of g.V.RowFields.FIELDS g.V.RowFields.field_at) _ _ xs c.in-Ok.ensures.ok, λ e. absurd (false≢true (sym e)));
   rows = ([], ([], Appends-nil _, c.in-Ok.ensures.ok));
   counted = refl;
 }
@@ -18,8 +18,8 @@ rows-preserved g c = record {
   put = λ xs h.
       (let old = c.rows.invariant.put xs h in
       let new = c.in-Ok-put_more.ensures.ok old.0 old.1 in
-      (new.0, new.1, written-put (fields_of g.V.Shown.FIELDS g.V.Shown.field_at) _ _ _ c.rows.buffer c.put_more.new.buffer old.0 new.0 xs old.2 new.2, new.3));
-  rows = rows-put (fields_of g.V.Shown.FIELDS g.V.Shown.field_at) _ _ _ c.rows.buffer c.put_more.new.buffer c.rows.invariant.rows
+      (new.0, new.1, written-put (fields_of g.V.RowFields.FIELDS g.V.RowFields.field_at) _ _ _ c.rows.buffer c.put_more.new.buffer old.0 new.0 xs old.2 new.2, new.3));
+  rows = rows-put (fields_of g.V.RowFields.FIELDS g.V.RowFields.field_at) _ _ _ c.rows.buffer c.put_more.new.buffer c.rows.invariant.rows
       (c.in-Ok-put_more.ensures.rows.0, c.in-Ok-put_more.ensures.rows.1);
   counted = c.in-Ok-put_more.ensures.steady ∙ c.rows.invariant.counted;
 }
@@ -33,7 +33,7 @@ returns-in-Err-clause-told g c = inl (c.in-Err.ensures.only, refl, refl)
 pub returns-in-Err-put_more-clause-prefix : goal.returns-in-Err-put_more-clause-prefix
 returns-in-Err-put_more-clause-prefix g c xs h =
     let old = c.rows.invariant.put xs h in
-    written-prefix (fields_of g.V.Shown.FIELDS g.V.Shown.field_at) _ _ _ c.rows.buffer old.0 xs old.2 (c.in-Err-put_more.ensures.front old.0 old.1)
+    written-prefix (fields_of g.V.RowFields.FIELDS g.V.RowFields.field_at) _ _ _ c.rows.buffer old.0 xs old.2 (c.in-Err-put_more.ensures.front old.0 old.1)
 
 pub returns-in-Err-put_more-clause-told : goal.returns-in-Err-put_more-clause-told
 returns-in-Err-put_more-clause-told g c =
@@ -42,7 +42,7 @@ returns-in-Err-put_more-clause-told g c =
 pub returns-then-more-clause-prefix : goal.returns-then-more-clause-prefix
 returns-then-more-clause-prefix g c xs h =
     let old = c.rows.invariant.put xs h in
-    written-prefix (fields_of g.V.Shown.FIELDS g.V.Shown.field_at) _ _ _ c.rows.buffer old.0 xs old.2 (0, Appends-nil _)
+    written-prefix (fields_of g.V.RowFields.FIELDS g.V.RowFields.field_at) _ _ _ c.rows.buffer old.0 xs old.2 (0, Appends-nil _)
 
 pub returns-then-more-clause-told : goal.returns-then-more-clause-told
 returns-then-more-clause-told g c = inr (inr (inl (refl, c.rows.invariant.counted)))
@@ -50,12 +50,12 @@ returns-then-more-clause-told g c = inr (inr (inl (refl, c.rows.invariant.counte
 pub returns-clause-ok : goal.returns-clause-ok
 returns-clause-ok g c xs h =
     let old = c.rows.invariant.put xs h in
-    written-whole (fields_of g.V.Shown.FIELDS g.V.Shown.field_at) _ _ _ c.rows.buffer old.0 xs c.finish.result (ap first_pair (old.3 c.if-more.false)) old.2 c.finish.ensures.ok
+    written-whole (fields_of g.V.RowFields.FIELDS g.V.RowFields.field_at) _ _ _ c.rows.buffer old.0 xs c.finish.result (ap first_pair (old.3 c.if-more.false)) old.2 c.finish.ensures.ok
 
 pub returns-clause-prefix : goal.returns-clause-prefix
 returns-clause-prefix g c xs h =
     let old = c.rows.invariant.put xs h in
-    written-out (fields_of g.V.Shown.FIELDS g.V.Shown.field_at) _ _ _ c.rows.buffer old.0 xs c.finish.result (ap first_pair (old.3 c.if-more.false)) old.2 c.finish.ensures.refused
+    written-out (fields_of g.V.RowFields.FIELDS g.V.RowFields.field_at) _ _ _ c.rows.buffer old.0 xs c.finish.result (ap first_pair (old.3 c.if-more.false)) old.2 c.finish.ensures.refused
 
 pub returns-clause-told : goal.returns-clause-told
 returns-clause-told g c =
@@ -71,17 +71,17 @@ pub returns-in-Err-put_more-clause-rows : goal.returns-in-Err-put_more-clause-ro
 returns-in-Err-put_more-clause-rows g c =
     let done = c.rows.invariant.rows in
     let some = c.in-Err-put_more.ensures.rows in
-    (done.0 ++ some.0, tt, rows-front (fields_of g.V.Shown.FIELDS g.V.Shown.field_at) _ _ _ c.rows.buffer done.0 some.0 done.1 some.2)
+    (done.0 ++ some.0, tt, rows-front (fields_of g.V.RowFields.FIELDS g.V.RowFields.field_at) _ _ _ c.rows.buffer done.0 some.0 done.1 some.2)
 
 pub returns-then-more-clause-rows : goal.returns-then-more-clause-rows
 returns-then-more-clause-rows g c =
-    let value = fields_of g.V.Shown.FIELDS g.V.Shown.field_at in
+    let value = fields_of g.V.RowFields.FIELDS g.V.RowFields.field_at in
     let done = c.rows.invariant.rows in
     (done.0, tt, written-prefix value _ _ _ c.rows.buffer [] done.0 (as-written value _ _ c.rows.buffer done.0 done.1) (0, Appends-nil _))
 
 pub returns-clause-rows : goal.returns-clause-rows
 returns-clause-rows g c =
-    let value = fields_of g.V.Shown.FIELDS g.V.Shown.field_at in
+    let value = fields_of g.V.RowFields.FIELDS g.V.RowFields.field_at in
     let done = c.rows.invariant.rows in
     let all = as-written value _ _ c.rows.buffer done.0 done.1 in (
       done.0,

@@ -10,10 +10,10 @@ abbrev pub invariant-rows : goal.invariant-rows
 invariant-rows g l = record {
   put : (xs : List (Name × g.row.V.Denot)) → g.P.ReadPairs.holds l.initial.pairs xs → (left : List (Name × g.row.V.Denot))
       × g.P.ReadPairs.holds l.pairs left
-      × Written (fields_of g.V.Shown.FIELDS g.V.Shown.field_at) (g.W.Sink.contents l.initial.writer) (g.W.Sink.contents l.writer) l.buffer left xs
+      × Written (fields_of g.V.RowFields.FIELDS g.V.RowFields.field_at) (g.W.Sink.contents l.initial.writer) (g.W.Sink.contents l.writer) l.buffer left xs
       × (l.more ≡ false → left ≡ []);
   rows : (done : List (Name × g.row.V.Denot)) × PassesOn (g.W.Sink.contents l.initial.writer) (g.W.Sink.contents l.writer) l.buffer
-      (table_text (fields_of g.V.Shown.FIELDS g.V.Shown.field_at) done);
+      (table_text (fields_of g.V.RowFields.FIELDS g.V.RowFields.field_at) done);
   counted : g.W.Sink.failures l.writer ≡ g.W.Sink.failures l.initial.writer;
 }
 

@@ -6,7 +6,7 @@ use Rattle.fkv_feeds.proofs.writing.write_table.Given as goal
 -- the rows so far are put, and with those of the pairs that are left they are the table's text
 abbrev pub invariant-loop-pair : goal.invariant-loop-pair
 invariant-loop-pair g l = record {
-  put : (done : List ℕ) × PassesOn (g.W.Sink.contents l.initial.writer) (g.W.Sink.contents l.writer) l.buffer done × (done ++ table_text (fields_of g.V.Shown.FIELDS g.V.Shown.field_at) l.pairs ≡ table_text (fields_of g.V.Shown.FIELDS g.V.Shown.field_at) l.table);
+  put : (done : List ℕ) × PassesOn (g.W.Sink.contents l.initial.writer) (g.W.Sink.contents l.writer) l.buffer done × (done ++ table_text (fields_of g.V.RowFields.FIELDS g.V.RowFields.field_at) l.pairs ≡ table_text (fields_of g.V.RowFields.FIELDS g.V.RowFields.field_at) l.table);
   counted : g.W.Sink.failures l.writer ≡ g.W.Sink.failures l.initial.writer;
 }
 

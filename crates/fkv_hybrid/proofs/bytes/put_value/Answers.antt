@@ -13,4 +13,4 @@ returns-clause-edited g c =
     let fits : offset_at bits c.args.address + size_of g.K.Fixed.SIZE g.V.Fixed.SIZE ≤ 2 ^ bits = rw (← c.requires.size, ← c.requires.bits) (place_room c.args.shape.page_bits c.args.shape.record_size c.args.shape.limits c.args.address c.requires.place) in
     let long : length c.write_value.new.place ≡ g.V.Fixed.SIZE = grind (arith, common_steps) in
     value_edited g.K.Fixed.codec g.V.Fixed.codec c.args.frames.now c.write_in.new.self bits c.args.address _ _ _ c.args.value.now
-    (rw (c.page_of-page.ensures, c.requires.bits) refl) at fits c.known.ensures.sizes long c.write_value.ensures.spells c.write_in.ensures
+    (rw (c.page_of-page.ensures, c.requires.bits) refl) at fits c.facts.ensures.sizes long c.write_value.ensures.spells c.write_in.ensures

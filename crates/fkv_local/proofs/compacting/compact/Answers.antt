@@ -16,7 +16,7 @@ returns-in-Err-cleared-clause-told g c =
 
 pub returns-in-Ok-cleared-clause-given_back : goal.returns-in-Ok-cleared-clause-given_back
 returns-in-Ok-cleared-clause-given_back g c = OnOk-weaker c.cut-cut.result (λ all whole_is.
-    given-back c.args.shard.now.part.partition c.tidy.new.part.partition c.cut-cut.new.partition c.head-end.result c.clear-cleared.new.shard.part.partition.cleared c.known.ensures.sound.traced.regions.bits c.known-2.ensures.sound.traced.regions.bits
+    given-back c.args.shard.now.part.partition c.tidy.new.part.partition c.cut-cut.new.partition c.head-end.result c.clear-cleared.new.shard.part.partition.cleared c.facts.ensures.sound.traced.regions.bits c.facts-2.ensures.sound.traced.regions.bits
     c.tidy.ensures.onward c.head-end.ensures (onward-then c.clear-cleared.ensures.onward c.cut-cut.ensures.onward) (c.in-Ok-cleared.ensures.whole whole_is) c.cut-cut.ensures.onward.cleared all) c.cut-cut.ensures.whole
 
 pub returns-in-Err-clause-stays : goal.returns-in-Err-clause-stays

@@ -29,25 +29,25 @@ returns-in-Ok-fetch-clause-stays g c = load-stays c.in-Ok.now c.load_own.result 
 pub returns-in-Ok-fetch-clause-wants : goal.returns-in-Ok-fetch-clause-wants
 returns-in-Ok-fetch-clause-wants g c =
     let wanted = rw c.in-Some.is at c.requires.wanted in
-    let own = (c.in-Ok-fetch.ensures.same _ c.requires.kept (wanted-held c.pages_known.ensures.receipts wanted)).0 in
+    let own = (c.in-Ok-fetch.ensures.same _ c.requires.kept (wanted-held c.page_facts.ensures.receipts wanted)).0 in
     load-wants c.load_own.result own wanted c.load_own.ensures.effect
 
 pub returns-in-Ok-fetch-clause-kept : goal.returns-in-Ok-fetch-clause-kept
 returns-in-Ok-fetch-clause-kept g c =
     let wanted = rw c.in-Some.is at c.requires.wanted in
-    let same = c.in-Ok-fetch.ensures.same _ c.requires.kept (wanted-held c.pages_known.ensures.receipts wanted) in
+    let same = c.in-Ok-fetch.ensures.same _ c.requires.kept (wanted-held c.page_facts.ensures.receipts wanted) in
     kept-then g.D.Receipt.Receipt.stands c.args.shard.now.part.partition.records.log.receipts c.load_own.new.self.records.log.receipts c.fetch.new.self.is_sure c.fetch.new.self.page c.load_own.result (load-receipts c.load_own.result same.0 wanted c.load_own.ensures.effect) same.1
 
 pub returns-in-Ok-fetch-clause-told : goal.returns-in-Ok-fetch-clause-told
 returns-in-Ok-fetch-clause-told g c =
     let wanted = rw c.in-Some.is at c.requires.wanted in
-    let own = (c.in-Ok-fetch.ensures.same _ c.requires.kept (wanted-held c.pages_known.ensures.receipts wanted)).0 in
+    let own = (c.in-Ok-fetch.ensures.same _ c.requires.kept (wanted-held c.page_facts.ensures.receipts wanted)).0 in
     IfErr-weaker c.load_own.result _ _ (λ e. work-since (same-both refl c.in-Ok-fetch.ensures.steady)) (load-told c.load_own.result own wanted c.load_own.ensures.effect _ _ _ c.load_own.ensures.undamaged)
 
 pub load_own-requires-clause-own : goal.load_own-requires-clause-own
 load_own-requires-clause-own g c =
     let wanted = rw c.in-Some.is at c.requires.wanted in
-    let own = (c.in-Ok-fetch.ensures.same _ c.requires.kept (wanted-held c.pages_known.ensures.receipts wanted)).0 in
+    let own = (c.in-Ok-fetch.ensures.same _ c.requires.kept (wanted-held c.page_facts.ensures.receipts wanted)).0 in
     λ page waits. own-waits own wanted waits
 
 pub returns-in-Err-clause-onward : goal.returns-in-Err-clause-onward
@@ -68,7 +68,7 @@ returns-in-Err-fetch-clause-caused g c = λ kept. reads-caused _ _ c.in-Err-fetc
 pub returns-in-Ok-fetch-clause-caused : goal.returns-in-Ok-fetch-clause-caused
 returns-in-Ok-fetch-clause-caused g c = λ kept.
     let wanted = rw c.in-Some.is at c.requires.wanted in
-    let own = (c.in-Ok-fetch.ensures.same _ c.requires.kept (wanted-held c.pages_known.ensures.receipts wanted)).0 in
+    let own = (c.in-Ok-fetch.ensures.same _ c.requires.kept (wanted-held c.page_facts.ensures.receipts wanted)).0 in
     IfErr-weaker c.load_own.result _ _ (λ e told. work-caused _ _ kept told (λ other. absurd (other refl)) (λ other. absurd (other refl))) (load-told c.load_own.result own wanted c.load_own.ensures.effect g.D.Receipt.Receipt.keeps 0 (both 0 0) c.load_own.ensures.undamaged)
 
 pub returns-in-Err-clause-told : goal.returns-in-Err-clause-told

@@ -5,7 +5,7 @@ use Rattle.fkv_local.proofs.WorkLemmas.{work-later}
 use Rattle.fkv_local.proofs.compacting.relocate.Goals as goal
 
 pub go_on-told-requires-clause-fresh : goal.go_on-told-requires-clause-fresh
-go_on-told-requires-clause-fresh g c = issued c.requires.idle c.known.ensures.sound.places (rw c.in-Ok-issue.is at c.issue.ensures.effect)
+go_on-told-requires-clause-fresh g c = issued c.requires.idle c.facts.ensures.sound.places (rw c.in-Ok-issue.is at c.issue.ensures.effect)
 
 pub returns-clause-told : goal.returns-clause-told
 returns-clause-told g c = IfErr-weaker c.go_on-told.result _ _ (λ e. work-later (ap (λ r. r.log.tail) c.give_up.ensures.same_records) c.give_up.ensures.passed.later) c.go_on-told.ensures.told

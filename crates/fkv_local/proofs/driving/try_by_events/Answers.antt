@@ -31,19 +31,19 @@ returns-in-Err-clause-caused g c = λ kept.
 
 pub returns-in-Err-clause-loads : goal.returns-in-Err-clause-loads
 returns-in-Err-clause-loads g c = λ kept.
-    let most = c.once.ensures.loads kept (none-claims c.args.part.now.partition c.known.ensures.sound c.requires.idle) in
+    let most = c.once.ensures.loads kept (none-claims c.args.part.now.partition c.facts.ensures.sound c.requires.idle) in
     let all = loads-in g.F.Functions.code c.args.part.now.partition.records c.args.op in
     omega arith
 
 pub returns-in-Done-clause-loads : goal.returns-in-Done-clause-loads
 returns-in-Done-clause-loads g c = λ kept.
-    let most = c.once.ensures.loads kept (none-claims c.args.part.now.partition c.known.ensures.sound c.requires.idle) in
+    let most = c.once.ensures.loads kept (none-claims c.args.part.now.partition c.facts.ensures.sound c.requires.idle) in
     let all = loads-in g.F.Functions.code c.args.part.now.partition.records c.args.op in
     omega arith
 
 pub returns-in-Waits-clause-loads : goal.returns-in-Waits-clause-loads
 returns-in-Waits-clause-loads g c = λ kept.
-    let most = c.once.ensures.loads kept (none-claims c.args.part.now.partition c.known.ensures.sound c.requires.idle) in
+    let most = c.once.ensures.loads kept (none-claims c.args.part.now.partition c.facts.ensures.sound c.requires.idle) in
     let all = loads-in g.F.Functions.code c.args.part.now.partition.records c.args.op in
     omega arith
 

@@ -4,6 +4,6 @@ use Rattle.fkv_locked.proofs.laws.marks_stay.Goals as goal
 
 pub returns : goal.returns
 returns g c = record {
-  stays = λ mine start end from. marks_stay mine start from;
-  low = λ mine issued last end e keeps count at marked from adds. adds.low_is ∙ (marks_stay mine issued from ∙ marked);
+  stays = λ operation start end from. marks_stay operation start from;
+  low = λ operation issued last end e keeps count at marked from adds. adds.low_is ∙ (marks_stay operation issued from ∙ marked);
 }

@@ -11,11 +11,11 @@ returns g c = record {
       (λ x value told e d last k a low still.
       c.records_change.ensures.kept cmp keeps code old.records e.address value k a s.traced
       (replaced-some cmp join f code old slot at x value told e order s
-      (λ k w entered met. c.meetings_tell.ensures.mutable keeps cmp join code old.records k slot w order s.traced s.stood entered met)
-      (λ k w entered m. c.meetings_tell.ensures.unfrozen keeps cmp join code old.records k slot w s.traced s.stood entered m) d last)
+      (λ k w entered met. c.meetings_tell.ensures.mutable keeps cmp join code old.records k slot w order s.traced s.resolved entered met)
+      (λ k w entered m. c.meetings_tell.ensures.unfrozen keeps cmp join code old.records k slot w s.traced s.resolved entered m) d last)
       (replaced-high cmp join f code old slot at x value told e order s
-      (λ k w entered met. c.meetings_tell.ensures.mutable keeps cmp join code old.records k slot w order s.traced s.stood entered met)
-      (λ k w entered m. c.meetings_tell.ensures.unfrozen keeps cmp join code old.records k slot w s.traced s.stood entered m) d last) still)
+      (λ k w entered met. c.meetings_tell.ensures.mutable keeps cmp join code old.records k slot w order s.traced s.resolved entered met)
+      (λ k w entered m. c.meetings_tell.ensures.unfrozen keeps cmp join code old.records k slot w s.traced s.resolved entered m) d last) still)
       goes;
   finds = λ keeps stands cmp join f code old new slot at now progress order s goes.
       goes-find cmp join f code old new slot at now stands order s progress goes;

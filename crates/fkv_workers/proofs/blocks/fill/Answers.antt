@@ -14,6 +14,6 @@ returns-clause-good g c k =
     subst (λ n. IsRunnable c.args.config.now (size_of 32 g.F.Value.Fixed.SIZE) c.args.workers n) (c.len.ensures ∙ c.args.feeds.now.ok.0)
     (c.if-not-is_runnable.ensures.0 refl)
 
-pub returns-in-Err-worked-clause-refused : goal.returns-in-Err-worked-clause-refused
-returns-in-Err-worked-clause-refused g c =
-    ⊎_elim (λ told. IsUnread.told told) (λ rest. ⊎_elim (λ mismatch. IsUnread.unclosed (subst IsClosing (sym mismatch) tt)) (λ unread. IsUnread.unread unread) rest) c.in-Err-worked.ensures.refused
+pub returns-in-Err-run_workers-clause-refused : goal.returns-in-Err-run_workers-clause-refused
+returns-in-Err-run_workers-clause-refused g c =
+    ⊎_elim (λ told. IsUnread.told told) (λ rest. ⊎_elim (λ mismatch. IsUnread.unclosed (subst IsClosing (sym mismatch) tt)) (λ unread. IsUnread.unread unread) rest) c.in-Err-run_workers.ensures.refused

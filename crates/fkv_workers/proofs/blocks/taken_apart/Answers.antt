@@ -17,11 +17,11 @@ loop-one-preserved g c =
     let old = c.loop-one.invariant in
     let one = c.in-Some.one in
     let gives = c.into_iter-one-iterator.ensures.into_iter_gives in
-    let road = YieldsList-from_vec c.args.worked.items gives.0 (gives.1 ∙ c.args.worked.ok.0) in
+    let road = YieldsList-from_vec c.args.results.items gives.0 (gives.1 ∙ c.args.results.ok.0) in
     let turn = YieldsList-turn road c.loop-one.yielded c.loop-one.one-iterator c.loop-one.yielded_by c.next.result c.next.new.self one c.in-Some.is c.next.ensures.steps in
     let at = length c.loop-one.yielded in
-    let read = one_more (λ w. WereRead g.B.Origin.feeds w.had.tickets.items) c.args.worked.items at one turn.0 turn.1 c.requires.read in
-    let stops = one_more (λ w. IfSome w.fault (λ why. IsTold why ⊎ IsStop g.B.Origin.feeds most_rows (record { feed = w.had.feed; low = w.had.low; refused = why; has_failed = w.had.has_failed }))) c.args.worked.items at one turn.0 turn.1 c.requires.stops in
+    let read = one_more (λ w. WereRead g.B.Origin.feeds w.had.tickets.items) c.args.results.items at one turn.0 turn.1 c.requires.read in
+    let stops = one_more (λ w. IfSome w.fault (λ why. IsTold why ⊎ IsStop g.B.Origin.feeds most_rows (record { feed = w.had.feed; low = w.had.low; refused = why; has_failed = w.had.has_failed }))) c.args.results.items at one turn.0 turn.1 c.requires.stops in
     let grown = ap (map (λ hand. hand.items)) c.in-Ok-push.ensures.items ∙ map_push (λ hand. hand.items) c.loop-one.hands.items one.had.tickets in
     record {
       passes = c.in-Ok.ensures.items ∙ (ap (λ l. l ++ one.pass ∷ []) old.passes ∙ sym (map_push (λ w. w.pass) c.loop-one.yielded one));
@@ -42,20 +42,20 @@ loop-one-preserved g c =
 pub returns-clause-passes : goal.returns-clause-passes
 returns-clause-passes g c =
     let gives = c.into_iter-one-iterator.ensures.into_iter_gives in
-    let road = YieldsList-from_vec c.args.worked.items gives.0 (gives.1 ∙ c.args.worked.ok.0) in
+    let road = YieldsList-from_vec c.args.results.items gives.0 (gives.1 ∙ c.args.results.ok.0) in
     let end = YieldsList-end road c.loop-one.yielded c.loop-one.one-iterator c.loop-one.yielded_by c.next.result c.next.new.self c.in-None.is c.next.ensures.steps in
     c.loop-one.invariant.passes ∙ ap (map (λ w. w.pass)) (sym (map-id c.loop-one.yielded) ∙ end.0)
 
 pub returns-clause-hands : goal.returns-clause-hands
 returns-clause-hands g c =
     let gives = c.into_iter-one-iterator.ensures.into_iter_gives in
-    let road = YieldsList-from_vec c.args.worked.items gives.0 (gives.1 ∙ c.args.worked.ok.0) in
+    let road = YieldsList-from_vec c.args.results.items gives.0 (gives.1 ∙ c.args.results.ok.0) in
     let end = YieldsList-end road c.loop-one.yielded c.loop-one.one-iterator c.loop-one.yielded_by c.next.result c.next.new.self c.in-None.is c.next.ensures.steps in
     c.loop-one.invariant.hands ∙ ap (map (λ w. w.had.tickets.items)) (sym (map-id c.loop-one.yielded) ∙ end.0)
 
 pub returns-clause-none : goal.returns-clause-none
 returns-clause-none g c none =
     let gives = c.into_iter-one-iterator.ensures.into_iter_gives in
-    let road = YieldsList-from_vec c.args.worked.items gives.0 (gives.1 ∙ c.args.worked.ok.0) in
+    let road = YieldsList-from_vec c.args.results.items gives.0 (gives.1 ∙ c.args.results.ok.0) in
     let end = YieldsList-end road c.loop-one.yielded c.loop-one.one-iterator c.loop-one.yielded_by c.next.result c.next.new.self c.in-None.is c.next.ensures.steps in
     subst (λ ws. All (λ fault. fault ≡ None) (map (λ w. w.fault) ws)) (sym (map-id c.loop-one.yielded) ∙ end.0) (c.loop-one.invariant.none none)

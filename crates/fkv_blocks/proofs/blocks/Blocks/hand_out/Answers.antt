@@ -1,6 +1,6 @@
 use Rattle.std.proofs.Common.{◌≡◌, ◌≤◌, ◌+◌, ◌^◌, true, false, refl, ◌∙◌, sym, ap, subst, arith}
 use Rattle.fkv_functions.specs.declared.refusals.Refused.TheVariants.{Unreadable}
-use Rattle.fkv_blocks.specs.declared.blocks.Place.{Place}
+use Rattle.fkv_blocks.specs.declared.blocks.BlockSpan.{BlockSpan}
 use Rattle.fkv_blocks.specs.Left.{BlocksView, IsBlockOf, IsUntaken, IsWide, number_of, text_at}
 use Rattle.fkv_blocks.proofs.LeftLemmas.{block_by, next_last, next_within, none_is, some_is, stands_by, wide_by}
 use Rattle.fkv_blocks.proofs.blocks.Blocks.hand_out.Goals as goal
@@ -37,7 +37,7 @@ returns-clause-given g c =
     let high = c.in-Some.high in
     let block = c.split.new.block.items in
     let given = block_by text b.at b.held.items left c.args.cut.size b.over b.stopped now c.args.cut.is_last high block (c.self.invariant.stands begun) on c.requires.next held stopped rest c.in-Some.ensures.1 c.in-Ok.ensures.block in
-    some_is (λ (p : Place). (p.feed ≡ now.place) × IsBlockOf (text_at feeds p.feed) block p.low p.high) (record { feed = b.place; low = b.at; high = high }) c.place_of.result c.place_of.ensures.some (sym here, given)
+    some_is (λ (p : BlockSpan). (p.feed ≡ now.place) × IsBlockOf (text_at feeds p.feed) block p.low p.high) (record { feed = b.place; low = b.at; high = high }) c.place_of.result c.place_of.ensures.some (sym here, given)
 
 pub returns-clause-over : goal.returns-clause-over
 returns-clause-over g c =

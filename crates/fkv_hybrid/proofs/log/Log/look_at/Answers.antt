@@ -44,8 +44,8 @@ returns-clause-met g c =
     let link = c.link_of-header.ensures (record_of f.0) h.sound.fits h.spells in
     let key = (c.is_of.ensures (record_of f.0) h.sound.key_known h.spells).0 c.if-not-is_of.false in
     let some = a_value f.0.value (sym (ap (λ x. x.is_tombstone) link) ∙ c.if-header.false) in
-    let known : g.V.Fixed.codec.is_known some.0 = if_is f.0.value g.V.Fixed.codec.is_known some.0 h.sound.value_known some.1 in
-    let value = some.1 ∙ sym (c.value_of-value.ensures (record_of f.0) some.0 some.1 known h.spells) in
+    let facts : g.V.Fixed.codec.is_known some.0 = if_is f.0.value g.V.Fixed.codec.is_known some.0 h.sound.value_known some.1 in
+    let value = some.1 ∙ sym (c.value_of-value.ensures (record_of f.0) some.0 some.1 facts h.spells) in
     rw c.entry_with-2.ensures (
       f.1 ∙ ap Some (λ j. record { address = h.stands j; previous = sym (ap (λ x. x.previous) link) j; key = key j; value = value j; delta = sym (ap (λ x. x.is_delta) link) j }),
       refl,

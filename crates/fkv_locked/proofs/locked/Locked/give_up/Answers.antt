@@ -12,7 +12,7 @@ invariant_of-self-in-Ok g c =
       c.self.invariant.1,
       c.self.invariant.2,
       λ k held. give_up_keeps g.F.Key.Ord.cmp g.F.Functions.meaning c.self.inside.partition c.give_up.new.self (g.H.Recorder.entries c.self.inside.history) c.self.inside.lows.items c.self.inside.looks.items c.self.inside.book
-          c.in-Some.now (c.self.invariant.3 k held) c.args.mine.now.session.slot c.args.mine.now.context (omega arith) c.in-Ok.ensures.event c.give_up.ensures.others,
+          c.in-Some.now (c.self.invariant.3 k held) c.args.operation.now.session.slot c.args.operation.now.context (omega arith) c.in-Ok.ensures.event c.give_up.ensures.others,
     )
 
 pub returns-in-Ok-clause-effect : goal.returns-in-Ok-clause-effect

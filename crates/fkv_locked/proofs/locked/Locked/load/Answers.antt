@@ -14,7 +14,7 @@ invariant_of-self-in-Err-load g c =
       c.self.invariant.2,
       λ k held. rw c.in-Ok.ensures.entries
           (failed_keeps g.F.Key.Ord.cmp g.F.Functions.meaning c.self.inside.partition c.load.new.self (g.H.Recorder.entries c.self.inside.history) c.self.inside.lows.items c.self.inside.looks.items c.self.inside.book
-          c.in-Ok.now (c.self.invariant.3 k held) c.args.mine.now.session.slot c.args.mine.now.context (omega arith) c.in-Err-load.ensures.fails (c.load.ensures.others held)),
+          c.in-Ok.now (c.self.invariant.3 k held) c.args.operation.now.session.slot c.args.operation.now.context (omega arith) c.in-Err-load.ensures.fails (c.load.ensures.others held)),
     )
 
 pub invariant_of-self-2 : goal.invariant_of-self-2
@@ -29,8 +29,8 @@ invariant_of-self-2 g c =
       λ k held.
           let kept = c.self.invariant.3 k held in
           c.note_loaded.ensures.kept k c.self.inside.partition c.load.new.self c.self.inside.looks.items c.mark_at-look.ensures
-          (load_comes g.R.Receipt.stands _ g.F.Key.Ord.cmp g.F.Mergeable.parts.joined g.F.Functions.meaning g.F.Functions.code c.self.inside.partition c.load.new.self c.args.mine.now c.args.came c.in-Ok.now
-          c.in-Ok.ensures.asks (λ p h. (kept.past c.args.mine.now.session.slot c.args.mine.now.context p h).early) (omega arith)
+          (load_comes g.R.Receipt.stands _ g.F.Key.Ord.cmp g.F.Mergeable.parts.joined g.F.Functions.meaning g.F.Functions.code c.self.inside.partition c.load.new.self c.args.operation.now c.args.came c.in-Ok.now
+          c.in-Ok.ensures.asks (λ p h. (kept.past c.args.operation.now.session.slot c.args.operation.now.context p h).early) (omega arith)
           c.in-Ok-load.progress c.in-Ok-load.ensures.effect (c.in-Ok-load.ensures.event held) (c.load.ensures.others held))
           (rw c.in-Ok.ensures.entries kept),
     )

@@ -16,8 +16,8 @@ invariant_of-self-2 g c =
       c.self.invariant.2,
       λ k held.
           let ord = g.met.F.Key.Ord in
-          let known = g.met.F.Key.FixedKey in
-          let order = key_order g.F.Key.PartialEq.eq g.F.Key.Ord.cmp ord.matches_eq known.exact ord.total in
+          let facts = g.met.F.Key.FixedKey in
+          let order = key_order g.F.Key.PartialEq.eq g.F.Key.Ord.cmp ord.matches_eq facts.exact ord.total in
           let cmp = g.F.Key.Ord.cmp in
           let join = g.F.Mergeable.parts.joined in
           let f = g.F.Functions.meaning in
@@ -33,7 +33,7 @@ invariant_of-self-2 g c =
           let done = c.in-Some.ensures.done in
           let count = ready.at ∙ g.met.H.Recorder.counted c.self.inside.history k in
           rw (c.finish.ensures.book, c.finish.ensures.entries k, ready.entries)
-          (at_once_keeps cmp join f stands code c.self.inside.partition c.try_write_in_place.new.self slot op issued now answer done keeps c.known.ensures.sound
+          (at_once_keeps cmp join f stands code c.self.inside.partition c.try_write_in_place.new.self slot op issued now answer done keeps c.facts.ensures.sound
           c.in-Some.ensures.within (omega arith) (omega arith)
           (λ p q h. c.pendings_stay.ensures.issues cmp code p q slot done.context op issued h)
           (λ p q s h. c.pendings_stay.ensures.goes keeps stands cmp join f code p q slot done.context now (Ok (Done answer now)) held order s h)

@@ -47,7 +47,7 @@ invariant_of-self-2 g c =
     let word = rw c.tail-address.ensures.tail at made.word in
     let is = records-appended g.F.Key.Ord.cmp g.F.Mergeable.parts.joined i.partition_bits i.bucket_bits (size_of g.F.Key.Fixed.SIZE g.F.Value.Fixed.SIZE) e c.args.key c.args.payload i.log c.append.new.self i.index appended c.move_entry.new.index word in
     subst (IsTraced g.R.Receipt.keeps g.F.Functions.code) (sym is)
-    (traced-record _ e c.args.key c.args.payload _ t (text_then g.F.Key.Ord.cmp g.F.Mergeable.parts.joined i.partition_bits i.bucket_bits _ e c.args.key c.args.payload i.log c.append.new.self i.index appended c.known-2.ensures.log chained) moved)
+    (traced-record _ e c.args.key c.args.payload _ t (text_then g.F.Key.Ord.cmp g.F.Mergeable.parts.joined i.partition_bits i.bucket_bits _ e c.args.key c.args.payload i.log c.append.new.self i.index appended c.facts-2.ensures.log chained) moved)
 
 pub returns-clause-tentative : goal.returns-clause-tentative
 returns-clause-tentative g c = rw (← c.self.view_is) c.move_entry.ensures.tentative

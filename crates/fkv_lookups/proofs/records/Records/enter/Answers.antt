@@ -8,4 +8,4 @@ invariant_of-self g c =
     let i = c.self.inside in
     let log = c.enter-slot.new.self in
     let t = entered-text c.enter-slot.result i.log log _ c.enter-slot.ensures.effect c.enter-slot.ensures.unchanged in
-    traced-same _ _ i.partition_bits i.bucket_bits (size_of g.F.Key.Fixed.SIZE g.F.Value.Fixed.SIZE) i.index i.log log t.text t.from t.tail c.known.ensures.log c.self.invariant
+    traced-same _ _ i.partition_bits i.bucket_bits (size_of g.F.Key.Fixed.SIZE g.F.Value.Fixed.SIZE) i.index i.log log t.text t.from t.tail c.facts.ensures.log c.self.invariant

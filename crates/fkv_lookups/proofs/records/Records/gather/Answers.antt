@@ -8,8 +8,8 @@ use Rattle.fkv_lookups.proofs.records.Records.gather.Goals as goal
 pub loop-last-init : goal.loop-last-init
 loop-last-init g c =
     let ord = g.met.F.Key.Ord in
-    let known = g.met.F.Key.FixedKey in
-    let order = key_order g.F.Key.PartialEq.eq g.F.Key.Ord.cmp ord.matches_eq known.exact ord.total in
+    let facts = g.met.F.Key.FixedKey in
+    let order = key_order g.F.Key.PartialEq.eq g.F.Key.Ord.cmp ord.matches_eq facts.exact ord.total in
     let traced : IsTraced g.R.Receipt.keeps g.F.Functions.code c.args.self.now = rw (← c.self.view_is) c.self.invariant in
     let t = raw-traced g.F.Key.Ord.cmp g.F.Mergeable.parts.joined c.args.self.now (rw (← c.self.view_is) refl) traced in
     let up = begun c.args.self.now c.args.low traced c.requires.in_frames c.requires.begin in
@@ -24,8 +24,8 @@ first_on_chain-position-requires-clause-chain g c =
 pub loop-last-smaller : goal.loop-last-smaller
 loop-last-smaller g c =
     let ord = g.met.F.Key.Ord in
-    let known = g.met.F.Key.FixedKey in
-    let order = key_order g.F.Key.PartialEq.eq g.F.Key.Ord.cmp ord.matches_eq known.exact ord.total in
+    let facts = g.met.F.Key.FixedKey in
+    let order = key_order g.F.Key.PartialEq.eq g.F.Key.Ord.cmp ord.matches_eq facts.exact ord.total in
     let traced : IsTraced g.R.Receipt.keeps g.F.Functions.code c.args.self.now = rw (← c.self.view_is) c.self.invariant in
     let t = raw-traced g.F.Key.Ord.cmp g.F.Mergeable.parts.joined c.args.self.now (rw (← c.self.view_is) refl) traced in
     way-falls g.F.Key.Ord.cmp g.F.Mergeable.parts.joined g.F.Functions.code c.args.self.now c.args.key.now order t c.args.low c.args.entry c.loop-last.parts c.loop-last.position c.loop-last.invariant
@@ -34,7 +34,7 @@ loop-last-smaller g c =
 pub loop-last-preserved : goal.loop-last-preserved
 loop-last-preserved g c =
     let some = c.in-Some.ensures.some in
-    rw c.onto-parts.ensures (way-on g.F.Key.Ord.cmp g.F.Mergeable.parts.joined g.F.Functions.code c.args.self.now c.args.key.now c.args.low c.args.entry c.loop-last.parts c.loop-last.position c.loop-last.invariant
+    rw c.combined-parts.ensures (way-on g.F.Key.Ord.cmp g.F.Mergeable.parts.joined g.F.Functions.code c.args.self.now c.args.key.now c.args.low c.args.entry c.loop-last.parts c.loop-last.position c.loop-last.invariant
     c.in-Some.last some.0 some.1 c.first_on_chain-position.result (rw (← c.self.view_is) c.first_on_chain-position.ensures))
 
 pub returns : goal.returns

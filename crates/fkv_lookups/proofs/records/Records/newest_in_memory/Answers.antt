@@ -27,8 +27,8 @@ first_on_chain-requires-clause-chain g c =
 pub returns : goal.returns
 returns g c =
     let ord = g.met.F.Key.Ord in
-    let known = g.met.F.Key.FixedKey in
-    let order = key_order g.F.Key.PartialEq.eq g.F.Key.Ord.cmp ord.matches_eq known.exact ord.total in
+    let facts = g.met.F.Key.FixedKey in
+    let order = key_order g.F.Key.PartialEq.eq g.F.Key.Ord.cmp ord.matches_eq facts.exact ord.total in
     let i = c.self.inside in
     let t = raw-traced _ _ _ refl c.self.invariant in
     let low = c.args.low in

@@ -9,17 +9,17 @@ use Rattle.fkv_lookups.proofs.records.Records.put_live.Goals as goal
 pub loop-self-init : goal.loop-self-init
 loop-self-init g c = record {
   scan = c.scan-scan.ensures.scan;
-  scanned = λ keeps apart. scan_begins g.R.Receipt.keeps _ c.self.inside.log c.known.ensures.log g.F.Key.Ord.cmp g.F.Mergeable.parts.joined _ _ keeps c.scan-scan.ensures.begins;
+  scanned = λ keeps apart. scan_begins g.R.Receipt.keeps _ c.self.inside.log c.facts.ensures.log g.F.Key.Ord.cmp g.F.Mergeable.parts.joined _ _ keeps c.scan-scan.ensures.begins;
   steady = refl;
 }
 
 pub loop-self-preserved : goal.loop-self-preserved
 loop-self-preserved g c =
     let low : c.loop-self.scan.address < c.self.inside.log.tail = omega (arith, c.tail.ensures.tail, c.address.ensures, c.loop-self-test.true) in
-    let l = c.known.ensures.log in
+    let l = c.facts.ensures.log in
     let ord = g.met.F.Key.Ord in
-    let known = g.met.F.Key.FixedKey in
-    let order = key_order g.F.Key.PartialEq.eq g.F.Key.Ord.cmp ord.matches_eq known.exact ord.total in
+    let facts = g.met.F.Key.FixedKey in
+    let order = key_order g.F.Key.PartialEq.eq g.F.Key.Ord.cmp ord.matches_eq facts.exact ord.total in
     let join = g.F.Mergeable.parts.joined in
     record {
       scan = c.step.ensures.scan;
@@ -32,7 +32,7 @@ loop-self-preserved g c =
 pub loop-self-smaller : goal.loop-self-smaller
 loop-self-smaller g c =
     let low : c.loop-self.scan.address < c.self.inside.log.tail = omega (arith, c.tail.ensures.tail, c.address.ensures, c.loop-self-test.true) in
-    let rises = scan_rises g.R.Receipt.keeps _ c.self.inside.log c.known.ensures.log c.loop-self.scan c.loop-self.invariant.scan low in
+    let rises = scan_rises g.R.Receipt.keeps _ c.self.inside.log c.facts.ensures.log c.loop-self.scan c.loop-self.invariant.scan low in
     let goes = c.in-Ok.ensures.goes in
     omega arith
 
@@ -44,7 +44,7 @@ returns-clause-ok g c = λ keeps apart.
 pub returns-in-Err-clause-refused : goal.returns-in-Err-clause-refused
 returns-in-Err-clause-refused g c =
     let low : c.loop-self.scan.address < c.self.inside.log.tail = omega (arith, c.tail.ensures.tail, c.address.ensures, c.loop-self-test.true) in
-    rw (← c.self.view_is) (scan_refused g.R.Receipt.keeps _ c.self.inside.log c.known.ensures.log c.loop-self.scan c.loop-self.invariant.scan low
+    rw (← c.self.view_is) (scan_refused g.R.Receipt.keeps _ c.self.inside.log c.facts.ensures.log c.loop-self.scan c.loop-self.invariant.scan low
     c.step.result _ _ _ _ c.in-Err.is c.loop-self.invariant.steady (λ high. (c.step.ensures.unread high).0) c.in-Err.ensures.refused)
 
 pub returns-in-Err-put_entry-clause-refused : goal.returns-in-Err-put_entry-clause-refused

@@ -2,7 +2,7 @@ use Rattle.std.proofs.Common.{◌≡◌, ◌-◌}
 use Rattle.std.specs.Prelude.{IsTrue}
 use Rattle.std.specs.BTreeMap.{get}
 use Rattle.fkv_records.specs.Records.{size_of}
-use Rattle.fkv_texts.specs.Deltas.{stood}
+use Rattle.fkv_texts.specs.Deltas.{resolved}
 use Rattle.fkv_hybrid.specs.Scans.{IsScanOf}
 use Rattle.fkv_lookups.specs.Overlays.{IsApart}
 use Rattle.fkv_lookups.proofs.ScanLemmas.{IsScanned}
@@ -18,7 +18,7 @@ invariant-loop-self g l =
     let join = g.F.Mergeable.parts.joined in
     record {
       scan : IsScanOf size log l.scan;
-      scanned : IsTrue g.R.Receipt.keeps → IsApart cmp (get cmp l.initial.map) (stood cmp join log.text)
+      scanned : IsTrue g.R.Receipt.keeps → IsApart cmp (get cmp l.initial.map) (resolved cmp join log.text)
           → IsScanned cmp join (get cmp l.initial.map) log.bits size log.tail log.text l.scan.address (get cmp l.map);
       steady : g.P.PageReader.failures l.reader ≡ g.P.PageReader.failures l.fn.reader;
     }

@@ -7,7 +7,7 @@ pub invariant_of-self : goal.invariant_of-self
 invariant_of-self g c =
     let i = c.self.inside in
     let made = c.shift_head-moved.ensures in
-    traced-moved c.shift_head-moved.result _ _ i.partition_bits i.bucket_bits (size_of g.F.Key.Fixed.SIZE g.F.Value.Fixed.SIZE) i.index i.log c.shift_head-moved.new.self _ made.effect made.unchanged made.raised.closed c.known.ensures.log c.self.invariant
+    traced-moved c.shift_head-moved.result _ _ i.partition_bits i.bucket_bits (size_of g.F.Key.Fixed.SIZE g.F.Value.Fixed.SIZE) i.index i.log c.shift_head-moved.new.self _ made.effect made.unchanged made.raised.closed c.facts.ensures.log c.self.invariant
 
 pub returns-clause-effect : goal.returns-clause-effect
 returns-clause-effect g c =

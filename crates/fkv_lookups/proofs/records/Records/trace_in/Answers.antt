@@ -15,8 +15,8 @@ returns-in-Err-clause-read g c = rw (← c.self.view_is) (refused c.in-Err.ensur
 pub returns-in-Err-clause-kept : goal.returns-in-Err-clause-kept
 returns-in-Err-clause-kept g c = λ keeps begun class.
     let ord = g.met.F.Key.Ord in
-    let known = g.met.F.Key.FixedKey in
-    let order = key_order g.F.Key.PartialEq.eq g.F.Key.Ord.cmp ord.matches_eq known.exact ord.total in
+    let facts = g.met.F.Key.FixedKey in
+    let order = key_order g.F.Key.PartialEq.eq g.F.Key.Ord.cmp ord.matches_eq facts.exact ord.total in
     let traced : IsTraced g.R.Receipt.keeps g.F.Functions.code c.args.self.now = rw (← c.self.view_is) c.self.invariant in
     let told = kept-told g.F.Key.Ord.cmp g.F.Mergeable.parts.joined g.F.Functions.code c.args.self.now c.args.key.now order traced (rw (← c.self.view_is) refl) c.args.low c.args.from keeps begun c.requires.floor
     c.args.from (λ up. class) c.own_first_in_page.result (rw (← c.self.view_is) (c.own_first_in_page.ensures.kept keeps)) in
@@ -25,8 +25,8 @@ returns-in-Err-clause-kept g c = λ keeps begun class.
 pub loop-last-init : goal.loop-last-init
 loop-last-init g c =
     let ord = g.met.F.Key.Ord in
-    let known = g.met.F.Key.FixedKey in
-    let order = key_order g.F.Key.PartialEq.eq g.F.Key.Ord.cmp ord.matches_eq known.exact ord.total in
+    let facts = g.met.F.Key.FixedKey in
+    let order = key_order g.F.Key.PartialEq.eq g.F.Key.Ord.cmp ord.matches_eq facts.exact ord.total in
     let v = c.args.self.now in
     let traced : IsTraced g.R.Receipt.keeps g.F.Functions.code v = rw (← c.self.view_is) c.self.invariant in
     let shape : IsShape v.log.bits (size_of g.F.Key.Fixed.SIZE g.F.Value.Fixed.SIZE) = rw (← c.self.view_is) c.self.invariant.shape in
@@ -67,8 +67,8 @@ pub returns-in-Err-own_first_in_page-clause-kept :
     goal.returns-in-Err-own_first_in_page-clause-kept
 returns-in-Err-own_first_in_page-clause-kept g c = λ keeps begun class.
     let ord = g.met.F.Key.Ord in
-    let known = g.met.F.Key.FixedKey in
-    let order = key_order g.F.Key.PartialEq.eq g.F.Key.Ord.cmp ord.matches_eq known.exact ord.total in
+    let facts = g.met.F.Key.FixedKey in
+    let order = key_order g.F.Key.PartialEq.eq g.F.Key.Ord.cmp ord.matches_eq facts.exact ord.total in
     let v = c.args.self.now in
     let traced : IsTraced g.R.Receipt.keeps g.F.Functions.code v = rw (← c.self.view_is) c.self.invariant in
     let next = kept-class g.F.Key.Ord.cmp g.F.Mergeable.parts.joined g.F.Functions.code v c.args.key.now c.args.low c.args.from c.args.parts c.loop-last.parts c.loop-last.position (c.loop-last.invariant.kept keeps begun class)
@@ -88,12 +88,12 @@ loop-last-smaller g c =
 pub loop-last-preserved : goal.loop-last-preserved
 loop-last-preserved g c =
     let ord = g.met.F.Key.Ord in
-    let known = g.met.F.Key.FixedKey in
-    let order = key_order g.F.Key.PartialEq.eq g.F.Key.Ord.cmp ord.matches_eq known.exact ord.total in
+    let facts = g.met.F.Key.FixedKey in
+    let order = key_order g.F.Key.PartialEq.eq g.F.Key.Ord.cmp ord.matches_eq facts.exact ord.total in
     let v = c.args.self.now in
     let traced : IsTraced g.R.Receipt.keeps g.F.Functions.code v = rw (← c.self.view_is) c.self.invariant in
     let shape : IsShape v.log.bits (size_of g.F.Key.Fixed.SIZE g.F.Value.Fixed.SIZE) = rw (← c.self.view_is) c.self.invariant.shape in
-    rw c.onto-parts.ensures (record {
+    rw c.combined-parts.ensures (record {
       read = read-on g.F.Mergeable.parts.joined g.F.Key.Fixed.codec g.F.Value.Fixed.codec v.log.bits shape c.args.loaded.now.bytes
           g.F.Key.Ord.cmp c.args.key.now c.args.low c.args.from c.args.parts c.loop-last.parts c.loop-last.position c.loop-last.invariant.read c.in-Some.last c.in-Some.ensures.some.0
           c.in-Some.ensures.some.1 c.in-Ok-own_first_in_page.position (rw (← c.self.view_is) c.in-Ok-own_first_in_page.ensures.read);

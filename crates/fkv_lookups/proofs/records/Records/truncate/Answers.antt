@@ -12,4 +12,4 @@ invariant_of-self-2 g c =
     let due = made.ok.0 refl in
     let at : c.begin-begin.result ≡ start_at i.log.bits c.args.page = c.begin-begin.ensures ∙ ap (λ (l : _). l.begin) made.effect in
     let swept = subst (λ n. SweepsEntries n i.index c.sweep.new.self) at c.sweep.ensures.entries in
-    traced-truncated _ _ i.partition_bits i.bucket_bits (size_of g.F.Key.Fixed.SIZE g.F.Value.Fixed.SIZE) (start_at i.log.bits c.args.page) i.index c.sweep.new.self i.log c.truncate.new.self made.effect (let up = due.higher in omega arith) c.known.ensures.log swept c.sweep.ensures.words.buckets c.sweep.ensures.map c.self.invariant
+    traced-truncated _ _ i.partition_bits i.bucket_bits (size_of g.F.Key.Fixed.SIZE g.F.Value.Fixed.SIZE) (start_at i.log.bits c.args.page) i.index c.sweep.new.self i.log c.truncate.new.self made.effect (let up = due.higher in omega arith) c.facts.ensures.log swept c.sweep.ensures.words.buckets c.sweep.ensures.map c.self.invariant

@@ -2,7 +2,7 @@ use Rattle.std.proofs.Common.{◌≡◌, ◌<◌, Some, Ok, Err, refl, sym, ap, 
 use Rattle.std.proofs.lemmas.Bool.{false≢true}
 use Rattle.fkv_functions.proofs.KeyOrder.{key_order}
 use Rattle.fkv_index.specs.Places.{word_at}
-use Rattle.fkv_lookups.specs.Traced.{IsTraced, IsStood}
+use Rattle.fkv_lookups.specs.Traced.{IsTraced, IsResolved}
 use Rattle.fkv_partition.specs.declared.relocations.Stage.TheVariants.{Fresh, Ready}
 use Rattle.fkv_partition.specs.Views.{PartitionView, with_appended, relocation_at, at_stage, with_relocation, cleared_past}
 use Rattle.fkv_partition.specs.Stages.{StageStands}
@@ -31,14 +31,14 @@ returns-then-not-holds-clause-moment g c = has-come c.set_stage.ensures refl
 
 pub append-requires-clause-unclaimed : goal.append-requires-clause-unclaimed
 append-requires-clause-unclaimed g c =
-    (unclaimed g.F.Key.Ord.cmp g.F.Mergeable.parts.joined g.F.Functions.code c.args.self.now c.known.ensures.compacting c.args.slot c.args.context c.args.now c.args.relocation.now c.requires.here)
+    (unclaimed g.F.Key.Ord.cmp g.F.Mergeable.parts.joined g.F.Functions.code c.args.self.now c.facts.ensures.compacting c.args.slot c.args.context c.args.now c.args.relocation.now c.requires.here)
 
 pub append-requires-clause-write : goal.append-requires-clause-write
 append-requires-clause-write g c =
     let v = c.args.self.now in
     let words = ap (λ r. word_at r.words c.args.kept.place) c.records.ensures in
     let holds = sym words ∙ c.holds.ensures.0 c.if-not-holds.false in
-    (writes-again g.F.Key.Ord.cmp g.F.Mergeable.parts.joined g.F.Functions.code v c.known.ensures.compacting c.args.slot c.args.context c.args.now c.args.relocation.now c.requires.here c.known.ensures.sound c.args.entry c.args.kept c.requires.stands holds)
+    (writes-again g.F.Key.Ord.cmp g.F.Mergeable.parts.joined g.F.Functions.code v c.facts.ensures.compacting c.args.slot c.args.context c.args.now c.args.relocation.now c.requires.here c.facts.ensures.sound c.args.entry c.args.kept c.requires.stands holds)
 
 pub set_stage-requires-in-Ok-None-clause-here : goal.set_stage-requires-in-Ok-None-clause-here
 set_stage-requires-in-Ok-None-clause-here g c =
@@ -55,8 +55,8 @@ set_stage-requires-in-Ok-None-clause-stands g c =
 pub clear_to-requires : goal.clear_to-requires
 clear_to-requires g c =
     let ord = g.met.F.Key.Ord in
-    let known = g.met.F.Key.FixedKey in
-    let order = key_order g.F.Key.PartialEq.eq g.F.Key.Ord.cmp ord.matches_eq known.exact ord.total in
+    let facts = g.met.F.Key.FixedKey in
+    let order = key_order g.F.Key.PartialEq.eq g.F.Key.Ord.cmp ord.matches_eq facts.exact ord.total in
     let keeps = g.R.Receipt.keeps in
     let cmp = g.F.Key.Ord.cmp in
     let join = g.F.Mergeable.parts.joined in
@@ -65,19 +65,19 @@ clear_to-requires g c =
     let e = c.args.entry in
     let kept = c.args.kept in
     let ins = c.args.self.now in
-    let compacting = c.known.ensures.compacting in
-    let sound = c.known.ensures.sound in
+    let compacting = c.facts.ensures.compacting in
+    let sound = c.facts.ensures.sound in
     let words = ap (λ r. word_at r.words kept.place) c.records.ensures in
     let holds = sym words ∙ c.holds.ensures.0 c.if-not-holds.false in
     let made = some-at c.in-Ok-Some.field-0-is c.in-Ok-Some.ensures.ok in
     let appended = with_appended ins c.args.slot c.args.context kept e.key e.value c.args.now in
-    let traced = subst (λ q. IsTraced keeps code q.records) made c.known-in-Ok-Some.ensures.sound.traced in
-    let stood = subst (λ q. IsStood cmp join q.records) made c.known-in-Ok-Some.ensures.sound.stood in
-    let one = subst (λ q. IsCompacting keeps cmp join code q) made c.known-in-Ok-Some.ensures.compacting in
+    let traced = subst (λ q. IsTraced keeps code q.records) made c.facts-in-Ok-Some.ensures.sound.traced in
+    let resolved = subst (λ q. IsResolved cmp join q.records) made c.facts-in-Ok-Some.ensures.sound.resolved in
+    let one = subst (λ q. IsCompacting keeps cmp join code q) made c.facts-in-Ok-Some.ensures.compacting in
     let was = stands-here ins c.args.slot c.args.context x c.requires.here compacting in
     let low = frozen-low appended.records x.target traced was.frozen in
     let rises = rises-past keeps cmp join code appended x.target one traced was.issued was.place low
-    (λ yes_keeps clear. c.cleared_stay.ensures.raised keeps cmp join code appended.records x.target traced stood was.place low clear
+    (λ yes_keeps clear. c.cleared_stay.ensures.raised keeps cmp join code appended.records x.target traced resolved was.place low clear
     (superseded-again cmp join code ins compacting c.args.slot c.args.context c.args.now x c.requires.here sound e kept c.requires.stands holds order yes_keeps)) in
     rw c.past-cleared.ensures (record { clears = subst (λ q. MayClear keeps cmp q (cleared_past ins x.target)) (sym made) rises })
 
@@ -143,8 +143,8 @@ returns-in-Ok-Some-clause-effect g c =
 pub returns-in-Ok-Some-clause-event : goal.returns-in-Ok-Some-clause-event
 returns-in-Ok-Some-clause-event g c =
     let ord = g.met.F.Key.Ord in
-    let known = g.met.F.Key.FixedKey in
-    let order = key_order g.F.Key.PartialEq.eq g.F.Key.Ord.cmp ord.matches_eq known.exact ord.total in
+    let facts = g.met.F.Key.FixedKey in
+    let order = key_order g.F.Key.PartialEq.eq g.F.Key.Ord.cmp ord.matches_eq facts.exact ord.total in
     let x = c.args.relocation.now in
     let kept = c.args.kept in
     let v = c.args.self.now in
@@ -154,7 +154,7 @@ returns-in-Ok-Some-clause-event g c =
     let new = c.clear_to.ensures ∙ ap (λ (q : PartitionView _ _ _). record q { cleared = c.past-cleared.result }) made
     ∙ ap (λ n. record (with_appended c.args.self.now c.args.slot c.args.context c.args.kept c.args.entry.key c.args.entry.value c.args.now) { cleared = n }) c.past-cleared.ensures in
     subst (λ u. IsRelocating g.R.Receipt.keeps g.F.Key.Ord.cmp v u c.args.slot c.args.context c.args.now) (sym new)
-    (event-again g.F.Key.Ord.cmp g.F.Mergeable.parts.joined g.F.Functions.code v c.known.ensures.compacting c.args.slot c.args.context c.args.now x c.requires.here c.known.ensures.sound c.args.entry kept c.requires.stands holds order)
+    (event-again g.F.Key.Ord.cmp g.F.Mergeable.parts.joined g.F.Functions.code v c.facts.ensures.compacting c.args.slot c.args.context c.args.now x c.requires.here c.facts.ensures.sound c.args.entry kept c.requires.stands holds order)
 
 pub returns-in-Ok-Some-clause-cleared : goal.returns-in-Ok-Some-clause-cleared
 returns-in-Ok-Some-clause-cleared g c =
@@ -163,7 +163,7 @@ returns-in-Ok-Some-clause-cleared g c =
     let made = some-at c.in-Ok-Some.field-0-is c.in-Ok-Some.ensures.ok in
     let new = c.clear_to.ensures ∙ ap (λ (q : PartitionView _ _ _). record q { cleared = c.past-cleared.result }) made
     ∙ ap (λ n. record (with_appended c.args.self.now c.args.slot c.args.context c.args.kept c.args.entry.key c.args.entry.value c.args.now) { cleared = n }) c.past-cleared.ensures in
-    λ is. subst (λ u. x.target < u.cleared) (sym new) (past-place v x.target c.known.ensures.sound.traced (stands-here v c.args.slot c.args.context x c.requires.here c.known.ensures.compacting).place).1
+    λ is. subst (λ u. x.target < u.cleared) (sym new) (past-place v x.target c.facts.ensures.sound.traced (stands-here v c.args.slot c.args.context x c.requires.here c.facts.ensures.compacting).place).1
 
 pub returns-in-Ok-Some-clause-moment : goal.returns-in-Ok-Some-clause-moment
 returns-in-Ok-Some-clause-moment g c =

@@ -53,17 +53,17 @@ returns-in_default-clause-effect g c =
 pub returns-in_default-clause-event : goal.returns-in_default-clause-event
 returns-in_default-clause-event g c = λ keeps.
     let ord = g.met.F.Key.Ord in
-    let known = g.met.F.Key.FixedKey in
-    let order = key_order g.F.Key.PartialEq.eq g.F.Key.Ord.cmp ord.matches_eq known.exact ord.total in
+    let facts = g.met.F.Key.FixedKey in
+    let order = key_order g.F.Key.PartialEq.eq g.F.Key.Ord.cmp ord.matches_eq facts.exact ord.total in
     let a = c.requires.asks in
     let v = c.args.self.now in
     let ask = c.args.built in
     let kept = c.args.kept in
-    let entry = kept-entry g.F.Key.Ord.cmp g.F.Mergeable.parts.joined g.F.Functions.code v c.known.ensures.sound c.args.slot c.args.context a.operation kept ask a.here a.question c.requires.stands in
-    let leads = c.entries_lead.ensures.found g.R.Receipt.keeps g.F.Functions.code v.records (class_in g.F.Functions.code v.records ask.key) kept c.known.ensures.sound.traced entry in
-    let newest = c.entries_lead.ensures.held g.F.Key.Ord.cmp g.R.Receipt.keeps g.F.Functions.code v.records ask.key (address_of kept.word) order c.known.ensures.sound.traced leads in
+    let entry = kept-entry g.F.Key.Ord.cmp g.F.Mergeable.parts.joined g.F.Functions.code v c.facts.ensures.sound c.args.slot c.args.context a.operation kept ask a.here a.question c.requires.stands in
+    let leads = c.entries_lead.ensures.found g.R.Receipt.keeps g.F.Functions.code v.records (class_in g.F.Functions.code v.records ask.key) kept c.facts.ensures.sound.traced entry in
+    let newest = c.entries_lead.ensures.held g.F.Key.Ord.cmp g.R.Receipt.keeps g.F.Functions.code v.records ask.key (address_of kept.word) order c.facts.ensures.sound.traced leads in
     rw c.free.ensures
-    (event-declined g.F.Key.Ord.cmp g.F.Mergeable.parts.joined g.F.Functions.meaning g.F.Functions.code v c.args.slot c.args.context c.args.now a.operation a.here keeps c.known.ensures.sound kept ask a.question c.requires.stands newest (sym c.in_default.ensures))
+    (event-declined g.F.Key.Ord.cmp g.F.Mergeable.parts.joined g.F.Functions.meaning g.F.Functions.code v c.args.slot c.args.context c.args.now a.operation a.here keeps c.facts.ensures.sound kept ask a.question c.requires.stands newest (sym c.in_default.ensures))
 
 pub append-requires-clause-unclaimed : goal.append-requires-clause-unclaimed
 append-requires-clause-unclaimed g c =
@@ -77,8 +77,8 @@ append-requires-clause-write g c =
     let asked = question-of x.number x.op x.phase c.args.kept c.args.built a.question in
     let v = c.args.self.now in
     rw c.ask-ask.ensures (record {
-      own = ap (λ k. partition_of v.count (g.F.Functions.code k)) (ap key_of (sym asked.op_is)) ∙ own-at g.F.Key.Ord.cmp g.F.Mergeable.parts.joined g.F.Functions.code v c.known.ensures.sound c.args.slot c.args.context x a.here;
-      entry = kept-entry g.F.Key.Ord.cmp g.F.Mergeable.parts.joined g.F.Functions.code v c.known.ensures.sound c.args.slot c.args.context x c.args.kept c.args.built a.here a.question c.requires.stands;
+      own = ap (λ k. partition_of v.count (g.F.Functions.code k)) (ap key_of (sym asked.op_is)) ∙ own-at g.F.Key.Ord.cmp g.F.Mergeable.parts.joined g.F.Functions.code v c.facts.ensures.sound c.args.slot c.args.context x a.here;
+      entry = kept-entry g.F.Key.Ord.cmp g.F.Mergeable.parts.joined g.F.Functions.code v c.facts.ensures.sound c.args.slot c.args.context x c.args.kept c.args.built a.here a.question c.requires.stands;
     })
 
 pub returns-in-Err-clause-effect : goal.returns-in-Err-clause-effect
@@ -110,17 +110,17 @@ returns-in-Ok-Some-clause-effect g c =
 pub returns-in-Ok-Some-clause-event : goal.returns-in-Ok-Some-clause-event
 returns-in-Ok-Some-clause-event g c = λ keeps.
     let ord = g.met.F.Key.Ord in
-    let known = g.met.F.Key.FixedKey in
-    let order = key_order g.F.Key.PartialEq.eq g.F.Key.Ord.cmp ord.matches_eq known.exact ord.total in
+    let facts = g.met.F.Key.FixedKey in
+    let order = key_order g.F.Key.PartialEq.eq g.F.Key.Ord.cmp ord.matches_eq facts.exact ord.total in
     let a = c.requires.asks in
     let v = c.args.self.now in
     let ask = c.args.built in
     let kept = c.args.kept in
-    let entry = kept-entry g.F.Key.Ord.cmp g.F.Mergeable.parts.joined g.F.Functions.code v c.known.ensures.sound c.args.slot c.args.context a.operation kept ask a.here a.question c.requires.stands in
-    let leads = c.entries_lead.ensures.found g.R.Receipt.keeps g.F.Functions.code v.records (class_in g.F.Functions.code v.records ask.key) kept c.known.ensures.sound.traced entry in
-    let newest = c.entries_lead.ensures.held g.F.Key.Ord.cmp g.R.Receipt.keeps g.F.Functions.code v.records ask.key (address_of kept.word) order c.known.ensures.sound.traced leads in
+    let entry = kept-entry g.F.Key.Ord.cmp g.F.Mergeable.parts.joined g.F.Functions.code v c.facts.ensures.sound c.args.slot c.args.context a.operation kept ask a.here a.question c.requires.stands in
+    let leads = c.entries_lead.ensures.found g.R.Receipt.keeps g.F.Functions.code v.records (class_in g.F.Functions.code v.records ask.key) kept c.facts.ensures.sound.traced entry in
+    let newest = c.entries_lead.ensures.held g.F.Key.Ord.cmp g.R.Receipt.keeps g.F.Functions.code v.records ask.key (address_of kept.word) order c.facts.ensures.sound.traced leads in
     built-event g.F.Key.Ord.cmp g.F.Mergeable.parts.joined g.F.Functions.meaning g.F.Functions.code v c.append.new.self c.args.slot c.args.context c.args.now kept ask c.ask-ask.result c.in-Some.value c.read-shown.result c.ask-ask.ensures (appended-of _ _ c.in-Ok-Some.field-0-is c.in-Ok-Some.ensures.ok) c.read-shown.ensures
-    (event-done g.F.Key.Ord.cmp g.F.Mergeable.parts.joined g.F.Functions.meaning g.F.Functions.code v c.args.slot c.args.context c.args.now a.operation a.here keeps c.known.ensures.sound kept ask c.in-Some.value a.question c.requires.stands newest (sym c.in-Some.ensures)
+    (event-done g.F.Key.Ord.cmp g.F.Mergeable.parts.joined g.F.Functions.meaning g.F.Functions.code v c.args.slot c.args.context c.args.now a.operation a.here keeps c.facts.ensures.sound kept ask c.in-Some.value a.question c.requires.stands newest (sym c.in-Some.ensures)
     (λ value. c.records_grow.ensures.lives g.F.Key.Ord.cmp v.records kept ask.key (Whole value) value))
 
 pub returns-in_default-clause-moment : goal.returns-in_default-clause-moment

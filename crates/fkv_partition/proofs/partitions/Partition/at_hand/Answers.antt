@@ -11,7 +11,7 @@ use Rattle.fkv_texts.specs.declared.entries.ChainPosition.TheVariants.{Found, Be
 use Rattle.fkv_lookups.specs.Decisions.{low_of}
 use Rattle.fkv_lookups.specs.Lookups.{newest_above, looked_up, StartsAt}
 use Rattle.fkv_lookups.specs.RecordsViews.{RecordsView, class_in, entry_of}
-use Rattle.fkv_lookups.specs.Traced.{IsTraced, IsStood}
+use Rattle.fkv_lookups.specs.Traced.{IsTraced, IsResolved}
 use Rattle.fkv_lookups.specs.declared.decisions.LookupResult.TheVariants.{Mutable}
 use Rattle.fkv_partition.specs.Contexts.{is_session}
 use Rattle.fkv_partition.specs.KeySound.{IsSound}
@@ -24,9 +24,9 @@ some-none x h = cc
 
 -- what is met as mutable is the record that is read first
 module _ {K V I : Type 0} {keeps : Bool} (cmp : K → K → Ordering) (join : V → V → V) (code : K → ℕ) (v : PartitionView K V I) (slot : ℕ) (k : K) (first : ChainPosition K V) (order : IsKeyOrder cmp) (s : IsSound keeps cmp join code v) (entered : is_session (slots_of v) slot ≡ true) (read : first ≡ newest_in_memory cmp code v slot k (entry_for code v k))
-    (firsts : (keeps : Bool) (cmp : K → K → Ordering) (join : V → V → V) (code : K → ℕ) (v : RecordsView K V) (k : K) (low a : ℕ) → IsKeyOrder cmp → IsTraced keeps code v → IsStood cmp join v → entry_of v (class_in code v k) ≡ Some a → v.log.from ≤ low → StartsAt (newest_above cmp code v low k a) (looked_up cmp join code v low k a)) where
+    (firsts : (keeps : Bool) (cmp : K → K → Ordering) (join : V → V → V) (code : K → ℕ) (v : RecordsView K V) (k : K) (low a : ℕ) → IsKeyOrder cmp → IsTraced keeps code v → IsResolved cmp join v → entry_of v (class_in code v k) ≡ Some a → v.log.from ≤ low → StartsAt (newest_above cmp code v low k a) (looked_up cmp join code v low k a)) where
   tells-here : (a : ℕ) → entry_for code v k ≡ Some a → StartsAt (newest_above cmp code v.records (low_of v.records.log.begin (seen_at v slot)) k a) (looked_up cmp join code v.records (low_of v.records.log.begin (seen_at v slot)) k a)
-  tells-here a entry = firsts keeps cmp join code v.records k (low_of v.records.log.begin (seen_at v slot)) a order s.traced s.stood entry (seen-begun v slot s.traced entered)
+  tells-here a entry = firsts keeps cmp join code v.records k (low_of v.records.log.begin (seen_at v slot)) a order s.traced s.resolved entry (seen-begun v slot s.traced entered)
 
   none-below : (b : ℕ) → first ≡ Below b → (held : V) → met_at cmp join code v slot k ≡ Mutable held → ⊥
   none-below b is held met =
@@ -66,30 +66,30 @@ newest_in_memory-requires-clause-entry g c = c.entry_address-entry.ensures
 pub returns-in_default-clause-none : goal.returns-in_default-clause-none
 returns-in_default-clause-none g c = λ none.
     let ord = g.met.F.Key.Ord in
-    let known = g.met.F.Key.FixedKey in
-    let order = key_order g.F.Key.PartialEq.eq g.F.Key.Ord.cmp ord.matches_eq known.exact ord.total in
-    none-below g.F.Key.Ord.cmp g.F.Mergeable.parts.joined g.F.Functions.code c.args.self.now c.args.slot c.args.key.now c.newest_in_memory.result order c.known.ensures.sound c.requires c.newest_in_memory.ensures c.lookups_tell.ensures.first _ c.in_default.is
+    let facts = g.met.F.Key.FixedKey in
+    let order = key_order g.F.Key.PartialEq.eq g.F.Key.Ord.cmp ord.matches_eq facts.exact ord.total in
+    none-below g.F.Key.Ord.cmp g.F.Mergeable.parts.joined g.F.Functions.code c.args.self.now c.args.slot c.args.key.now c.newest_in_memory.result order c.facts.ensures.sound c.requires c.newest_in_memory.ensures c.lookups_tell.ensures.first _ c.in_default.is
 
 pub returns-then-last-clause-none : goal.returns-then-last-clause-none
 returns-then-last-clause-none g c = λ none.
     let ord = g.met.F.Key.Ord in
-    let known = g.met.F.Key.FixedKey in
-    let order = key_order g.F.Key.PartialEq.eq g.F.Key.Ord.cmp ord.matches_eq known.exact ord.total in
-    none-delta g.F.Key.Ord.cmp g.F.Mergeable.parts.joined g.F.Functions.code c.args.self.now c.args.slot c.args.key.now c.newest_in_memory.result order c.known.ensures.sound c.requires c.newest_in_memory.ensures c.lookups_tell.ensures.first c.in-Found.last c.in-Found.is c.if-last.true
+    let facts = g.met.F.Key.FixedKey in
+    let order = key_order g.F.Key.PartialEq.eq g.F.Key.Ord.cmp ord.matches_eq facts.exact ord.total in
+    none-delta g.F.Key.Ord.cmp g.F.Mergeable.parts.joined g.F.Functions.code c.args.self.now c.args.slot c.args.key.now c.newest_in_memory.result order c.facts.ensures.sound c.requires c.newest_in_memory.ensures c.lookups_tell.ensures.first c.in-Found.last c.in-Found.is c.if-last.true
 
 pub returns-in_default-value-clause-none : goal.returns-in_default-value-clause-none
 returns-in_default-value-clause-none g c = λ none.
     let ord = g.met.F.Key.Ord in
-    let known = g.met.F.Key.FixedKey in
-    let order = key_order g.F.Key.PartialEq.eq g.F.Key.Ord.cmp ord.matches_eq known.exact ord.total in
-    none-value g.F.Key.Ord.cmp g.F.Mergeable.parts.joined g.F.Functions.code c.args.self.now c.args.slot c.args.key.now c.newest_in_memory.result order c.known.ensures.sound c.requires c.newest_in_memory.ensures c.lookups_tell.ensures.first c.in-Found.last c.in-Found.is c.in_default-value.is
+    let facts = g.met.F.Key.FixedKey in
+    let order = key_order g.F.Key.PartialEq.eq g.F.Key.Ord.cmp ord.matches_eq facts.exact ord.total in
+    none-value g.F.Key.Ord.cmp g.F.Mergeable.parts.joined g.F.Functions.code c.args.self.now c.args.slot c.args.key.now c.newest_in_memory.result order c.facts.ensures.sound c.requires c.newest_in_memory.ensures c.lookups_tell.ensures.first c.in-Found.last c.in-Found.is c.in_default-value.is
 
 pub returns-then-not-is_mutable-clause-none : goal.returns-then-not-is_mutable-clause-none
 returns-then-not-is_mutable-clause-none g c = λ none.
     let ord = g.met.F.Key.Ord in
-    let known = g.met.F.Key.FixedKey in
-    let order = key_order g.F.Key.PartialEq.eq g.F.Key.Ord.cmp ord.matches_eq known.exact ord.total in
-    none-mutable g.F.Key.Ord.cmp g.F.Mergeable.parts.joined g.F.Functions.code c.args.self.now c.args.slot c.args.key.now c.newest_in_memory.result order c.known.ensures.sound c.requires c.newest_in_memory.ensures c.lookups_tell.ensures.first c.in-Found.last c.in-Found.is
+    let facts = g.met.F.Key.FixedKey in
+    let order = key_order g.F.Key.PartialEq.eq g.F.Key.Ord.cmp ord.matches_eq facts.exact ord.total in
+    none-mutable g.F.Key.Ord.cmp g.F.Mergeable.parts.joined g.F.Functions.code c.args.self.now c.args.slot c.args.key.now c.newest_in_memory.result order c.facts.ensures.sound c.requires c.newest_in_memory.ensures c.lookups_tell.ensures.first c.in-Found.last c.in-Found.is
     c.view.result (c.view.ensures.value ∙ ap (λ u. seen_at u c.args.slot) c.self.view_is) c.is_mutable.result c.is_mutable.ensures c.if-not-is_mutable.true
 
 pub returns-clause-first : goal.returns-clause-first
@@ -101,9 +101,9 @@ returns-clause-whole g c = c.if-last.false
 pub returns-clause-met : goal.returns-clause-met
 returns-clause-met g c =
     let ord = g.met.F.Key.Ord in
-    let known = g.met.F.Key.FixedKey in
-    let order = key_order g.F.Key.PartialEq.eq g.F.Key.Ord.cmp ord.matches_eq known.exact ord.total in
-    is-mutable g.F.Key.Ord.cmp g.F.Mergeable.parts.joined g.F.Functions.code c.args.self.now c.args.slot c.args.key.now c.newest_in_memory.result order c.known.ensures.sound c.requires c.newest_in_memory.ensures c.lookups_tell.ensures.first c.in-Found.last c.in-Found.is
+    let facts = g.met.F.Key.FixedKey in
+    let order = key_order g.F.Key.PartialEq.eq g.F.Key.Ord.cmp ord.matches_eq facts.exact ord.total in
+    is-mutable g.F.Key.Ord.cmp g.F.Mergeable.parts.joined g.F.Functions.code c.args.self.now c.args.slot c.args.key.now c.newest_in_memory.result order c.facts.ensures.sound c.requires c.newest_in_memory.ensures c.lookups_tell.ensures.first c.in-Found.last c.in-Found.is
     c.view.result (c.view.ensures.value ∙ ap (λ u. seen_at u c.args.slot) c.self.view_is) c.is_mutable.result c.is_mutable.ensures c.if-not-is_mutable.false c.if-last.false c.in-Some.held c.in-Some.is
 
 pub returns-clause-none : goal.returns-clause-none

@@ -8,7 +8,7 @@ use Rattle.fkv_partition.specs.Contexts.{context_in, on_key, at_phase}
 use Rattle.fkv_partition.specs.Inside.{view_of}
 use Rattle.fkv_partition.proofs.ChangeLemmas.{sound-claims}
 use Rattle.fkv_partition.proofs.AskedLemmas.{key_at}
-use Rattle.fkv_partition.proofs.WholeLemmas.{whole-records, set-stood, key-moves}
+use Rattle.fkv_partition.proofs.WholeLemmas.{whole-records, set-resolved, key-moves}
 use Rattle.fkv_partition.proofs.PreservedLemmas.{borne-claimed}
 use Rattle.fkv_partition.specs.declared.contexts.Phase.TheVariants.{Confirm}
 use Rattle.fkv_partition.specs.declared.contexts.OpenWork.TheVariants.{OnKey}
@@ -26,10 +26,10 @@ invariant_of-self-2 g c =
     rw (c.move_on.ensures)
     (whole-records v c.self.invariant c.claim.new.self contexts c.args.now
     (sound-claims g.F.Key.Ord.cmp g.F.Mergeable.parts.joined g.F.Functions.code (view_of g.F.Mergeable.MERGES c.self.inside.number c.self.inside.count c.self.inside.records c.self.inside.contexts.items c.self.inside.moment c.self.inside.cleared) c.self.invariant.sound c.args.slot c.args.context c.args.now x at
-    c.claim.new.self c.args.class c.in-Ok.place c.requires.unclaimed (rw (← c.self.view_is) at c.requires.class) made.ok made.changes made.free made.bucket made.word made.taken c.known.ensures.traced c.known.ensures.stood)
+    c.claim.new.self c.args.class c.in-Ok.place c.requires.unclaimed (rw (← c.self.view_is) at c.requires.class) made.ok made.changes made.free made.bucket made.word made.taken c.facts.ensures.traced c.facts.ensures.resolved)
     (borne-claimed g.F.Key.Ord.cmp g.F.Mergeable.parts.joined g.F.Functions.code v c.self.invariant.sound (record v { records = c.claim.new.self; contexts = contexts; moment = c.args.now }) c.args.slot c.args.context c.args.now x
     (record { place = c.in-Ok.place; records = c.claim.new.self; claims = claims; is = refl }))
-    (ap (λ r. r.log.begin) claims.is) (set-stood v.contexts (c.args.slot * 8 + c.args.context) (Some (OnKey y)) (key-moves y)))
+    (ap (λ r. r.log.begin) claims.is) (set-resolved v.contexts (c.args.slot * 8 + c.args.context) (Some (OnKey y)) (key-moves y)))
 
 pub returns-clause-ok : goal.returns-clause-ok
 returns-clause-ok g c =

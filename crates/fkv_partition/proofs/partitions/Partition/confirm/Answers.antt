@@ -5,7 +5,7 @@ use Rattle.fkv_partition.specs.Inside.{view_of}
 use Rattle.fkv_functions.proofs.CallLemmas.{with_six}
 use Rattle.fkv_partition.proofs.ChangeLemmas.{is-tentative, settled-made, sound-settles, reworded-by}
 use Rattle.fkv_partition.proofs.AskedLemmas.{key_at}
-use Rattle.fkv_partition.proofs.WholeLemmas.{whole-settled, set-stood, key-moves}
+use Rattle.fkv_partition.proofs.WholeLemmas.{whole-settled, set-resolved, key-moves}
 use Rattle.fkv_partition.specs.declared.contexts.Phase.TheVariants.{Fresh}
 use Rattle.fkv_partition.specs.declared.contexts.OpenWork.TheVariants.{OnKey}
 use Rattle.fkv_partition.proofs.partitions.Partition.confirm.Goals as goal
@@ -30,8 +30,8 @@ invariant_of-self g c =
     (whole-settled v c.self.invariant c.args.slot c.args.context c.args.now x at c.args.place c.requires.phase c.confirm-is_final.new.self contexts c.confirm-is_final.result made.confirmed made.emptied
     (sound-settles g.F.Key.Ord.cmp g.F.Mergeable.parts.joined g.F.Functions.code (view_of g.F.Mergeable.MERGES c.self.inside.number c.self.inside.count c.self.inside.records c.self.inside.contexts.items c.self.inside.moment c.self.inside.cleared) c.self.invariant.sound c.args.slot c.args.context c.args.now x at
     c.confirm-is_final.new.self c.args.place c.requires.phase (reworded-by c.self.inside.records c.confirm-is_final.new.self c.args.place c.confirm-is_final.result made.confirmed made.emptied) made.changes made.freed
-    (settled-made c.self.inside.records c.confirm-is_final.new.self c.args.place is c.confirm-is_final.result made.confirmed made.emptied) c.known.ensures.traced c.known.ensures.stood)
-    (set-stood v.contexts (c.args.slot * 8 + c.args.context) (Some (OnKey y)) (key-moves y)))
+    (settled-made c.self.inside.records c.confirm-is_final.new.self c.args.place is c.confirm-is_final.result made.confirmed made.emptied) c.facts.ensures.traced c.facts.ensures.resolved)
+    (set-resolved v.contexts (c.args.slot * 8 + c.args.context) (Some (OnKey y)) (key-moves y)))
 
 pub returns-clause-alone : goal.returns-clause-alone
 returns-clause-alone g c = rw (← c.self.view_is) c.confirm-is_final.ensures.alone

@@ -6,7 +6,7 @@ use Rattle.fkv_functions.proofs.KeyOrder.{key_order}
 use Rattle.fkv_records.specs.Places.{start_at}
 use Rattle.fkv_lookups.specs.RecordsViews.{RecordsView}
 use Rattle.fkv_hybrid.specs.Views.{IsTruncationDue}
-use Rattle.fkv_lookups.specs.Traced.{IsTraced, IsStood}
+use Rattle.fkv_lookups.specs.Traced.{IsTraced, IsResolved}
 use Rattle.fkv_texts.specs.Deltas.{IsCleared}
 use Rattle.fkv_partition.specs.Inside.{view_of}
 use Rattle.fkv_partition.specs.KeySound.{IsSound}
@@ -26,10 +26,10 @@ truncate-refused keeps inside v new page now why same stays ok only =
 pub invariant_of-self-2 : goal.invariant_of-self-2
 invariant_of-self-2 g c =
     let ord = g.met.F.Key.Ord in
-    let known = g.met.F.Key.FixedKey in
+    let facts = g.met.F.Key.FixedKey in
     let cmp = g.F.Key.Ord.cmp in
     let join = g.F.Mergeable.parts.joined in
-    let order = key_order g.F.Key.PartialEq.eq cmp ord.matches_eq known.exact ord.total in
+    let order = key_order g.F.Key.PartialEq.eq cmp ord.matches_eq facts.exact ord.total in
     let r = c.self.inside.records in
     let v = view_of g.F.Mergeable.MERGES c.self.inside.number c.self.inside.count r c.self.inside.contexts.items c.self.inside.moment c.self.inside.cleared in
     let low = start_at r.log.bits c.args.page in
@@ -42,10 +42,10 @@ invariant_of-self-2 g c =
     (subst (λ (w : RecordsView _ _). IsSound g.R.Receipt.keeps cmp join g.F.Functions.code (record v { records = w; moment = c.args.now })) (sym made.effect)
     (sound-truncated cmp join g.F.Functions.code order v c.self.invariant.sound low c.args.now due.higher
     cleared c.truncate.new.self.text
-    (subst (IsTraced g.R.Receipt.keeps g.F.Functions.code) made.effect c.known.ensures.traced)
-    (subst (IsStood cmp join) made.effect c.known.ensures.stood)))
+    (subst (IsTraced g.R.Receipt.keeps g.F.Functions.code) made.effect c.facts.ensures.traced)
+    (subst (IsResolved cmp join) made.effect c.facts.ensures.resolved)))
     (truncates-bear cmp join g.F.Functions.code v c.self.invariant.sound new c.args.page c.args.now (Ok tt) order (λ yes_keeps at. cleared yes_keeps)
-    (λ from limit clear. c.cleared_stay.ensures.dropped cmp r from limit clear) c.known.ensures.traced c.known.ensures.stood
+    (λ from limit clear. c.cleared_stay.ensures.dropped cmp r from limit clear) c.facts.ensures.traced c.facts.ensures.resolved
     (truncates due (ap (λ (w : RecordsView _ _). record v { records = w; moment = c.args.now }) made.effect) refl))
     refl refl refl (subst (λ (w : RecordsView _ _). w.log.begin ≤ v.cleared) (sym made.effect) below) (λ i x h. h)
 
@@ -59,10 +59,10 @@ returns-clause-effect g c =
 pub returns-clause-event : goal.returns-clause-event
 returns-clause-event g c =
     let ord = g.met.F.Key.Ord in
-    let known = g.met.F.Key.FixedKey in
+    let facts = g.met.F.Key.FixedKey in
     let cmp = g.F.Key.Ord.cmp in
     let join = g.F.Mergeable.parts.joined in
-    let order = key_order g.F.Key.PartialEq.eq cmp ord.matches_eq known.exact ord.total in
+    let order = key_order g.F.Key.PartialEq.eq cmp ord.matches_eq facts.exact ord.total in
     let r = c.self.inside.records in
     let v = view_of g.F.Mergeable.MERGES c.self.inside.number c.self.inside.count r c.self.inside.contexts.items c.self.inside.moment c.self.inside.cleared in
     let low = start_at r.log.bits c.args.page in
@@ -73,8 +73,8 @@ returns-clause-event g c =
     (subst (λ (w : RecordsView _ _). IsTruncation g.R.Receipt.keeps cmp v (record v { records = w; moment = c.args.now }) c.args.page c.args.now) (sym made.effect)
     (event-truncated cmp join g.F.Functions.code order v c.self.invariant.sound low c.args.now due.higher
     (λ yes_keeps. cleared-below cmp r.log.text low v.cleared below (c.self.invariant.compacting.cleared yes_keeps)) c.truncate.new.self.text
-    (subst (IsTraced g.R.Receipt.keeps g.F.Functions.code) made.effect c.known.ensures.traced)
-    (subst (IsStood cmp join) made.effect c.known.ensures.stood) c.args.page refl))
+    (subst (IsTraced g.R.Receipt.keeps g.F.Functions.code) made.effect c.facts.ensures.traced)
+    (subst (IsResolved cmp join) made.effect c.facts.ensures.resolved) c.args.page refl))
 
 pub invariant_of-self : goal.invariant_of-self
 invariant_of-self g c = rw c.in-Err.ensures.unchanged c.self.invariant

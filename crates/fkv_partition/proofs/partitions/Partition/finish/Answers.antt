@@ -27,6 +27,6 @@ invariant_of-self g c =
       sound = sound-cleared (sound-freed sound c.args.slot c.args.context c.args.now unclaimed) (cleared_past v c.args.place);
       compacting = keep-changed keeps cmp join code v (c.args.slot * 8 + c.args.context) c.args.now (cleared_past v c.args.place) None c.self.invariant.compacting
           (rises-past keeps cmp join code v c.args.place c.self.invariant.compacting sound.traced (rw (← c.self.view_is) at c.requires.issued) place low
-          (λ yes_keeps clear. c.cleared_stay.ensures.raised keeps cmp join code r c.args.place sound.traced sound.stood place low clear ((rw (← c.self.view_is) at c.requires.superseded) yes_keeps)))
+          (λ yes_keeps clear. c.cleared_stay.ensures.raised keeps cmp join code r c.args.place sound.traced sound.resolved place low clear ((rw (← c.self.view_is) at c.requires.superseded) yes_keeps)))
           (λ x e. none-moves x e);
     })

@@ -32,81 +32,81 @@ finish-requires-clause-issued g c =
     let v = c.args.self.now in
     let x = c.args.relocation.now in
     let e = c.args.entry in
-    (stands-here v c.args.slot c.args.context x c.requires.here c.known.ensures.compacting).issued
+    (stands-here v c.args.slot c.args.context x c.requires.here c.facts.ensures.compacting).issued
 
 pub finish-requires-clause-place : goal.finish-requires-clause-place
 finish-requires-clause-place g c =
     let v = c.args.self.now in
     let x = c.args.relocation.now in
     let e = c.args.entry in
-    (stands-here v c.args.slot c.args.context x c.requires.here c.known.ensures.compacting).place
+    (stands-here v c.args.slot c.args.context x c.requires.here c.facts.ensures.compacting).place
 
 pub finish-requires-clause-low : goal.finish-requires-clause-low
 finish-requires-clause-low g c =
     let v = c.args.self.now in
     let x = c.args.relocation.now in
     let e = c.args.entry in
-    low-here v c.args.slot c.args.context x c.requires.here c.known.ensures.compacting c.known.ensures.sound.traced
+    low-here v c.args.slot c.args.context x c.requires.here c.facts.ensures.compacting c.facts.ensures.sound.traced
 
 pub finish-requires-clause-superseded : goal.finish-requires-clause-superseded
 finish-requires-clause-superseded g c =
     let ord = g.met.F.Key.Ord in
-    let known = g.met.F.Key.FixedKey in
-    let order = key_order g.F.Key.PartialEq.eq g.F.Key.Ord.cmp ord.matches_eq known.exact ord.total in
+    let facts = g.met.F.Key.FixedKey in
+    let order = key_order g.F.Key.PartialEq.eq g.F.Key.Ord.cmp ord.matches_eq facts.exact ord.total in
     let v = c.args.self.now in
     let x = c.args.relocation.now in
     let e = c.args.entry in
     let so = told-so g.F.Key.Ord.cmp g.F.Mergeable.parts.joined g.F.Functions.code {u = c.args.self.now} refl c.args.slot x.target e.key c.lowest.ensures.value c.higher_of-low.ensures.value c.reach-came.ensures c.liveness_of.ensures c.in-Superseded.is in
-    superseded-one g.F.Key.Ord.cmp v.records.log.text x.target e c.requires.is (superseded-newer g.F.Key.Ord.cmp g.F.Mergeable.parts.joined g.F.Functions.code order v c.known.ensures.sound c.args.slot (open-here v c.args.slot c.args.context x c.requires.here).inside x.target e c.requires.stands c.requires.is c.args.kept c.requires.entry_stands c.requires.leads so)
+    superseded-one g.F.Key.Ord.cmp v.records.log.text x.target e c.requires.is (superseded-newer g.F.Key.Ord.cmp g.F.Mergeable.parts.joined g.F.Functions.code order v c.facts.ensures.sound c.args.slot (open-here v c.args.slot c.args.context x c.requires.here).inside x.target e c.requires.stands c.requires.is c.args.kept c.requires.entry_stands c.requires.leads so)
 
 pub append_again-requires-clause-stands : goal.append_again-requires-clause-stands
 append_again-requires-clause-stands g c =
     let ord = g.met.F.Key.Ord in
-    let known = g.met.F.Key.FixedKey in
-    let order = key_order g.F.Key.PartialEq.eq g.F.Key.Ord.cmp ord.matches_eq known.exact ord.total in
+    let facts = g.met.F.Key.FixedKey in
+    let order = key_order g.F.Key.PartialEq.eq g.F.Key.Ord.cmp ord.matches_eq facts.exact ord.total in
     let v = c.args.self.now in
     let x = c.args.relocation.now in
     let e = c.args.entry in
     let so = told-so g.F.Key.Ord.cmp g.F.Mergeable.parts.joined g.F.Functions.code {u = c.args.self.now} refl c.args.slot x.target e.key c.lowest.ensures.value c.higher_of-low.ensures.value c.reach-came.ensures c.liveness_of.ensures c.in-Last.is in
-    rw c.renewed-whole.ensures (c.requires.own, ready g.F.Key.Ord.cmp g.F.Mergeable.parts.joined g.F.Functions.code order v c.known.ensures.sound c.args.slot (open-here v c.args.slot c.args.context x c.requires.here).inside x.target e c.requires.stands c.requires.is c.args.kept c.requires.entry_stands c.requires.leads c.in-Last.parts so c.requires.begun (stands-here v c.args.slot c.args.context x c.requires.here c.known.ensures.compacting).frozen c.requires.some (λ yes_keeps. cleared-lower g.F.Key.Ord.cmp v.records.log.text x.target v.cleared (stands-here v c.args.slot c.args.context x c.requires.here c.known.ensures.compacting).issued (c.known.ensures.compacting.cleared yes_keeps)))
+    rw c.renewed-whole.ensures (c.requires.own, ready g.F.Key.Ord.cmp g.F.Mergeable.parts.joined g.F.Functions.code order v c.facts.ensures.sound c.args.slot (open-here v c.args.slot c.args.context x c.requires.here).inside x.target e c.requires.stands c.requires.is c.args.kept c.requires.entry_stands c.requires.leads c.in-Last.parts so c.requires.begun (stands-here v c.args.slot c.args.context x c.requires.here c.facts.ensures.compacting).frozen c.requires.some (λ yes_keeps. cleared-lower g.F.Key.Ord.cmp v.records.log.text x.target v.cleared (stands-here v c.args.slot c.args.context x c.requires.here c.facts.ensures.compacting).issued (c.facts.ensures.compacting.cleared yes_keeps)))
 
 pub ask-requires-clause-flushed : goal.ask-requires-clause-flushed
 ask-requires-clause-flushed g c =
     let ord = g.met.F.Key.Ord in
-    let known = g.met.F.Key.FixedKey in
-    let order = key_order g.F.Key.PartialEq.eq g.F.Key.Ord.cmp ord.matches_eq known.exact ord.total in
+    let facts = g.met.F.Key.FixedKey in
+    let order = key_order g.F.Key.PartialEq.eq g.F.Key.Ord.cmp ord.matches_eq facts.exact ord.total in
     let v = c.args.self.now in
     let x = c.args.relocation.now in
     let e = c.args.entry in
     let so = told-so g.F.Key.Ord.cmp g.F.Mergeable.parts.joined g.F.Functions.code {u = c.args.self.now} refl c.args.slot x.target e.key c.lowest.ensures.value c.higher_of-low.ensures.value c.reach-came.ensures c.liveness_of.ensures c.in-Further.is in
-    let disk = further-disk g.F.Key.Ord.cmp g.F.Mergeable.parts.joined g.F.Functions.code order v c.known.ensures.sound c.args.slot (open-here v c.args.slot c.args.context x c.requires.here).inside x.target e c.requires.stands c.requires.is c.args.kept c.requires.entry_stands c.requires.leads c.in-Further.wanted c.in-Further.parts c.requires.begun so in
-    page_flushed v.records c.in-Further.wanted c.known.ensures.sound.traced disk.0 disk.1
+    let disk = further-disk g.F.Key.Ord.cmp g.F.Mergeable.parts.joined g.F.Functions.code order v c.facts.ensures.sound c.args.slot (open-here v c.args.slot c.args.context x c.requires.here).inside x.target e c.requires.stands c.requires.is c.args.kept c.requires.entry_stands c.requires.leads c.in-Further.wanted c.in-Further.parts c.requires.begun so in
+    page_flushed v.records c.in-Further.wanted c.facts.ensures.sound.traced disk.0 disk.1
 
 pub ask-requires-clause-stands : goal.ask-requires-clause-stands
 ask-requires-clause-stands g c =
     let ord = g.met.F.Key.Ord in
-    let known = g.met.F.Key.FixedKey in
-    let order = key_order g.F.Key.PartialEq.eq g.F.Key.Ord.cmp ord.matches_eq known.exact ord.total in
+    let facts = g.met.F.Key.FixedKey in
+    let order = key_order g.F.Key.PartialEq.eq g.F.Key.Ord.cmp ord.matches_eq facts.exact ord.total in
     let v = c.args.self.now in
     let x = c.args.relocation.now in
     let e = c.args.entry in
     let so = told-so g.F.Key.Ord.cmp g.F.Mergeable.parts.joined g.F.Functions.code {u = c.args.self.now} refl c.args.slot x.target e.key c.lowest.ensures.value c.higher_of-low.ensures.value c.reach-came.ensures c.liveness_of.ensures c.in-Further.is in
     let begins = c.begin.ensures ∙ ap (λ r. r.log.begin) c.records.ensures in
-    rw begins (c.requires.own, tracing g.F.Key.Ord.cmp g.F.Mergeable.parts.joined g.F.Functions.code order v c.known.ensures.sound c.args.slot (open-here v c.args.slot c.args.context x c.requires.here).inside x.target e c.requires.stands c.requires.is c.args.kept c.requires.entry_stands c.requires.leads c.in-Further.wanted c.in-Further.parts c.requires.begun so c.args.now c.requires.some)
+    rw begins (c.requires.own, tracing g.F.Key.Ord.cmp g.F.Mergeable.parts.joined g.F.Functions.code order v c.facts.ensures.sound c.args.slot (open-here v c.args.slot c.args.context x c.requires.here).inside x.target e c.requires.stands c.requires.is c.args.kept c.requires.entry_stands c.requires.leads c.in-Further.wanted c.in-Further.parts c.requires.begun so c.args.now c.requires.some)
 
 pub returns-in-Superseded-clause-event : goal.returns-in-Superseded-clause-event
 returns-in-Superseded-clause-event g c =
     let v = c.args.self.now in
     let x = c.args.relocation.now in
     let e = c.args.entry in
-    rw c.finish.ensures (event-done g.R.Receipt.keeps g.F.Key.Ord.cmp v c.args.slot c.args.context c.args.now c.requires.context (keyless-here v c.args.slot c.args.context c.args.relocation.now c.requires.here) x.target (past-place v x.target c.known.ensures.sound.traced (stands-here v c.args.slot c.args.context x c.requires.here c.known.ensures.compacting).place).0)
+    rw c.finish.ensures (event-done g.R.Receipt.keeps g.F.Key.Ord.cmp v c.args.slot c.args.context c.args.now c.requires.context (keyless-here v c.args.slot c.args.context c.args.relocation.now c.requires.here) x.target (past-place v x.target c.facts.ensures.sound.traced (stands-here v c.args.slot c.args.context x c.requires.here c.facts.ensures.compacting).place).0)
 
 pub returns-in-Superseded-clause-cleared : goal.returns-in-Superseded-clause-cleared
 returns-in-Superseded-clause-cleared g c =
     let v = c.args.self.now in
     let x = c.args.relocation.now in
     let e = c.args.entry in
-    λ is. rw c.finish.ensures (past-place v x.target c.known.ensures.sound.traced (stands-here v c.args.slot c.args.context x c.requires.here c.known.ensures.compacting).place).1
+    λ is. rw c.finish.ensures (past-place v x.target c.facts.ensures.sound.traced (stands-here v c.args.slot c.args.context x c.requires.here c.facts.ensures.compacting).place).1
 
 pub returns-in-Last-clause-effect : goal.returns-in-Last-clause-effect
 returns-in-Last-clause-effect g c =
@@ -127,8 +127,8 @@ returns-in-Further-clause-effect g c =
 
 pub overflow_add-target : goal.overflow_add-target
 overflow_add-target g c =
-    let frozen = (stands-here c.args.self.now c.args.slot c.args.context c.args.relocation.now c.requires.here c.known.ensures.compacting).frozen in
-    let regions = c.known.ensures.sound.traced.regions.agree in
+    let frozen = (stands-here c.args.self.now c.args.slot c.args.context c.args.relocation.now c.requires.here c.facts.ensures.compacting).frozen in
+    let regions = c.facts.ensures.sound.traced.regions.agree in
     let safe = regions.in_order.safe in
     let most = regions.in_order.most in
     omega (arith, frozen, safe, most)

@@ -1,6 +1,7 @@
 use Rattle.std.proofs.Common.{◌≡◌, ◌≤◌, OnOk, ap, subst}
 use Rattle.fkv_partition.specs.KeyEffect.{IsGiveUp}
 use Rattle.fkv_partition.specs.KeyEnding.{GivesUp}
+use Rattle.fkv_partition.proofs.SeatLemmas.{gives-up-seats}
 use Rattle.fkv_partition.proofs.partitions.Partition.give_up_untimed.Goals as goal
 
 pub returns-clause-effect : goal.returns-clause-effect
@@ -19,4 +20,4 @@ returns-clause-moment g c =
     subst (λ n. c.give_up_on_key.new.self.moment ≤ n) same c.give_up_on_key.ensures.moment
 
 pub returns-clause-rest : goal.returns-clause-rest
-returns-clause-rest g c = (c.sessions_preserved.ensures.gives_up c.args.self.now c.give_up_on_key.new.self c.args.slot c.args.context c.self.inside.moment c.give_up_on_key.result c.give_up_on_key.ensures.effect).0
+returns-clause-rest g c = (gives-up-seats c.args.self.now c.give_up_on_key.new.self c.args.slot c.args.context c.self.inside.moment c.give_up_on_key.result c.give_up_on_key.ensures.effect).0

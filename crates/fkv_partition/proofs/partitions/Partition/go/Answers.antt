@@ -4,29 +4,30 @@ use Rattle.fkv_partition.specs.Events.{Goes}
 use Rattle.fkv_partition.proofs.ApartLemmas.{nothing-some, none-held}
 use Rattle.fkv_partition.proofs.ProceedLemmas.{goes_on-proceeds}
 use Rattle.fkv_partition.proofs.OperationLemmas.{goes-event, goes-finds, relocation-event, relocation-finds, relocation-others, same-pends}
+use Rattle.fkv_partition.proofs.SeatLemmas.{goes-seats}
 use Rattle.fkv_partition.proofs.partitions.Partition.go.Goals as goal
 
 pub returns-else-holds_relocation-clause-effect : goal.returns-else-holds_relocation-clause-effect
-returns-else-holds_relocation-clause-effect g c = Goes.on_key c.if-holds_relocation.ensures.none c.go_on_key.ensures.effect (c.sessions_preserved.ensures.goes g.R.Receipt.stands g.F.Key.Ord.cmp g.F.Mergeable.parts.joined g.F.Functions.meaning g.F.Functions.code c.args.self.now c.go_on_key.new.self c.args.slot c.args.context c.args.now c.go_on_key.result c.go_on_key.ensures.effect).0
+returns-else-holds_relocation-clause-effect g c = Goes.on_key c.if-holds_relocation.ensures.none c.go_on_key.ensures.effect (goes-seats c.args.self.now c.go_on_key.new.self c.args.slot c.args.context c.args.now g.R.Receipt.stands g.F.Key.Ord.cmp g.F.Mergeable.parts.joined g.F.Functions.meaning g.F.Functions.code c.go_on_key.result c.go_on_key.ensures.effect).0
 
 pub returns-else-holds_relocation-clause-event : goal.returns-else-holds_relocation-clause-event
 returns-else-holds_relocation-clause-event g c = λ yes_keeps.
-    goes-event g.F.Key.Ord.cmp g.F.Functions.meaning c.args.self.now c.go_on_key.new.self c.args.slot c.args.context c.args.now c.if-holds_relocation.ensures.none (c.sessions_preserved.ensures.goes g.R.Receipt.stands g.F.Key.Ord.cmp g.F.Mergeable.parts.joined g.F.Functions.meaning g.F.Functions.code c.args.self.now c.go_on_key.new.self c.args.slot c.args.context c.args.now c.go_on_key.result c.go_on_key.ensures.effect).0 c.go_on_key.result c.go_on_key.ensures.event
+    goes-event g.F.Key.Ord.cmp g.F.Functions.meaning c.args.self.now c.go_on_key.new.self c.args.slot c.args.context c.args.now c.if-holds_relocation.ensures.none (goes-seats c.args.self.now c.go_on_key.new.self c.args.slot c.args.context c.args.now g.R.Receipt.stands g.F.Key.Ord.cmp g.F.Mergeable.parts.joined g.F.Functions.meaning g.F.Functions.code c.go_on_key.result c.go_on_key.ensures.effect).0 c.go_on_key.result c.go_on_key.ensures.event
 
 pub returns-else-holds_relocation-clause-others : goal.returns-else-holds_relocation-clause-others
 returns-else-holds_relocation-clause-others g c = λ yes_keeps.
     let ord = g.met.F.Key.Ord in
-    let known = g.met.F.Key.FixedKey in
-    let order = key_order g.F.Key.PartialEq.eq g.F.Key.Ord.cmp ord.matches_eq known.exact ord.total in
-    c.pendings_stay.ensures.goes g.R.Receipt.keeps g.R.Receipt.stands g.F.Key.Ord.cmp g.F.Mergeable.parts.joined g.F.Functions.meaning g.F.Functions.code c.args.self.now c.go_on_key.new.self c.args.slot c.args.context c.args.now c.go_on_key.result yes_keeps order c.known.ensures.sound c.go_on_key.ensures.effect
+    let facts = g.met.F.Key.FixedKey in
+    let order = key_order g.F.Key.PartialEq.eq g.F.Key.Ord.cmp ord.matches_eq facts.exact ord.total in
+    c.pendings_stay.ensures.goes g.R.Receipt.keeps g.R.Receipt.stands g.F.Key.Ord.cmp g.F.Mergeable.parts.joined g.F.Functions.meaning g.F.Functions.code c.args.self.now c.go_on_key.new.self c.args.slot c.args.context c.args.now c.go_on_key.result yes_keeps order c.facts.ensures.sound c.go_on_key.ensures.effect
 
 pub returns-else-holds_relocation-clause-finds : goal.returns-else-holds_relocation-clause-finds
 returns-else-holds_relocation-clause-finds g c = λ yes_keeps.
     let ord = g.met.F.Key.Ord in
-    let known = g.met.F.Key.FixedKey in
-    let order = key_order g.F.Key.PartialEq.eq g.F.Key.Ord.cmp ord.matches_eq known.exact ord.total in
-    goes-finds g.F.Key.Ord.cmp g.F.Functions.meaning c.args.self.now c.go_on_key.new.self c.args.slot c.args.context c.args.now c.if-holds_relocation.ensures.none (c.sessions_preserved.ensures.goes g.R.Receipt.stands g.F.Key.Ord.cmp g.F.Mergeable.parts.joined g.F.Functions.meaning g.F.Functions.code c.args.self.now c.go_on_key.new.self c.args.slot c.args.context c.args.now c.go_on_key.result c.go_on_key.ensures.effect).0 c.go_on_key.result
-    (λ p e. c.pendings_stay.ensures.finds g.R.Receipt.keeps g.R.Receipt.stands g.F.Key.Ord.cmp g.F.Mergeable.parts.joined g.F.Functions.meaning g.F.Functions.code c.args.self.now c.go_on_key.new.self c.args.slot c.args.context c.args.now p order c.known.ensures.sound (rw e at c.go_on_key.ensures.effect))
+    let facts = g.met.F.Key.FixedKey in
+    let order = key_order g.F.Key.PartialEq.eq g.F.Key.Ord.cmp ord.matches_eq facts.exact ord.total in
+    goes-finds g.F.Key.Ord.cmp g.F.Functions.meaning c.args.self.now c.go_on_key.new.self c.args.slot c.args.context c.args.now c.if-holds_relocation.ensures.none (goes-seats c.args.self.now c.go_on_key.new.self c.args.slot c.args.context c.args.now g.R.Receipt.stands g.F.Key.Ord.cmp g.F.Mergeable.parts.joined g.F.Functions.meaning g.F.Functions.code c.go_on_key.result c.go_on_key.ensures.effect).0 c.go_on_key.result
+    (λ p e. c.pendings_stay.ensures.finds g.R.Receipt.keeps g.R.Receipt.stands g.F.Key.Ord.cmp g.F.Mergeable.parts.joined g.F.Functions.meaning g.F.Functions.code c.args.self.now c.go_on_key.new.self c.args.slot c.args.context c.args.now p order c.facts.ensures.sound (rw e at c.go_on_key.ensures.effect))
 
 pub returns-else-holds_relocation-clause-cleared : goal.returns-else-holds_relocation-clause-cleared
 returns-else-holds_relocation-clause-cleared g c = λ told. rw c.if-holds_relocation.ensures.none tt

@@ -9,7 +9,7 @@ pub start-requires-clause-unclaimed : goal.start-requires-clause-unclaimed
 start-requires-clause-unclaimed g c =
     let v = c.args.self.now in
     let low = c.is_session-entered.ensures.within (c.is_session-entered.ensures.value ∙ c.requires.entered) in
-    ap (λ o. claim_of (joined o)) (free-here (slots_of v) v.contexts c.args.slot c.args.context c.known.ensures.sound.places low c.requires.context c.requires.entered c.requires.free)
+    ap (λ o. claim_of (joined o)) (free-here (slots_of v) v.contexts c.args.slot c.args.context c.facts.ensures.sound.places low c.requires.context c.requires.entered c.requires.free)
 
 pub returns-clause-effect : goal.returns-clause-effect
 returns-clause-effect g c =
@@ -21,7 +21,7 @@ returns-clause-event g c =
     let low = c.is_session-entered.ensures.within (c.is_session-entered.ensures.value ∙ c.requires.entered) in
     rw c.start.ensures
     (event-issue g.F.Functions.code v c.args.slot c.args.context c.args.now c.args.op c.requires.entered
-    (free-here (slots_of v) v.contexts c.args.slot c.args.context c.known.ensures.sound.places low c.requires.context c.requires.entered c.requires.free)
+    (free-here (slots_of v) v.contexts c.args.slot c.args.context c.facts.ensures.sound.places low c.requires.context c.requires.entered c.requires.free)
     c.requires.context c.requires.own)
 
 pub returns-clause-within : goal.returns-clause-within

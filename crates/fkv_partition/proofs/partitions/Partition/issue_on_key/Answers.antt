@@ -7,6 +7,7 @@ use Rattle.fkv_partition.specs.Beginning.{IssuesOnKey}
 use Rattle.fkv_partition.proofs.ApartLemmas.{no-later}
 use Rattle.fkv_partition.proofs.KeepLemmas.{issues-told}
 use Rattle.fkv_partition.proofs.MoveLemmas.{open-free}
+use Rattle.fkv_partition.proofs.SeatLemmas.{issues-seats}
 use Rattle.fkv_partition.proofs.partitions.Partition.issue_on_key.Goals as goal
 
 pub returns-then-not-is_session-clause-effect : goal.returns-then-not-is_session-clause-effect
@@ -121,4 +122,4 @@ pub issue_in-requires-clause-merging : goal.issue_in-requires-clause-merging
 issue_in-requires-clause-merging g c = OnFalse_at c.if-lacks_merges.false c.lacks_merges.ensures.merges
 
 pub returns-clause-rest : goal.returns-clause-rest
-returns-clause-rest g c = ((c.sessions_preserved.ensures.issues g.F.Functions.code c.args.self.now c.issue_in.new.self c.args.slot c.in-Some.context c.args.op c.args.now c.issue_in.ensures.effect).0)
+returns-clause-rest g c = ((issues-seats c.args.self.now c.issue_in.new.self c.args.slot c.in-Some.context c.args.now g.F.Functions.code c.args.op c.issue_in.ensures.effect).0)

@@ -20,8 +20,8 @@ returns-clause-rising g c =
 pub returns-clause-own : goal.returns-clause-own
 returns-clause-own g c = λ keeps.
     let ord = g.met.F.Key.Ord in
-    let known = g.met.F.Key.FixedKey in
-    let order = key_order g.F.Key.PartialEq.eq g.F.Key.Ord.cmp ord.matches_eq known.exact ord.total in
+    let facts = g.met.F.Key.FixedKey in
+    let order = key_order g.F.Key.PartialEq.eq g.F.Key.Ord.cmp ord.matches_eq facts.exact ord.total in
     rw (← c.self.view_is) (IfOk-weaker c.pairs_of.result (λ v. v.items ≡ c.put_live.new.map.entries) _
     (λ v h. rw h (listed-own g.F.Key.Ord.cmp g.F.Mergeable.parts.joined g.F.Functions.code order c.self.invariant.sound ord.total c.put_live.new.map.entries
     (λ q. c.in-Ok.ensures.ok keeps (λ k some. ap (lookup (is_at (g.F.Key.Ord.cmp k))) c.new-map.ensures.empty) q

@@ -5,19 +5,20 @@ use Rattle.fkv_partition.proofs.ApartLemmas.{none-held}
 use Rattle.fkv_partition.proofs.ProceedLemmas.{loads_on-proceeds, loads_on-ends, ended-event, ended-pends}
 use Rattle.fkv_partition.proofs.EffectLemmas.{if-err}
 use Rattle.fkv_partition.proofs.OperationLemmas.{loads-event, ends-key, relocation-load, relocation-others, reads-key, reads-relocation}
+use Rattle.fkv_partition.proofs.SeatLemmas.{loads-seats}
 use Rattle.fkv_partition.proofs.partitions.Partition.load_by.Goals as goal
 
 pub returns-else-holds_relocation-clause-effect : goal.returns-else-holds_relocation-clause-effect
 returns-else-holds_relocation-clause-effect g c =
-    reads-key g.R.Receipt.stands _ g.F.Key.Ord.cmp g.F.Mergeable.parts.joined g.F.Functions.meaning g.F.Functions.code c.args.self.now c.load_by_on_key.new.self c.args.slot c.args.context c.args.now c.if-holds_relocation.ensures.none (reads-any _ c.load_by_on_key.ensures.effect (λ came does. (c.loads_preserve_sessions.ensures c.args.self.now c.load_by_on_key.new.self c.args.slot c.args.context came c.args.now c.load_by_on_key.result does).0) (λ told same is. rw same (record { cleared = refl; relocations = λ p. refl }))) c.load_by_on_key.ensures.effect
+    reads-key g.R.Receipt.stands _ g.F.Key.Ord.cmp g.F.Mergeable.parts.joined g.F.Functions.meaning g.F.Functions.code c.args.self.now c.load_by_on_key.new.self c.args.slot c.args.context c.args.now c.if-holds_relocation.ensures.none (reads-any _ c.load_by_on_key.ensures.effect (λ came does. (loads-seats c.args.self.now c.load_by_on_key.new.self c.args.slot c.args.context c.args.now _ _ _ _ _ came c.load_by_on_key.result does).0) (λ told same is. rw same (record { cleared = refl; relocations = λ p. refl }))) c.load_by_on_key.ensures.effect
 
 pub returns-else-holds_relocation-clause-event : goal.returns-else-holds_relocation-clause-event
 returns-else-holds_relocation-clause-event g c = λ yes_keeps.
-    loads-event g.F.Key.Ord.cmp g.F.Functions.meaning c.args.self.now c.load_by_on_key.new.self c.args.slot c.args.context c.args.now c.if-holds_relocation.ensures.none (reads-any _ c.load_by_on_key.ensures.effect (λ came does. (c.loads_preserve_sessions.ensures c.args.self.now c.load_by_on_key.new.self c.args.slot c.args.context came c.args.now c.load_by_on_key.result does).0) (λ told same is. rw same (record { cleared = refl; relocations = λ p. refl }))) c.load_by_on_key.result (c.load_by_on_key.ensures.event yes_keeps)
+    loads-event g.F.Key.Ord.cmp g.F.Functions.meaning c.args.self.now c.load_by_on_key.new.self c.args.slot c.args.context c.args.now c.if-holds_relocation.ensures.none (reads-any _ c.load_by_on_key.ensures.effect (λ came does. (loads-seats c.args.self.now c.load_by_on_key.new.self c.args.slot c.args.context c.args.now _ _ _ _ _ came c.load_by_on_key.result does).0) (λ told same is. rw same (record { cleared = refl; relocations = λ p. refl }))) c.load_by_on_key.result (c.load_by_on_key.ensures.event yes_keeps)
 
 pub returns-else-holds_relocation-clause-fails : goal.returns-else-holds_relocation-clause-fails
 returns-else-holds_relocation-clause-fails g c =
-    if-err c.load_by_on_key.result (λ why e. ends-key c.args.self.now c.load_by_on_key.new.self c.args.slot c.args.context c.args.now c.if-holds_relocation.ensures.none (reads-any _ c.load_by_on_key.ensures.effect (λ came does. (c.loads_preserve_sessions.ensures c.args.self.now c.load_by_on_key.new.self c.args.slot c.args.context came c.args.now c.load_by_on_key.result does).0) (λ told same is. rw same (record { cleared = refl; relocations = λ p. refl })))
+    if-err c.load_by_on_key.result (λ why e. ends-key c.args.self.now c.load_by_on_key.new.self c.args.slot c.args.context c.args.now c.if-holds_relocation.ensures.none (reads-any _ c.load_by_on_key.ensures.effect (λ came does. (loads-seats c.args.self.now c.load_by_on_key.new.self c.args.slot c.args.context c.args.now _ _ _ _ _ came c.load_by_on_key.result does).0) (λ told same is. rw same (record { cleared = refl; relocations = λ p. refl })))
     (reads-any _ c.load_by_on_key.ensures.effect
     (λ came does. c.loads_end.ensures.fails c.args.self.now c.load_by_on_key.new.self c.args.slot c.args.context came c.args.now why (rw e at does))
     (λ told same is. inl same)))

@@ -88,15 +88,15 @@ returns-in-Ok-clause-unread g c = λ none.
 pub read-requires : goal.read-requires
 read-requires g c =
     let ord = g.met.F.Key.Ord in
-    let known = g.met.F.Key.FixedKey in
-    let order = key_order g.F.Key.PartialEq.eq g.F.Key.Ord.cmp ord.matches_eq known.exact ord.total in
+    let facts = g.met.F.Key.FixedKey in
+    let order = key_order g.F.Key.PartialEq.eq g.F.Key.Ord.cmp ord.matches_eq facts.exact ord.total in
     let a : AwaitsPage c.args.self.now c.args.slot c.args.context c.in-Some.open c.in-Some-loading_of.loading = record {
       here = sym c.in-Some.ensures.value;
       loading = loading-is c.in-Some.open.phase c.in-Some-loading_of.loading (sym c.in-Some-loading_of.ensures);
       begin = c.if-loading-begin.false ∙ c.begin-begin.ensures ∙ ap (λ u. u.records.log.begin) c.self.view_is;
     } in
     let page = c.page_of-page.ensures ∙ ap (λ u. page_at u.records.log.bits c.in-Some-loading_of.loading.wanted) c.self.view_is in
-    record { flushed = rw page (wanted-flushed g.F.Key.Ord.cmp g.F.Mergeable.parts.joined g.F.Functions.code order c.args.self.now c.known.ensures.sound c.args.slot c.args.context c.in-Some.open c.in-Some-loading_of.loading a) }
+    record { flushed = rw page (wanted-flushed g.F.Key.Ord.cmp g.F.Mergeable.parts.joined g.F.Functions.code order c.args.self.now c.facts.ensures.sound c.args.slot c.args.context c.in-Some.open c.in-Some-loading_of.loading a) }
 
 pub resume_look_up-requires-clause-awaits : goal.resume_look_up-requires-clause-awaits
 resume_look_up-requires-clause-awaits g c = record {

@@ -5,18 +5,19 @@ use Rattle.fkv_partition.proofs.ProceedLemmas.{loads_on-proceeds, loads_on-ends,
 use Rattle.fkv_partition.proofs.EffectLemmas.{if-err}
 use Rattle.fkv_partition.proofs.OperationLemmas.{loads-event, ends-key, relocation-load, relocation-others}
 use Rattle.fkv_partition.proofs.DamageLemmas.{answer-not}
+use Rattle.fkv_partition.proofs.SeatLemmas.{loads-seats}
 use Rattle.fkv_partition.proofs.partitions.Partition.load_own.Goals as goal
 
 pub returns-else-holds_relocation-clause-effect : goal.returns-else-holds_relocation-clause-effect
-returns-else-holds_relocation-clause-effect g c = Loads.on_key c.if-holds_relocation.ensures.none c.load_on_key.ensures.effect (c.loads_preserve_sessions.ensures c.args.self.now c.load_on_key.new.self c.args.slot c.args.context (Ok c.args.loaded) c.args.now c.load_on_key.result c.load_on_key.ensures.effect).0
+returns-else-holds_relocation-clause-effect g c = Loads.on_key c.if-holds_relocation.ensures.none c.load_on_key.ensures.effect (loads-seats c.args.self.now c.load_on_key.new.self c.args.slot c.args.context c.args.now _ _ _ _ _ (Ok c.args.loaded) c.load_on_key.result c.load_on_key.ensures.effect).0
 
 pub returns-else-holds_relocation-clause-event : goal.returns-else-holds_relocation-clause-event
 returns-else-holds_relocation-clause-event g c = λ yes_keeps.
-    loads-event g.F.Key.Ord.cmp g.F.Functions.meaning c.args.self.now c.load_on_key.new.self c.args.slot c.args.context c.args.now c.if-holds_relocation.ensures.none (c.loads_preserve_sessions.ensures c.args.self.now c.load_on_key.new.self c.args.slot c.args.context (Ok c.args.loaded) c.args.now c.load_on_key.result c.load_on_key.ensures.effect).0 c.load_on_key.result (c.load_on_key.ensures.event yes_keeps)
+    loads-event g.F.Key.Ord.cmp g.F.Functions.meaning c.args.self.now c.load_on_key.new.self c.args.slot c.args.context c.args.now c.if-holds_relocation.ensures.none (loads-seats c.args.self.now c.load_on_key.new.self c.args.slot c.args.context c.args.now _ _ _ _ _ (Ok c.args.loaded) c.load_on_key.result c.load_on_key.ensures.effect).0 c.load_on_key.result (c.load_on_key.ensures.event yes_keeps)
 
 pub returns-else-holds_relocation-clause-fails : goal.returns-else-holds_relocation-clause-fails
 returns-else-holds_relocation-clause-fails g c =
-    if-err c.load_on_key.result (λ why e. ends-key c.args.self.now c.load_on_key.new.self c.args.slot c.args.context c.args.now c.if-holds_relocation.ensures.none (c.loads_preserve_sessions.ensures c.args.self.now c.load_on_key.new.self c.args.slot c.args.context (Ok c.args.loaded) c.args.now c.load_on_key.result c.load_on_key.ensures.effect).0
+    if-err c.load_on_key.result (λ why e. ends-key c.args.self.now c.load_on_key.new.self c.args.slot c.args.context c.args.now c.if-holds_relocation.ensures.none (loads-seats c.args.self.now c.load_on_key.new.self c.args.slot c.args.context c.args.now _ _ _ _ _ (Ok c.args.loaded) c.load_on_key.result c.load_on_key.ensures.effect).0
     (c.loads_end.ensures.fails c.args.self.now c.load_on_key.new.self c.args.slot c.args.context (Ok c.args.loaded) c.args.now why (rw e at c.load_on_key.ensures.effect)))
 
 pub returns-else-holds_relocation-clause-others : goal.returns-else-holds_relocation-clause-others

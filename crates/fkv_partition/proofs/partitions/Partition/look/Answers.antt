@@ -23,7 +23,7 @@ ask-requires-clause-flushed g c =
     ∙ ap (λ b. low_of b c.view-view.result) (c.begin-begin.ensures ∙ ap (λ r. r.log.begin) c.records-2.ensures)
     ∙ ap (λ w. low_of c.args.self.now.records.log.begin w) (c.view-view.ensures.value ∙ ap (λ r. view_at r.log.regions.views c.args.slot) c.records.ensures) in
     let under = subst (λ n. x.target < n) low c.if-target-low_of.true in
-    place-flushed g.F.Key.Ord.cmp g.F.Mergeable.parts.joined g.F.Functions.code v c.known.ensures.compacting c.known.ensures.sound c.args.slot c.args.context x c.requires.here c.requires.uncleared under
+    place-flushed g.F.Key.Ord.cmp g.F.Mergeable.parts.joined g.F.Functions.code v c.facts.ensures.compacting c.facts.ensures.sound c.args.slot c.args.context x c.requires.here c.requires.uncleared under
 
 pub ask-requires-clause-stands : goal.ask-requires-clause-stands
 ask-requires-clause-stands g c =
@@ -34,7 +34,7 @@ ask-requires-clause-stands g c =
     ∙ ap (λ w. low_of c.args.self.now.records.log.begin w) (c.view-view.ensures.value ∙ ap (λ r. view_at r.log.regions.views c.args.slot) c.records.ensures) in
     let under = subst (λ n. x.target < n) low c.if-target-low_of.true in
     let begins = c.begin-begin.ensures ∙ ap (λ r. r.log.begin) c.records-2.ensures in
-    rw begins (place-reading g.F.Key.Ord.cmp g.F.Mergeable.parts.joined g.F.Functions.code v c.known.ensures.compacting c.known.ensures.sound c.args.slot c.args.context x c.requires.here c.requires.uncleared under)
+    rw begins (place-reading g.F.Key.Ord.cmp g.F.Mergeable.parts.joined g.F.Functions.code v c.facts.ensures.compacting c.facts.ensures.sound c.args.slot c.args.context x c.requires.here c.requires.uncleared under)
 
 pub returns-then-target-low_of-clause-effect : goal.returns-then-target-low_of-clause-effect
 returns-then-target-low_of-clause-effect g c =
@@ -55,7 +55,7 @@ record_at-entry-requires-clause-there g c =
     ∙ ap (λ b. low_of b c.view-view.result) (c.begin-begin.ensures ∙ ap (λ r. r.log.begin) c.records-2.ensures)
     ∙ ap (λ w. low_of c.args.self.now.records.log.begin w) (c.view-view.ensures.value ∙ ap (λ r. view_at r.log.regions.views c.args.slot) c.records.ensures) in
     let over = subst (λ n. n ≤ x.target) low c.if-target-low_of.false in
-    rw c.records-3.ensures ((place-there g.F.Key.Ord.cmp g.F.Mergeable.parts.joined g.F.Functions.code v c.known.ensures.compacting c.known.ensures.sound c.args.slot c.args.context x c.requires.here c.requires.uncleared over))
+    rw c.records-3.ensures ((place-there g.F.Key.Ord.cmp g.F.Mergeable.parts.joined g.F.Functions.code v c.facts.ensures.compacting c.facts.ensures.sound c.args.slot c.args.context x c.requires.here c.requires.uncleared over))
 
 pub record_at-entry-requires-clause-in_frame : goal.record_at-entry-requires-clause-in_frame
 record_at-entry-requires-clause-in_frame g c =
@@ -65,7 +65,7 @@ record_at-entry-requires-clause-in_frame g c =
     ∙ ap (λ b. low_of b c.view-view.result) (c.begin-begin.ensures ∙ ap (λ r. r.log.begin) c.records-2.ensures)
     ∙ ap (λ w. low_of c.args.self.now.records.log.begin w) (c.view-view.ensures.value ∙ ap (λ r. view_at r.log.regions.views c.args.slot) c.records.ensures) in
     let over = subst (λ n. n ≤ x.target) low c.if-target-low_of.false in
-    rw c.records-3.ensures ((place-open g.F.Key.Ord.cmp g.F.Mergeable.parts.joined g.F.Functions.code v c.known.ensures.compacting c.known.ensures.sound c.args.slot c.args.context x c.requires.here c.requires.uncleared over))
+    rw c.records-3.ensures ((place-open g.F.Key.Ord.cmp g.F.Mergeable.parts.joined g.F.Functions.code v c.facts.ensures.compacting c.facts.ensures.sound c.args.slot c.args.context x c.requires.here c.requires.uncleared over))
 
 pub check_liveness-requires-clause-stands : goal.check_liveness-requires-clause-stands
 check_liveness-requires-clause-stands g c =
@@ -86,7 +86,7 @@ pub returns-then-target-low_of-clause-cleared : goal.returns-then-target-low_of-
 returns-then-target-low_of-clause-cleared g c = λ is. absurd (c.ask.ensures.uncleared is)
 
 pub check_liveness-requires-clause-begun : goal.check_liveness-requires-clause-begun
-check_liveness-requires-clause-begun g c = begun-here g.F.Key.Ord.cmp g.F.Mergeable.parts.joined g.F.Functions.code c.args.self.now c.known.ensures.compacting c.known.ensures.sound c.args.slot c.args.context c.args.relocation.now c.requires.here c.requires.uncleared
+check_liveness-requires-clause-begun g c = begun-here g.F.Key.Ord.cmp g.F.Mergeable.parts.joined g.F.Functions.code c.args.self.now c.facts.ensures.compacting c.facts.ensures.sound c.args.slot c.args.context c.args.relocation.now c.requires.here c.requires.uncleared
 
 pub check_liveness-requires-clause-is : goal.check_liveness-requires-clause-is
 check_liveness-requires-clause-is g c =

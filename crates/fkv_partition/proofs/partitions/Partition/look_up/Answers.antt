@@ -23,7 +23,7 @@ use Rattle.fkv_lookups.specs.DecisionLaws.{append-entry, prepare-entry, load-met
 use Rattle.fkv_lookups.specs.Lookups.{newest_above, looked_up, StartsAt}
 use Rattle.fkv_lookups.specs.Meeting as meeting
 use Rattle.fkv_lookups.specs.Meeting.{met_from, IsMetAt}
-use Rattle.fkv_lookups.specs.Traced.{IsTraced, IsStood}
+use Rattle.fkv_lookups.specs.Traced.{IsTraced, IsResolved}
 use Rattle.fkv_lookups.specs.declared.decisions.Decision.{Decision}
 use Rattle.fkv_lookups.specs.declared.decisions.Decision.TheVariants.{Append, Replace, Prepare, Load}
 use Rattle.fkv_lookups.specs.declared.decisions.LookupResult.TheVariants.{NoEntry, Mutable}
@@ -67,7 +67,7 @@ found-stands code v key None e is stands = absurd (cc)
 
 -- what is changed in place is the record that was read first
 module _ {K V I O : Type 0} {keeps : Bool} (cmp : K → K → Ordering) (join : V → V → V) (f : Meanings K V I O) (code : K → ℕ) (v : PartitionView K V I) (slot c : ℕ) (x : Context K V I) (key : K) (first : ChainPosition K V) (order : IsKeyOrder cmp) (s : IsSound keeps cmp join code v) (here : context_at v slot c ≡ Some x) (own : key ≡ key_of x.op) (read : first ≡ newest_in_memory cmp code v slot key (entry_for code v key))
-    (firsts : (keeps : Bool) (cmp : K → K → Ordering) (join : V → V → V) (code : K → ℕ) (v : RecordsView K V) (k : K) (low a : ℕ) → IsKeyOrder cmp → IsTraced keeps code v → IsStood cmp join v → entry_of v (class_in code v k) ≡ Some a → v.log.from ≤ low → StartsAt (newest_above cmp code v low k a) (looked_up cmp join code v low k a))
+    (firsts : (keeps : Bool) (cmp : K → K → Ordering) (join : V → V → V) (code : K → ℕ) (v : RecordsView K V) (k : K) (low a : ℕ) → IsKeyOrder cmp → IsTraced keeps code v → IsResolved cmp join v → entry_of v (class_in code v k) ≡ Some a → v.log.from ≤ low → StartsAt (newest_above cmp code v low k a) (looked_up cmp join code v low k a))
     (value : Option V) (told : Answer O) (d : Decision V I O) (met : d ≡ decision f x.op (met_at cmp join code v slot (key_of x.op))) (is : d ≡ Replace value told) where
   inside-here : is_session (slots_of v) slot ≡ true
   inside-here = (key_at (slots_of v) v.contexts slot c x here).inside
@@ -76,7 +76,7 @@ module _ {K V I O : Type 0} {keeps : Bool} (cmp : K → K → Ordering) (join : 
   first-here = read ∙ ap (λ k. newest_in_memory cmp code v slot k (entry_for code v k)) own
 
   tells-here : (a : ℕ) → entry_for code v (key_of x.op) ≡ Some a → StartsAt (newest_above cmp code v.records (low_of v.records.log.begin (seen_at v slot)) (key_of x.op) a) (looked_up cmp join code v.records (low_of v.records.log.begin (seen_at v slot)) (key_of x.op) a)
-  tells-here a entry = firsts keeps cmp join code v.records (key_of x.op) (low_of v.records.log.begin (seen_at v slot)) a order s.traced s.stood entry (seen-begun v slot s.traced inside-here)
+  tells-here a entry = firsts keeps cmp join code v.records (key_of x.op) (low_of v.records.log.begin (seen_at v slot)) a order s.traced s.resolved entry (seen-begun v slot s.traced inside-here)
 
   replace-found : (b : ℕ) → first ≡ Below b → ⊥
   replace-found b below =
@@ -85,10 +85,10 @@ module _ {K V I O : Type 0} {keeps : Bool} (cmp : K → K → Ordering) (join : 
       let no : Below b ≡ Found m.entry = sym below ∙ first-here ∙ m.is in
       cc
 
-  module _ (mutables : (keeps : Bool) (cmp : K → K → Ordering) (join : V → V → V) (code : K → ℕ) (v : RecordsView K V) (k : K) (slot : ℕ) (w : V) → IsKeyOrder cmp → IsTraced keeps code v → IsStood cmp join v → IsTrue (is_entered v.log.regions.epochs slot) → meeting.met_at cmp join code v (view_at v.log.regions.views slot) k ≡ Mutable w → IsMetAt cmp join code v (view_at v.log.regions.views slot) k w region.Mutable)
+  module _ (mutables : (keeps : Bool) (cmp : K → K → Ordering) (join : V → V → V) (code : K → ℕ) (v : RecordsView K V) (k : K) (slot : ℕ) (w : V) → IsKeyOrder cmp → IsTraced keeps code v → IsResolved cmp join v → IsTrue (is_entered v.log.regions.epochs slot) → meeting.met_at cmp join code v (view_at v.log.regions.views slot) k ≡ Mutable w → IsMetAt cmp join code v (view_at v.log.regions.views slot) k w region.Mutable)
       (last : Entry K V) (found : first ≡ Found last) where
     mutable-here : (w : V) × IsMetAt cmp join code v.records (seen_at v slot) (key_of x.op) w region.Mutable
-    mutable-here = replaced-at cmp join f code v slot x.op value told (λ w. mutables keeps cmp join code v.records (key_of x.op) slot w order s.traced s.stood inside-here) (sym met ∙ is)
+    mutable-here = replaced-at cmp join f code v slot x.op value told (λ w. mutables keeps cmp join code v.records (key_of x.op) slot w order s.traced s.resolved inside-here) (sym met ∙ is)
 
     last-here : last ≡ mutable-here.1.entry
     last-here = first-met cmp join code v slot (key_of x.op) tells-here mutable-here.0 mutable-here.1 last (sym first-here ∙ found)
@@ -118,7 +118,7 @@ pub decided-requires-clause-merging : goal.decided-requires-clause-merging
 decided-requires-clause-merging g c =
     let v = c.args.self.now in
     let x = c.args.operation.now in
-    c.known.ensures.sound.merging _ x (key_at (slots_of v) v.contexts c.args.slot c.args.context x c.requires.here).here
+    c.facts.ensures.sound.merging _ x (key_at (slots_of v) v.contexts c.args.slot c.args.context x c.requires.here).here
 
 pub decided-requires-clause-entry : goal.decided-requires-clause-entry
 decided-requires-clause-entry g c =
@@ -135,20 +135,20 @@ free-requires-clause-unclaimed g c = claims-none c.args.self.now c.args.slot c.a
 pub returns-in-Done-clause-effect : goal.returns-in-Done-clause-effect
 returns-in-Done-clause-effect g c =
     let x = c.args.operation.now in
-    let d = decides-at g.F.Key.Ord.cmp g.F.Mergeable.parts.joined g.F.Functions.meaning g.F.Functions.code _ c.args.slot c.args.context c.args.now x c.requires.here c.known.ensures.sound c.requires.asks_nothing c.requires.unclaimed c.requires.unloading _ _ c.decided.ensures c.in-Done.is in
+    let d = decides-at g.F.Key.Ord.cmp g.F.Mergeable.parts.joined g.F.Functions.meaning g.F.Functions.code _ c.args.slot c.args.context c.args.now x c.requires.here c.facts.ensures.sound c.requires.asks_nothing c.requires.unclaimed c.requires.unloading _ _ c.decided.ensures c.in-Done.is in
     rw c.free.ensures (done x c.in-Done.answer d refl refl)
 
 pub returns-in-Done-clause-event : goal.returns-in-Done-clause-event
 returns-in-Done-clause-event g c =
     let ord = g.met.F.Key.Ord in
-    let known = g.met.F.Key.FixedKey in
-    let order = key_order g.F.Key.PartialEq.eq g.F.Key.Ord.cmp ord.matches_eq known.exact ord.total in
+    let facts = g.met.F.Key.FixedKey in
+    let order = key_order g.F.Key.PartialEq.eq g.F.Key.Ord.cmp ord.matches_eq facts.exact ord.total in
     let v = c.args.self.now in
     let x = c.args.operation.now in
     rw c.free.ensures
     (event-quiet g.F.Key.Ord.cmp g.F.Mergeable.parts.joined g.F.Functions.meaning g.F.Functions.code v c.args.slot c.args.context c.args.now x c.requires.here g.F.Mergeable.parts
-    (λ m. g.met.F.Mergeable.merges (merging-at v g.F.Mergeable.MERGES c.args.slot c.args.context x c.known.ensures.sound (sym c.merges-merges.ensures.functions ∙ c.merges-merges.ensures.value) c.requires.here m)) order
-    (c.meetings_tell.ensures.held g.R.Receipt.keeps g.F.Key.Ord.cmp g.F.Mergeable.parts.joined g.F.Functions.code v.records (key_of x.op) c.args.slot order c.known.ensures.sound.traced c.known.ensures.sound.stood (key_at (slots_of v) v.contexts c.args.slot c.args.context x c.requires.here).inside) c.in-Done.answer (sym c.decided.ensures ∙ c.in-Done.is))
+    (λ m. g.met.F.Mergeable.merges (merging-at v g.F.Mergeable.MERGES c.args.slot c.args.context x c.facts.ensures.sound (sym c.merges-merges.ensures.functions ∙ c.merges-merges.ensures.value) c.requires.here m)) order
+    (c.meetings_tell.ensures.held g.R.Receipt.keeps g.F.Key.Ord.cmp g.F.Mergeable.parts.joined g.F.Functions.code v.records (key_of x.op) c.args.slot order c.facts.ensures.sound.traced c.facts.ensures.sound.resolved (key_at (slots_of v) v.contexts c.args.slot c.args.context x c.requires.here).inside) c.in-Done.answer (sym c.decided.ensures ∙ c.in-Done.is))
 
 pub claim-requires-clause-range : goal.claim-requires-clause-range
 claim-requires-clause-range g c = c.find-entry.ensures.range
@@ -159,7 +159,7 @@ claim-requires-clause-class g c = c.find-entry.ensures.class ∙ ap (class_in g.
 pub returns-in_default-clause-effect : goal.returns-in_default-clause-effect
 returns-in_default-clause-effect g c =
     let x = c.args.operation.now in
-    let d = decides-at g.F.Key.Ord.cmp g.F.Mergeable.parts.joined g.F.Functions.meaning g.F.Functions.code _ c.args.slot c.args.context c.args.now x c.requires.here c.known.ensures.sound c.requires.asks_nothing c.requires.unclaimed c.requires.unloading _ _ c.decided.ensures c.in-Claim.is in
+    let d = decides-at g.F.Key.Ord.cmp g.F.Mergeable.parts.joined g.F.Functions.meaning g.F.Functions.code _ c.args.slot c.args.context c.args.now x c.requires.here c.facts.ensures.sound c.requires.asks_nothing c.requires.unclaimed c.requires.unloading _ _ c.decided.ensures c.in-Claim.is in
     rw c.in_default.ensures.unchanged (unclaimed x d (rw (c.find-entry.ensures.class, c.key-key.ensures) at c.in_default.ensures.full) refl refl)
 
 pub returns-in_default-clause-unchanged : goal.returns-in_default-clause-unchanged
@@ -171,7 +171,7 @@ returns-in_default-clause-moment g c = rw c.in_default.ensures.unchanged (le_of_
 pub returns-in-Ok-clause-effect : goal.returns-in-Ok-clause-effect
 returns-in-Ok-clause-effect g c =
     let x = c.args.operation.now in
-    let d = decides-at g.F.Key.Ord.cmp g.F.Mergeable.parts.joined g.F.Functions.meaning g.F.Functions.code _ c.args.slot c.args.context c.args.now x c.requires.here c.known.ensures.sound c.requires.asks_nothing c.requires.unclaimed c.requires.unloading _ _ c.decided.ensures c.in-Claim.is in
+    let d = decides-at g.F.Key.Ord.cmp g.F.Mergeable.parts.joined g.F.Functions.meaning g.F.Functions.code _ c.args.slot c.args.context c.args.now x c.requires.here c.facts.ensures.sound c.requires.asks_nothing c.requires.unclaimed c.requires.unloading _ _ c.decided.ensures c.in-Claim.is in
     claims x d c.in-Ok.ensures.ok refl
 
 pub returns-in-Ok-clause-event : goal.returns-in-Ok-clause-event
@@ -186,7 +186,7 @@ pub write-requires-clause-write : goal.write-requires-clause-write
 write-requires-clause-write g c =
     let v = c.args.self.now in
     record {
-      own = ap (λ k. partition_of v.count (g.F.Functions.code k)) c.key-key.ensures ∙ own-at g.F.Key.Ord.cmp g.F.Mergeable.parts.joined g.F.Functions.code v c.known.ensures.sound c.args.slot c.args.context c.args.operation.now c.requires.here;
+      own = ap (λ k. partition_of v.count (g.F.Functions.code k)) c.key-key.ensures ∙ own-at g.F.Key.Ord.cmp g.F.Mergeable.parts.joined g.F.Functions.code v c.facts.ensures.sound c.args.slot c.args.context c.args.operation.now c.requires.here;
       entry = found-stands g.F.Functions.code v c.key-key.result c.find-entry.result.1 c.in-Some.entry c.in-Some.is c.find-entry.ensures.stands;
     }
 
@@ -199,7 +199,7 @@ write-requires-clause-decided g c =
     record {
       operation = x;
       key_is = sym c.key-key.ensures;
-      decides = decides-at g.F.Key.Ord.cmp g.F.Mergeable.parts.joined g.F.Functions.meaning g.F.Functions.code _ c.args.slot c.args.context c.args.now x c.requires.here c.known.ensures.sound c.requires.asks_nothing c.requires.unclaimed c.requires.unloading _ _ c.decided.ensures c.in-Append.is;
+      decides = decides-at g.F.Key.Ord.cmp g.F.Mergeable.parts.joined g.F.Functions.meaning g.F.Functions.code _ c.args.slot c.args.context c.args.now x c.requires.here c.facts.ensures.sound c.requires.asks_nothing c.requires.unclaimed c.requires.unloading _ _ c.decided.ensures c.in-Append.is;
     }
 
 pub returns-in-Some-clause-effect : goal.returns-in-Some-clause-effect
@@ -217,35 +217,35 @@ returns-in-Some-clause-moment g c = c.write.ensures.moment
 pub unreachable-requires-in_default-first : goal.unreachable-requires-in_default-first
 unreachable-requires-in_default-first g c =
     let ord = g.met.F.Key.Ord in
-    let known = g.met.F.Key.FixedKey in
-    let order = key_order g.F.Key.PartialEq.eq g.F.Key.Ord.cmp ord.matches_eq known.exact ord.total in
-    replace-found g.F.Key.Ord.cmp g.F.Mergeable.parts.joined g.F.Functions.meaning g.F.Functions.code c.args.self.now c.args.slot c.args.context c.args.operation.now c.key-key.result c.newest_in_memory-first.result order c.known.ensures.sound c.requires.here c.key-key.ensures c.newest_in_memory-first.ensures c.lookups_tell.ensures.first c.in-Replace.value c.in-Replace.answer c.decided.result c.decided.ensures c.in-Replace.is c.in_default-first.field-0 c.in_default-first.is
+    let facts = g.met.F.Key.FixedKey in
+    let order = key_order g.F.Key.PartialEq.eq g.F.Key.Ord.cmp ord.matches_eq facts.exact ord.total in
+    replace-found g.F.Key.Ord.cmp g.F.Mergeable.parts.joined g.F.Functions.meaning g.F.Functions.code c.args.self.now c.args.slot c.args.context c.args.operation.now c.key-key.result c.newest_in_memory-first.result order c.facts.ensures.sound c.requires.here c.key-key.ensures c.newest_in_memory-first.ensures c.lookups_tell.ensures.first c.in-Replace.value c.in-Replace.answer c.decided.result c.decided.ensures c.in-Replace.is c.in_default-first.field-0 c.in_default-first.is
 
 pub rewrite-requires-clause-decided : goal.rewrite-requires-clause-decided
 rewrite-requires-clause-decided g c =
     let x = c.args.operation.now in
-    decides-at g.F.Key.Ord.cmp g.F.Mergeable.parts.joined g.F.Functions.meaning g.F.Functions.code _ c.args.slot c.args.context c.args.now x c.requires.here c.known.ensures.sound c.requires.asks_nothing c.requires.unclaimed c.requires.unloading _ _ c.decided.ensures c.in-Replace.is
+    decides-at g.F.Key.Ord.cmp g.F.Mergeable.parts.joined g.F.Functions.meaning g.F.Functions.code _ c.args.slot c.args.context c.args.now x c.requires.here c.facts.ensures.sound c.requires.asks_nothing c.requires.unclaimed c.requires.unloading _ _ c.decided.ensures c.in-Replace.is
 
 pub rewrite-requires-clause-last : goal.rewrite-requires-clause-last
 rewrite-requires-clause-last g c =
     let ord = g.met.F.Key.Ord in
-    let known = g.met.F.Key.FixedKey in
-    let order = key_order g.F.Key.PartialEq.eq g.F.Key.Ord.cmp ord.matches_eq known.exact ord.total in
-    (replace-last g.F.Key.Ord.cmp g.F.Mergeable.parts.joined g.F.Functions.meaning g.F.Functions.code c.args.self.now c.args.slot c.args.context c.args.operation.now c.key-key.result c.newest_in_memory-first.result order c.known.ensures.sound c.requires.here c.key-key.ensures c.newest_in_memory-first.ensures c.lookups_tell.ensures.first c.in-Replace.value c.in-Replace.answer c.decided.result c.decided.ensures c.in-Replace.is c.meetings_tell.ensures.mutable c.in-Found.last c.in-Found.is).last_is
+    let facts = g.met.F.Key.FixedKey in
+    let order = key_order g.F.Key.PartialEq.eq g.F.Key.Ord.cmp ord.matches_eq facts.exact ord.total in
+    (replace-last g.F.Key.Ord.cmp g.F.Mergeable.parts.joined g.F.Functions.meaning g.F.Functions.code c.args.self.now c.args.slot c.args.context c.args.operation.now c.key-key.result c.newest_in_memory-first.result order c.facts.ensures.sound c.requires.here c.key-key.ensures c.newest_in_memory-first.ensures c.lookups_tell.ensures.first c.in-Replace.value c.in-Replace.answer c.decided.result c.decided.ensures c.in-Replace.is c.meetings_tell.ensures.mutable c.in-Found.last c.in-Found.is).last_is
 
 pub rewrite-requires-clause-stands : goal.rewrite-requires-clause-stands
 rewrite-requires-clause-stands g c =
     let ord = g.met.F.Key.Ord in
-    let known = g.met.F.Key.FixedKey in
-    let order = key_order g.F.Key.PartialEq.eq g.F.Key.Ord.cmp ord.matches_eq known.exact ord.total in
-    (replace-last g.F.Key.Ord.cmp g.F.Mergeable.parts.joined g.F.Functions.meaning g.F.Functions.code c.args.self.now c.args.slot c.args.context c.args.operation.now c.key-key.result c.newest_in_memory-first.result order c.known.ensures.sound c.requires.here c.key-key.ensures c.newest_in_memory-first.ensures c.lookups_tell.ensures.first c.in-Replace.value c.in-Replace.answer c.decided.result c.decided.ensures c.in-Replace.is c.meetings_tell.ensures.mutable c.in-Found.last c.in-Found.is).stands
+    let facts = g.met.F.Key.FixedKey in
+    let order = key_order g.F.Key.PartialEq.eq g.F.Key.Ord.cmp ord.matches_eq facts.exact ord.total in
+    (replace-last g.F.Key.Ord.cmp g.F.Mergeable.parts.joined g.F.Functions.meaning g.F.Functions.code c.args.self.now c.args.slot c.args.context c.args.operation.now c.key-key.result c.newest_in_memory-first.result order c.facts.ensures.sound c.requires.here c.key-key.ensures c.newest_in_memory-first.ensures c.lookups_tell.ensures.first c.in-Replace.value c.in-Replace.answer c.decided.result c.decided.ensures c.in-Replace.is c.meetings_tell.ensures.mutable c.in-Found.last c.in-Found.is).stands
 
 pub rewrite-requires-clause-whole : goal.rewrite-requires-clause-whole
 rewrite-requires-clause-whole g c =
     let ord = g.met.F.Key.Ord in
-    let known = g.met.F.Key.FixedKey in
-    let order = key_order g.F.Key.PartialEq.eq g.F.Key.Ord.cmp ord.matches_eq known.exact ord.total in
-    (replace-last g.F.Key.Ord.cmp g.F.Mergeable.parts.joined g.F.Functions.meaning g.F.Functions.code c.args.self.now c.args.slot c.args.context c.args.operation.now c.key-key.result c.newest_in_memory-first.result order c.known.ensures.sound c.requires.here c.key-key.ensures c.newest_in_memory-first.ensures c.lookups_tell.ensures.first c.in-Replace.value c.in-Replace.answer c.decided.result c.decided.ensures c.in-Replace.is c.meetings_tell.ensures.mutable c.in-Found.last c.in-Found.is).whole
+    let facts = g.met.F.Key.FixedKey in
+    let order = key_order g.F.Key.PartialEq.eq g.F.Key.Ord.cmp ord.matches_eq facts.exact ord.total in
+    (replace-last g.F.Key.Ord.cmp g.F.Mergeable.parts.joined g.F.Functions.meaning g.F.Functions.code c.args.self.now c.args.slot c.args.context c.args.operation.now c.key-key.result c.newest_in_memory-first.result order c.facts.ensures.sound c.requires.here c.key-key.ensures c.newest_in_memory-first.ensures c.lookups_tell.ensures.first c.in-Replace.value c.in-Replace.answer c.decided.result c.decided.ensures c.in-Replace.is c.meetings_tell.ensures.mutable c.in-Found.last c.in-Found.is).whole
 
 pub returns-in-Found-clause-effect : goal.returns-in-Found-clause-effect
 returns-in-Found-clause-effect g c = c.rewrite.ensures.effect
@@ -259,7 +259,7 @@ returns-in-Found-clause-moment g c = c.rewrite.ensures.moment
 pub returns-in-Wait-clause-effect : goal.returns-in-Wait-clause-effect
 returns-in-Wait-clause-effect g c =
     let x = c.args.operation.now in
-    let d = decides-at g.F.Key.Ord.cmp g.F.Mergeable.parts.joined g.F.Functions.meaning g.F.Functions.code _ c.args.slot c.args.context c.args.now x c.requires.here c.known.ensures.sound c.requires.asks_nothing c.requires.unclaimed c.requires.unloading _ _ c.decided.ensures c.in-Wait.is in
+    let d = decides-at g.F.Key.Ord.cmp g.F.Mergeable.parts.joined g.F.Functions.meaning g.F.Functions.code _ c.args.slot c.args.context c.args.now x c.requires.here c.facts.ensures.sound c.requires.asks_nothing c.requires.unclaimed c.requires.unloading _ _ c.decided.ensures c.in-Wait.is in
     rw c.pass.ensures (waits x d refl refl)
 
 pub returns-in-Wait-clause-event : goal.returns-in-Wait-clause-event
@@ -284,7 +284,7 @@ prepare-requires-clause-key g c = c.key-key.ensures
 pub prepare-requires-clause-decided : goal.prepare-requires-clause-decided
 prepare-requires-clause-decided g c =
     let x = c.args.operation.now in
-    decides-at g.F.Key.Ord.cmp g.F.Mergeable.parts.joined g.F.Functions.meaning g.F.Functions.code _ c.args.slot c.args.context c.args.now x c.requires.here c.known.ensures.sound c.requires.asks_nothing c.requires.unclaimed c.requires.unloading _ _ c.decided.ensures c.in-Prepare.is
+    decides-at g.F.Key.Ord.cmp g.F.Mergeable.parts.joined g.F.Functions.meaning g.F.Functions.code _ c.args.slot c.args.context c.args.now x c.requires.here c.facts.ensures.sound c.requires.asks_nothing c.requires.unclaimed c.requires.unloading _ _ c.decided.ensures c.in-Prepare.is
 
 pub returns-in-Some-entry-clause-effect : goal.returns-in-Some-entry-clause-effect
 returns-in-Some-entry-clause-effect g c = c.prepare.ensures.effect
@@ -310,7 +310,7 @@ ask_page-requires-clause-stands g c =
 pub ask_page-requires-clause-decided : goal.ask_page-requires-clause-decided
 ask_page-requires-clause-decided g c =
     let x = c.args.operation.now in
-    decides-at g.F.Key.Ord.cmp g.F.Mergeable.parts.joined g.F.Functions.meaning g.F.Functions.code _ c.args.slot c.args.context c.args.now x c.requires.here c.known.ensures.sound c.requires.asks_nothing c.requires.unclaimed c.requires.unloading _ _ c.decided.ensures c.in-Load.is
+    decides-at g.F.Key.Ord.cmp g.F.Mergeable.parts.joined g.F.Functions.meaning g.F.Functions.code _ c.args.slot c.args.context c.args.now x c.requires.here c.facts.ensures.sound c.requires.asks_nothing c.requires.unclaimed c.requires.unloading _ _ c.decided.ensures c.in-Load.is
 
 pub returns-in-Some-entry-2-clause-effect : goal.returns-in-Some-entry-2-clause-effect
 returns-in-Some-entry-2-clause-effect g c = c.ask_page.ensures.effect

@@ -15,7 +15,7 @@ invariant_of-result g c =
     let empty = c.in_ok-records.ensures.ok ∙ ap (λ b. empty_records at.partition_bits at.bucket_bits b c.in-Some.shape.record_size at.frames) shape.0 ∙ ap (λ r. empty_records at.partition_bits at.bucket_bits at.page_bits r at.frames) shape.1 in
     rw (c.partitions-count.ensures.count, empty, c.in_ok-contexts.ensures.ok)
     (record {
-      sound = sound-empty g.F.Mergeable.MERGES c.args.config.now _ c.args.number (omega (arith, c.partitions-count.ensures.count, c.if-number-count.false)) (rw empty at c.known.ensures.traced) (rw empty at c.known.ensures.stood)
+      sound = sound-empty g.F.Mergeable.MERGES c.args.config.now _ c.args.number (omega (arith, c.partitions-count.ensures.count, c.if-number-count.false)) (rw empty at c.facts.ensures.traced) (rw empty at c.facts.ensures.resolved)
           (rw empty at c.in_ok-records.ensures.tentative);
       compacting = compacting-empty g.R.Receipt.keeps g.F.Key.Ord.cmp g.F.Mergeable.parts.joined g.F.Functions.code _ refl refl refl refl refl;
     })

@@ -14,12 +14,12 @@ returns-clause-own g c =
 
 pub returns-clause-counted : goal.returns-clause-counted
 returns-clause-counted g c =
-    let page = ((rw c.log.ensures at c.known.ensures.receipts) c.args.page (g.R.Receipt.stands c.in-Ok.receipt) c.in-Ok.ensures.stands).0 in
+    let page = ((rw c.log.ensures at c.facts.ensures.receipts) c.args.page (g.R.Receipt.stands c.in-Ok.receipt) c.in-Ok.ensures.stands).0 in
     rw page at c.fetch.ensures.counted
 
 pub returns-clause-caused : goal.returns-clause-caused
 returns-clause-caused g c =
     let kept = c.in-Ok.ensures.stands in
-    let long = ((rw c.log.ensures at c.known.ensures.receipts) c.args.page (g.R.Receipt.stands c.in-Ok.receipt) kept).1 in
+    let long = ((rw c.log.ensures at c.facts.ensures.receipts) c.args.page (g.R.Receipt.stands c.in-Ok.receipt) kept).1 in
     rw (← c.self.view_is)
     (IfErr-weaker c.fetch.result _ _ (λ e fails wanted. record { receipt = c.in-Ok.receipt; own = kept; long = long; fails = rw (c.page_size.ensures, c.shape.ensures.bits, c.log-2.ensures) at (fails wanted) }) c.fetch.ensures.caused)

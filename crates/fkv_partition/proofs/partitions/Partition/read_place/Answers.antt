@@ -18,8 +18,8 @@ check_liveness-requires-clause-begun g c =
     let x = c.args.relocation.now in
     let a = c.requires.has.awaits in
     let p = c.args.loaded.now in
-    let sound = c.known.ensures.sound in
-    let s = c.known.ensures.compacting in
+    let sound = c.facts.ensures.sound in
+    let s = c.facts.ensures.compacting in
     let at = c.requires.reads in
     place-begun g.F.Key.Ord.cmp g.F.Mergeable.parts.joined g.F.Functions.code v sound s c.args.slot c.args.context x v.records.log.begin at refl a.here
 
@@ -29,8 +29,8 @@ check_liveness-requires-clause-is g c =
     let x = c.args.relocation.now in
     let a = c.requires.has.awaits in
     let p = c.args.loaded.now in
-    let sound = c.known.ensures.sound in
-    let s = c.known.ensures.compacting in
+    let sound = c.facts.ensures.sound in
+    let s = c.facts.ensures.compacting in
     let at = c.requires.reads in
     let kept = (subst (λ r. IsTrue g.R.Receipt.keeps → IfSome (entry_at r.log.text x.target) (λ y. c.own_record_in.result ≡ Ok y)) c.records-2.ensures c.own_record_in.ensures.kept) in
     place-read g.F.Key.Ord.cmp g.F.Mergeable.parts.joined g.F.Functions.code v sound s c.args.slot c.args.context x v.records.log.begin at refl a.here c.in-Ok.entry c.own_record_in.result c.in-Ok.is kept
@@ -41,8 +41,8 @@ returns-in-Err-clause-effect g c =
     let x = c.args.relocation.now in
     let a = c.requires.has.awaits in
     let p = c.args.loaded.now in
-    let sound = c.known.ensures.sound in
-    let s = c.known.ensures.compacting in
+    let sound = c.facts.ensures.sound in
+    let s = c.facts.ensures.compacting in
     let at = c.requires.reads in
     let page = c.page_of-page.ensures ∙ ap (λ r. page_at r.log.bits x.target) (c.records.ensures) in
     let has : HasPage v c.args.slot c.args.context x x.target (g.R.Receipt.stands p.receipt) = c.requires.has in
@@ -55,8 +55,8 @@ returns-in-Ok-clause-effect g c =
     let x = c.args.relocation.now in
     let a = c.requires.has.awaits in
     let p = c.args.loaded.now in
-    let sound = c.known.ensures.sound in
-    let s = c.known.ensures.compacting in
+    let sound = c.facts.ensures.sound in
+    let s = c.facts.ensures.compacting in
     let at = c.requires.reads in
     let page = c.page_of-page.ensures ∙ ap (λ r. page_at r.log.bits x.target) (c.records.ensures) in
     let has : HasPage v c.args.slot c.args.context x x.target (g.R.Receipt.stands p.receipt) = c.requires.has in
@@ -105,7 +105,7 @@ returns-in-Err-clause-undamaged g c = λ yes_keeps page told.
     let v = c.args.self.now in
     let x = c.args.relocation.now in
     let kept = subst (λ r. IsTrue g.R.Receipt.keeps → IfSome (entry_at r.log.text x.target) (λ y. c.own_record_in.result ≡ Ok y)) (c.records-2.ensures) c.own_record_in.ensures.kept in
-    place-undamaged g.F.Key.Ord.cmp g.F.Mergeable.parts.joined g.F.Functions.code v c.known.ensures.sound c.known.ensures.compacting c.args.slot c.args.context x v.records.log.begin c.requires.reads refl c.requires.has.awaits.here c.own_record_in.result c.in-Err.is kept yes_keeps
+    place-undamaged g.F.Key.Ord.cmp g.F.Mergeable.parts.joined g.F.Functions.code v c.facts.ensures.sound c.facts.ensures.compacting c.args.slot c.args.context x v.records.log.begin c.requires.reads refl c.requires.has.awaits.here c.own_record_in.result c.in-Err.is kept yes_keeps
 
 pub returns-in-Ok-clause-undamaged : goal.returns-in-Ok-clause-undamaged
 returns-in-Ok-clause-undamaged g c = λ yes_keeps page is. checks-not c.check_liveness.ensures.effect is

@@ -13,28 +13,28 @@ use Rattle.fkv_partition.proofs.partitions.Partition.receive.Goals as goal
 pub is_own-requires-whole : goal.is_own-requires-whole
 is_own-requires-whole g c κs =
     let ord = g.met.F.Key.Ord in
-    let known = g.met.F.Key.FixedKey in
-    let order = key_order g.F.Key.PartialEq.eq g.F.Key.Ord.cmp ord.matches_eq known.exact ord.total in
+    let facts = g.met.F.Key.FixedKey in
+    let order = key_order g.F.Key.PartialEq.eq g.F.Key.Ord.cmp ord.matches_eq facts.exact ord.total in
     let v = c.args.self.now in
     let x = c.args.operation.now in
     let l = c.args.loading in
     let a = c.requires.awaits in
     let p = c.args.loaded in
-    let there = wanted-flushed g.F.Key.Ord.cmp g.F.Mergeable.parts.joined g.F.Functions.code order v c.known.ensures.sound c.args.slot c.args.context x l a in
+    let there = wanted-flushed g.F.Key.Ord.cmp g.F.Mergeable.parts.joined g.F.Functions.code order v c.facts.ensures.sound c.args.slot c.args.context x l a in
     with_six (
     rw c.page_of-page.ensures (subst (λ u. HasReceipt u.records.log.receipts (page_at u.records.log.bits l.wanted)) (sym c.self.view_is) there))
 
 pub returns-in-Err-clause-effect : goal.returns-in-Err-clause-effect
 returns-in-Err-clause-effect g c =
     let ord = g.met.F.Key.Ord in
-    let known = g.met.F.Key.FixedKey in
-    let order = key_order g.F.Key.PartialEq.eq g.F.Key.Ord.cmp ord.matches_eq known.exact ord.total in
+    let facts = g.met.F.Key.FixedKey in
+    let order = key_order g.F.Key.PartialEq.eq g.F.Key.Ord.cmp ord.matches_eq facts.exact ord.total in
     let v = c.args.self.now in
     let x = c.args.operation.now in
     let l = c.args.loading in
     let a = c.requires.awaits in
     let p = c.args.loaded in
-    let there = wanted-flushed g.F.Key.Ord.cmp g.F.Mergeable.parts.joined g.F.Functions.code order v c.known.ensures.sound c.args.slot c.args.context x l a in
+    let there = wanted-flushed g.F.Key.Ord.cmp g.F.Mergeable.parts.joined g.F.Functions.code order v c.facts.ensures.sound c.args.slot c.args.context x l a in
     let s = stranger-kept (view_of g.F.Mergeable.MERGES c.self.inside.number c.self.inside.count c.self.inside.records c.self.inside.contexts.items c.self.inside.moment c.self.inside.cleared) v c.page_of-page.result l.wanted (g.R.Receipt.stands p.receipt) c.in-Err.refused c.self.view_is c.page_of-page.ensures there c.in-Err.ensures.stranger in
     Loads.stranger x l p s.0 a refl s.1 s.2 refl (ap Err s.3)
 
@@ -70,12 +70,12 @@ returns-clause-moment g c = c.resume_look_up.ensures.moment
 pub returns-in-Err-clause-undamaged : goal.returns-in-Err-clause-undamaged
 returns-in-Err-clause-undamaged g c = λ yes_keeps page is.
     let ord = g.met.F.Key.Ord in
-    let known = g.met.F.Key.FixedKey in
-    let order = key_order g.F.Key.PartialEq.eq g.F.Key.Ord.cmp ord.matches_eq known.exact ord.total in
+    let facts = g.met.F.Key.FixedKey in
+    let order = key_order g.F.Key.PartialEq.eq g.F.Key.Ord.cmp ord.matches_eq facts.exact ord.total in
     let v = c.args.self.now in
     let x = c.args.operation.now in
     let l = c.args.loading in
-    let there = wanted-flushed g.F.Key.Ord.cmp g.F.Mergeable.parts.joined g.F.Functions.code order v c.known.ensures.sound c.args.slot c.args.context x l c.requires.awaits in
+    let there = wanted-flushed g.F.Key.Ord.cmp g.F.Mergeable.parts.joined g.F.Functions.code order v c.facts.ensures.sound c.args.slot c.args.context x l c.requires.awaits in
     let s = stranger-kept (view_of g.F.Mergeable.MERGES c.self.inside.number c.self.inside.count c.self.inside.records c.self.inside.contexts.items c.self.inside.moment c.self.inside.cleared) v c.page_of-page.result l.wanted (g.R.Receipt.stands c.args.loaded.receipt) c.in-Err.refused c.self.view_is c.page_of-page.ensures there c.in-Err.ensures.stranger in
     stranger-not s.3 is
 

@@ -13,22 +13,22 @@ use Rattle.fkv_partition.proofs.partitions.Partition.receive_place.Goals as goal
 pub is_own-requires-whole : goal.is_own-requires-whole
 is_own-requires-whole g c κs =
     let ord = g.met.F.Key.Ord in
-    let known = g.met.F.Key.FixedKey in
-    let order = key_order g.F.Key.PartialEq.eq g.F.Key.Ord.cmp ord.matches_eq known.exact ord.total in
-    let there = awaited-flushed g.F.Key.Ord.cmp g.F.Mergeable.parts.joined g.F.Functions.code order c.args.self.now c.known.ensures.sound c.known.ensures.compacting c.args.slot c.args.context c.args.relocation.now c.args.wanted c.requires.awaits in
+    let facts = g.met.F.Key.FixedKey in
+    let order = key_order g.F.Key.PartialEq.eq g.F.Key.Ord.cmp ord.matches_eq facts.exact ord.total in
+    let there = awaited-flushed g.F.Key.Ord.cmp g.F.Mergeable.parts.joined g.F.Functions.code order c.args.self.now c.facts.ensures.sound c.facts.ensures.compacting c.args.slot c.args.context c.args.relocation.now c.args.wanted c.requires.awaits in
     with_six (
     page-within c.args.wanted c.page_of-page.ensures (c.records.ensures) (c.records-2.ensures) there)
 
 pub returns-in-Err-clause-effect : goal.returns-in-Err-clause-effect
 returns-in-Err-clause-effect g c =
     let ord = g.met.F.Key.Ord in
-    let known = g.met.F.Key.FixedKey in
-    let order = key_order g.F.Key.PartialEq.eq g.F.Key.Ord.cmp ord.matches_eq known.exact ord.total in
+    let facts = g.met.F.Key.FixedKey in
+    let order = key_order g.F.Key.PartialEq.eq g.F.Key.Ord.cmp ord.matches_eq facts.exact ord.total in
     let v = c.args.self.now in
     let x = c.args.relocation.now in
     let a = c.requires.awaits in
     let p = c.args.loaded in
-    let there = awaited-flushed g.F.Key.Ord.cmp g.F.Mergeable.parts.joined g.F.Functions.code order v c.known.ensures.sound c.known.ensures.compacting c.args.slot c.args.context x c.args.wanted a in
+    let there = awaited-flushed g.F.Key.Ord.cmp g.F.Mergeable.parts.joined g.F.Functions.code order v c.facts.ensures.sound c.facts.ensures.compacting c.args.slot c.args.context x c.args.wanted a in
     let page = c.page_of-page.ensures ∙ ap (λ r. page_at r.log.bits c.args.wanted) (c.records.ensures ∙ sym c.records-2.ensures) in
     let z = stranger-held c.records-2.result.now v.records c.page_of-page.result c.args.wanted (g.R.Receipt.stands p.receipt) c.in-Err.refused (c.records-2.ensures) page there c.in-Err.ensures.stranger in
     LoadsOn.stranger x c.args.wanted p z.0 a refl z.1 z.2 refl (ap Err z.3)
@@ -70,10 +70,10 @@ returns-clause-moment g c = c.read_on.ensures.moment
 pub returns-in-Err-clause-undamaged : goal.returns-in-Err-clause-undamaged
 returns-in-Err-clause-undamaged g c = λ yes_keeps page is.
     let ord = g.met.F.Key.Ord in
-    let known = g.met.F.Key.FixedKey in
-    let order = key_order g.F.Key.PartialEq.eq g.F.Key.Ord.cmp ord.matches_eq known.exact ord.total in
+    let facts = g.met.F.Key.FixedKey in
+    let order = key_order g.F.Key.PartialEq.eq g.F.Key.Ord.cmp ord.matches_eq facts.exact ord.total in
     let v = c.args.self.now in
-    let there = awaited-flushed g.F.Key.Ord.cmp g.F.Mergeable.parts.joined g.F.Functions.code order v c.known.ensures.sound c.known.ensures.compacting c.args.slot c.args.context c.args.relocation.now c.args.wanted c.requires.awaits in
+    let there = awaited-flushed g.F.Key.Ord.cmp g.F.Mergeable.parts.joined g.F.Functions.code order v c.facts.ensures.sound c.facts.ensures.compacting c.args.slot c.args.context c.args.relocation.now c.args.wanted c.requires.awaits in
     let at = c.page_of-page.ensures ∙ ap (λ r. page_at r.log.bits c.args.wanted) (c.records.ensures ∙ sym c.records-2.ensures) in
     let z = stranger-held c.records-2.result.now v.records c.page_of-page.result c.args.wanted (g.R.Receipt.stands c.args.loaded.receipt) c.in-Err.refused (c.records-2.ensures) at there c.in-Err.ensures.stranger in
     stranger-not z.3 is

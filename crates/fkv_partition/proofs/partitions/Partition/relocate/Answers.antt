@@ -30,7 +30,7 @@ begin_relocation-requires-clause-stands g c =
     let agrees = rw c.records.ensures at c.view-view.ensures.agrees in
     let safe = agrees.safe in
     let low = rw c.cleared-target.ensures at c.if-target-view.false in
-    rw c.cleared-target.ensures (may-relocate g.R.Receipt.keeps g.F.Key.Ord.cmp g.F.Mergeable.parts.joined g.F.Functions.code v c.known.ensures.compacting c.known.ensures.sound.traced (omega (arith, safe, low)) c.args.now)
+    rw c.cleared-target.ensures (may-relocate g.R.Receipt.keeps g.F.Key.Ord.cmp g.F.Mergeable.parts.joined g.F.Functions.code v c.facts.ensures.compacting c.facts.ensures.sound.traced (omega (arith, safe, low)) c.args.now)
 
 pub returns-clause-effect : goal.returns-clause-effect
 returns-clause-effect g c =

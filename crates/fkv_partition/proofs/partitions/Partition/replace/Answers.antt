@@ -1,5 +1,5 @@
 use Rattle.fkv_partition.proofs.SoundLemmas.{sound-replaced}
-use Rattle.fkv_partition.proofs.WholeLemmas.{whole-records, set-stood, none-moves}
+use Rattle.fkv_partition.proofs.WholeLemmas.{whole-records, set-resolved, none-moves}
 use Rattle.fkv_partition.proofs.PreservedLemmas.{borne-value, live-high}
 use Rattle.fkv_partition.specs.Inside.{view_of}
 use Rattle.std.proofs.Common.{◌+◌, ◌*◌, None, slice_set, refl}
@@ -22,9 +22,9 @@ invariant_of-self g c =
     (sound-replaced sound c.args.slot c.args.context c.args.now c.args.address c.args.value
     (rw (← c.self.view_is) at c.requires.unclaimed)
     high
-    (rw c.replace.ensures at c.known-2.ensures.traced)
-    (rw c.replace.ensures at c.known-2.ensures.stood)
-    (λ q b still. c.records_change.ensures.kept cmp g.R.Receipt.keeps code was c.args.address c.args.value q b c.known.ensures.traced last high still))
-    (borne-value cmp join code v sound (record v { records = with_value was c.args.address c.args.value; contexts = contexts; moment = c.args.now }) c.args.address c.args.value high (λ q b still. c.records_change.ensures.kept cmp g.R.Receipt.keeps code was c.args.address c.args.value q b c.known.ensures.traced last high still)
-    (λ limit low clear. c.cleared_stay.ensures.changed cmp was c.args.address c.args.value limit (live-high cmp join code was sound.traced sound.stood c.args.address last limit clear) clear) refl)
-    refl (set-stood v.contexts (c.args.slot * 8 + c.args.context) None none-moves))
+    (rw c.replace.ensures at c.facts-2.ensures.traced)
+    (rw c.replace.ensures at c.facts-2.ensures.resolved)
+    (λ q b still. c.records_change.ensures.kept cmp g.R.Receipt.keeps code was c.args.address c.args.value q b c.facts.ensures.traced last high still))
+    (borne-value cmp join code v sound (record v { records = with_value was c.args.address c.args.value; contexts = contexts; moment = c.args.now }) c.args.address c.args.value high (λ q b still. c.records_change.ensures.kept cmp g.R.Receipt.keeps code was c.args.address c.args.value q b c.facts.ensures.traced last high still)
+    (λ limit low clear. c.cleared_stay.ensures.changed cmp was c.args.address c.args.value limit (live-high cmp join code was sound.traced sound.resolved c.args.address last limit clear) clear) refl)
+    refl (set-resolved v.contexts (c.args.slot * 8 + c.args.context) None none-moves))

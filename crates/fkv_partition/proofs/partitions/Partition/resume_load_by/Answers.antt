@@ -48,8 +48,8 @@ returns-then-begin-begins-clause-event g c =
 pub read-requires : goal.read-requires
 read-requires g c =
     let ord = g.met.F.Key.Ord in
-    let known = g.met.F.Key.FixedKey in
-    let order = key_order g.F.Key.PartialEq.eq g.F.Key.Ord.cmp ord.matches_eq known.exact ord.total in
+    let facts = g.met.F.Key.FixedKey in
+    let order = key_order g.F.Key.PartialEq.eq g.F.Key.Ord.cmp ord.matches_eq facts.exact ord.total in
     let v = c.args.self.now in
     let x = c.in-Some.relocation in
     let here = sym c.in-Some.ensures.value in
@@ -58,7 +58,7 @@ read-requires g c =
     let begins = c.begin-begins.ensures ∙ ap (λ r. r.log.begin) (c.records.ensures) in
     let a = awaits-page v c.args.slot c.args.context x c.in-Some-awaited.begin wanted here told (c.if-begin-begins.false ∙ begins) in
     let page = c.page_of-page.ensures ∙ ap (λ r. page_at r.log.bits wanted) (c.records-2.ensures) in
-    let there = awaited-flushed g.F.Key.Ord.cmp g.F.Mergeable.parts.joined g.F.Functions.code order v c.known.ensures.sound c.known.ensures.compacting c.args.slot c.args.context x wanted a in
+    let there = awaited-flushed g.F.Key.Ord.cmp g.F.Mergeable.parts.joined g.F.Functions.code order v c.facts.ensures.sound c.facts.ensures.compacting c.args.slot c.args.context x wanted a in
     record { flushed = (rw page there) }
 
 pub read_on-requires-clause-has : goal.read_on-requires-clause-has

@@ -20,9 +20,9 @@ invariant_of-self g c =
     rw c.replace.ensures
     (whole-records v c.self.invariant (with_value was c.args.address value) v.contexts c.args.now
     (sound-revalued sound c.args.now c.args.address value high
-    (rw c.replace.ensures at c.known-2.ensures.traced)
-    (rw c.replace.ensures at c.known-2.ensures.stood)
-    (λ q b still. c.records_change.ensures.kept cmp g.R.Receipt.keeps code was c.args.address value q b c.known.ensures.traced last high still))
-    (borne-value cmp join code v sound (record v { records = with_value was c.args.address value; moment = c.args.now }) c.args.address value high (λ q b still. c.records_change.ensures.kept cmp g.R.Receipt.keeps code was c.args.address value q b c.known.ensures.traced last high still)
-    (λ limit low clear. c.cleared_stay.ensures.changed cmp was c.args.address value limit (live-high cmp join code was sound.traced sound.stood c.args.address last limit clear) clear) refl)
+    (rw c.replace.ensures at c.facts-2.ensures.traced)
+    (rw c.replace.ensures at c.facts-2.ensures.resolved)
+    (λ q b still. c.records_change.ensures.kept cmp g.R.Receipt.keeps code was c.args.address value q b c.facts.ensures.traced last high still))
+    (borne-value cmp join code v sound (record v { records = with_value was c.args.address value; moment = c.args.now }) c.args.address value high (λ q b still. c.records_change.ensures.kept cmp g.R.Receipt.keeps code was c.args.address value q b c.facts.ensures.traced last high still)
+    (λ limit low clear. c.cleared_stay.ensures.changed cmp was c.args.address value limit (live-high cmp join code was sound.traced sound.resolved c.args.address last limit clear) clear) refl)
     refl (λ i x h. h))

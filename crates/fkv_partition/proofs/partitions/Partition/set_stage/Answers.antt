@@ -17,5 +17,5 @@ pub set_relocation-requires-clause-stands : goal.set_relocation-requires-clause-
 set_relocation-requires-clause-stands g c =
     let v = c.args.self.now in
     let was = c.args.relocation.now in
-    let stood = stands-here v c.args.slot c.args.context was c.requires.here c.known.ensures.compacting in
-    rw c.in_stage-moved.ensures (record { place = stood.place; frozen = stood.frozen; issued = stood.issued; stage = c.requires.stands })
+    let resolved = stands-here v c.args.slot c.args.context was c.requires.here c.facts.ensures.compacting in
+    rw c.in_stage-moved.ensures (record { place = resolved.place; frozen = resolved.frozen; issued = resolved.issued; stage = c.requires.stands })

@@ -2,6 +2,7 @@ use Rattle.std.proofs.Common.{refl}
 use Rattle.fkv_partition.specs.Truncating.{Truncates}
 use Rattle.fkv_partition.proofs.TruncateLemmas.{page-low, page-high, truncates-told}
 use Rattle.fkv_partition.proofs.EffectLemmas.{on-ok, truncated-event}
+use Rattle.fkv_partition.proofs.SeatLemmas.{truncates-seats}
 use Rattle.fkv_partition.proofs.partitions.Partition.truncate.Goals as goal
 
 pub returns-then-page-page_of-clause-effect : goal.returns-then-page-page_of-clause-effect
@@ -27,5 +28,5 @@ returns-clause-unchanged g c = c.cut.ensures.unchanged
 pub returns-clause-event : goal.returns-clause-event
 returns-clause-event g c =
     let v = c.args.self.now in
-    let seats = c.sessions_preserved.ensures.truncates g.R.Receipt.keeps v c.cut.new.self c.args.page c.args.now c.cut.result c.cut.ensures.effect in
+    let seats = truncates-seats v c.cut.new.self g.R.Receipt.keeps c.args.page c.args.now c.cut.result c.cut.ensures.effect in
     (on-ok c.cut.result (truncated-event v c.cut.new.self c.args.page c.args.now seats.0) c.cut.ensures.event)

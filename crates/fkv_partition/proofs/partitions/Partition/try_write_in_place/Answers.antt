@@ -4,6 +4,7 @@ use Rattle.fkv_partition.specs.Views.{slots_of}
 use Rattle.fkv_partition.proofs.ApartLemmas.{later-still, some-all}
 use Rattle.fkv_partition.proofs.AtOnceLemmas.{done-at-once}
 use Rattle.fkv_partition.proofs.MoveLemmas.{open-free}
+use Rattle.fkv_partition.proofs.SeatLemmas.{goes-seats, issues-seats}
 use Rattle.fkv_partition.proofs.partitions.Partition.try_write_in_place.Goals as goal
 
 pub returns-clause-done : goal.returns-clause-done
@@ -13,8 +14,8 @@ returns-clause-done g c =
     let first = c.in-Some.ensures.value in
     (done-at-once g.R.Receipt.stands g.F.Key.Ord.cmp g.F.Mergeable.parts.joined g.F.Functions.meaning g.F.Functions.code v c.write_at_once.new.self c.args.slot c.in-Some.context c.args.op.now c.args.issued c.args.now
     inside first
-    (λ p issues. (c.sessions_preserved.ensures.issues g.F.Functions.code v p c.args.slot c.in-Some.context c.args.op.now c.args.issued issues).0)
-    (λ p result goes. (c.sessions_preserved.ensures.goes g.R.Receipt.stands g.F.Key.Ord.cmp g.F.Mergeable.parts.joined g.F.Functions.meaning g.F.Functions.code p c.write_at_once.new.self c.args.slot c.in-Some.context c.args.now result goes).0)
+    (λ p issues. (issues-seats v p c.args.slot c.in-Some.context c.args.issued g.F.Functions.code c.args.op.now issues).0)
+    (λ p result goes. (goes-seats p c.write_at_once.new.self c.args.slot c.in-Some.context c.args.now g.R.Receipt.stands g.F.Key.Ord.cmp g.F.Mergeable.parts.joined g.F.Functions.meaning g.F.Functions.code result goes).0)
     c.write_at_once.result c.write_at_once.ensures.done)
 
 pub returns-clause-left : goal.returns-clause-left

@@ -13,7 +13,7 @@ invariant_of-self g c =
     let idle = rw (← c.self.view_is) at c.requires.idle in
     let v = (view_of g.F.Mergeable.MERGES c.self.inside.number c.self.inside.count c.self.inside.records c.self.inside.contexts.items c.self.inside.moment c.self.inside.cleared) in
     whole-regions v c.self.invariant c.leave-left.new.self (left v.records.log.regions c.args.slot) c.args.now made.raised effect
-    (sound-moved c.self.invariant.sound c.leave-left.new.self _ c.args.now c.known.ensures.traced c.known.ensures.stood effect made.raised
+    (sound-moved c.self.invariant.sound c.leave-left.new.self _ c.args.now c.facts.ensures.traced c.facts.ensures.resolved effect made.raised
     (λ t d x low here. slots-moved c.self.inside.records c.leave-left.new.self _ t effect (idle-other (view_of g.F.Mergeable.MERGES c.self.inside.number c.self.inside.count c.self.inside.records c.self.inside.contexts.items c.self.inside.moment c.self.inside.cleared) c.args.slot t d x idle low here (c.self.invariant.sound.housed t d x low here))))
 
 pub returns : goal.returns

@@ -91,7 +91,7 @@ returns-in-Ok-Some-clause-event g c =
     let v = c.args.self.now in
     write-event g.F.Key.Ord.cmp g.F.Mergeable.parts.joined g.F.Functions.meaning g.F.Functions.code v c.append.new.self c.args.slot c.args.context c.args.now w.entry w.payload c.args.answer d.operation w.key d.key_is d.decides (appended-of _ _ c.in-Ok-Some.field-0-is c.in-Ok-Some.ensures.ok)
     g.F.Mergeable.parts refl
-    (λ m. g.met.F.Mergeable.merges (merging-at v g.F.Mergeable.MERGES c.args.slot c.args.context d.operation c.known.ensures.sound (sym c.merges-merges.ensures.functions ∙ c.merges-merges.ensures.value) d.decides.here m))
+    (λ m. g.met.F.Mergeable.merges (merging-at v g.F.Mergeable.MERGES c.args.slot c.args.context d.operation c.facts.ensures.sound (sym c.merges-merges.ensures.functions ∙ c.merges-merges.ensures.value) d.decides.here m))
     (c.records_grow.ensures.lives g.F.Key.Ord.cmp v.records w.entry (key_of d.operation.op) w.payload _)
 
 pub returns-in-Ok-Some-clause-moment : goal.returns-in-Ok-Some-clause-moment

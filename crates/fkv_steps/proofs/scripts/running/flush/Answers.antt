@@ -10,5 +10,5 @@ returns-then-not-is_page g c = (_, _, c.in-Some.ensures.kept, FollowsTake.tells 
 
 pub returns : goal.returns
 returns g c =
-    did-take standing_of (IsNamedEntry g.F.Value.Fixed.codec) name_cmp g.F.Mergeable.parts.joined g.F.Functions.meaning g.F.Functions.code g.F.Value.Written.written c.args.partition c.args.access _ _ _ c.in-Some.taken c.try_step-2.result
+    did-take standing_of (IsNamedEntry g.F.Value.Fixed.codec) name_cmp g.F.Mergeable.parts.joined g.F.Functions.meaning g.F.Functions.code g.F.Value.FromAmount.written c.args.partition c.args.access _ _ _ c.in-Some.taken c.try_step-2.result
     c.in-Some.ensures.kept (sym c.is_page.ensures ∙ c.if-not-is_page.false) c.try_step-2.ensures.kept

@@ -1,28 +1,20 @@
-use Rattle.std.proofs.Common.{◌≡◌, ◌∙◌, ◌<◌, Some, length, slice_index, rules, refl, sym, ap}
-use Rattle.std.proofs.lemmas.List.{length-map, get_or-set_same}
-use Rattle.fkv_locked.specs.Owns.{told_after}
-use Rattle.fkv_store.proofs.CountLemmas.{told-at}
+use Rattle.std.proofs.Common.{◌∙◌, Some, refl, sym, ap}
+use Rattle.std.proofs.lemmas.List.{length-map}
 use Rattle.fkv_store.proofs.passes.Pass.make_one.Goals as goal
 
 pub returns-in-Ok-Some-clause-done : goal.returns-in-Ok-Some-clause-done
 returns-in-Ok-Some-clause-done g c =
     let e = c.in-Ok-Some.finished in
     let room = c.in-Ok.ensures in
-    let within : c.args.partition < length c.self.inside.told.items = search rules in
     record {
       runs = (
         e,
         record {
           op_is = rw c.in-Ok-Some.field-0-is at c.in-Ok-Some.ensures.op_is;
           answer_is = sym c.take-answer.ensures.answer;
-          fresh = rw (← c.self.view_is, told-at c.self.inside.told.items c.args.partition c.index-known.result.now within c.index-known.ensures) (rw c.in-Ok-Some.field-0-is at c.in-Ok-Some.ensures.fresh).0;
+          fresh = rw (← c.self.view_is, ← room.told, ← c.told_at-known.ensures) (rw c.in-Ok-Some.field-0-is at c.in-Ok-Some.ensures.fresh).0;
           own_is = λ k. rw (c.take-answer.ensures.takes.own_is k, room.entries, ← c.self.view_is) refl;
-          told_is =
-              let long : length c.make_room.new.self.told ≡ length c.self.inside.told.items = ap length room.told ∙ (c.self.invariant.1 ∙ sym c.self.invariant.0) in
-              let there : c.args.partition < length c.make_room.new.self.told = search rules in
-              let at : c.told_at.result ≡ told_after e =
-              c.told_at.ensures ∙ (ap (λ ts. slice_index ts c.args.partition) c.take-answer.ensures.takes.told_is ∙ get_or-set_same _ _ _ 0 there) in
-              rw (at, ← c.self.view_is) refl;
+          told_is = rw (c.take-answer.ensures.takes.told_is, room.told, ← c.self.view_is) refl;
           share_is = rw (c.take-answer.ensures.takes.share_is, room.same.0, ← c.self.view_is) refl;
           last_is = c.take-answer.ensures.takes.last_is ∙ ap Some (sym c.take-answer.ensures.answer);
           store_is = rw (← c.self.view_is) refl;

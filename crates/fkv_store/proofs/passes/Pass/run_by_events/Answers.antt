@@ -1,7 +1,6 @@
 use Rattle.std.proofs.Common.{◌≡◌, ◌∙◌, ◌<◌, Some, length, slice_index, rules, refl, sym, ap, inl, inr}
-use Rattle.std.proofs.lemmas.List.{length-map, get_or-set_same}
-use Rattle.fkv_locked.specs.Owns.{told_after}
-use Rattle.fkv_store.proofs.CountLemmas.{none-counted, told-at, strange-plain, roomless-plain, unrefreshed-plain, unentered-plain}
+use Rattle.std.proofs.lemmas.List.{length-map}
+use Rattle.fkv_store.proofs.CountLemmas.{none-counted, strange-plain, roomless-plain, unrefreshed-plain, unentered-plain}
 use Rattle.fkv_operations.specs.After.{key_of}
 use Rattle.fkv_partition.specs.Views.{partition_of}
 use Rattle.fkv_store.proofs.StopLemmas.{roomless_stopped, roomless_on, unrefreshed_stopped, unrefreshed_on, unentered_stopped, unentered_on, strange_on}
@@ -19,16 +18,9 @@ returns-clause-ok g c =
         record {
           op_is = refl;
           answer_is = sym c.take-answer.ensures.answer;
-          fresh =
-              let within : c.home-partition.result < length c.self.inside.told.items = search rules in
-              rw (← home, ← c.self.view_is, told-at c.self.inside.told.items c.home-partition.result c.index-known.result.now within c.index-known.ensures) c.in-Ok-run_by_turns.ensures.fresh;
+          fresh = rw (← home, ← c.self.view_is, ← c.in-Ok-make_room.ensures.told, ← c.told_at-known.ensures) c.in-Ok-run_by_turns.ensures.fresh;
           own_is = λ k. rw (← home, c.take-answer.ensures.takes.own_is k, c.in-Ok-make_room.ensures.entries, ← c.self.view_is) refl;
-          told_is =
-              let long : length c.make_room.new.self.told ≡ length c.self.inside.told.items = ap length c.in-Ok-make_room.ensures.told ∙ (c.self.invariant.1 ∙ sym c.self.invariant.0) in
-              let within : c.home-partition.result < length c.make_room.new.self.told = search rules in
-              let at : c.told_at.result ≡ told_after c.in-Ok-run_by_turns.finished =
-              c.told_at.ensures ∙ (ap (λ ts. slice_index ts c.home-partition.result) c.take-answer.ensures.takes.told_is ∙ get_or-set_same _ _ _ 0 within) in
-              rw (← home, at, ← c.self.view_is) refl;
+          told_is = rw (← home, c.take-answer.ensures.takes.told_is, c.in-Ok-make_room.ensures.told, ← c.self.view_is) refl;
           share_is = rw (c.take-answer.ensures.takes.share_is, c.in-Ok-make_room.ensures.same.0, ← c.self.view_is) refl;
           last_is = c.take-answer.ensures.takes.last_is ∙ ap Some (sym c.take-answer.ensures.answer);
           store_is = rw (← c.self.view_is) refl;
@@ -115,39 +107,35 @@ returns-in-Err-run_by_turns-clause-foreign g c = λ other. absurd (other c.in-Ok
 pub invariant_of-self-in-Err-make_room : goal.invariant_of-self-in-Err-make_room
 invariant_of-self-in-Err-make_room g c =
     let own = sym c.make_room.ensures.len in (
-      c.self.invariant.0 ∙ own,
-      ap length c.make_room.ensures.told ∙ c.self.invariant.1 ∙ own,
+      ap length c.make_room.ensures.told ∙ c.self.invariant.0 ∙ own,
+      c.self.invariant.1 ∙ own,
       c.self.invariant.2 ∙ own,
       c.self.invariant.3 ∙ own,
-      c.self.invariant.4 ∙ own,
     )
 
 pub invariant_of-self-in-Err-refresh_at_times : goal.invariant_of-self-in-Err-refresh_at_times
 invariant_of-self-in-Err-refresh_at_times g c =
     let own = sym c.make_room.ensures.len in (
-      c.self.invariant.0 ∙ own,
-      ap length c.make_room.ensures.told ∙ c.self.invariant.1 ∙ own,
-      c.self.invariant.2 ∙ own,
-      c.refresh_at_times.ensures.seen ∙ c.self.invariant.3 ∙ own,
-      c.self.invariant.4 ∙ own,
+      ap length c.make_room.ensures.told ∙ c.self.invariant.0 ∙ own,
+      c.self.invariant.1 ∙ own,
+      c.refresh_at_times.ensures.seen ∙ c.self.invariant.2 ∙ own,
+      c.self.invariant.3 ∙ own,
     )
 
 pub invariant_of-self-in-Err-session_in : goal.invariant_of-self-in-Err-session_in
 invariant_of-self-in-Err-session_in g c =
     let own = sym c.make_room.ensures.len in (
-      c.self.invariant.0 ∙ own,
-      ap length c.make_room.ensures.told ∙ c.self.invariant.1 ∙ own,
-      c.session_in.ensures.sessions ∙ c.self.invariant.2 ∙ own,
-      c.refresh_at_times.ensures.seen ∙ c.self.invariant.3 ∙ own,
-      c.self.invariant.4 ∙ own,
+      ap length c.make_room.ensures.told ∙ c.self.invariant.0 ∙ own,
+      c.session_in.ensures.sessions ∙ c.self.invariant.1 ∙ own,
+      c.refresh_at_times.ensures.seen ∙ c.self.invariant.2 ∙ own,
+      c.self.invariant.3 ∙ own,
     )
 
 pub invariant_of-self-in-Err-run_by_turns : goal.invariant_of-self-in-Err-run_by_turns
 invariant_of-self-in-Err-run_by_turns g c =
     let own = sym c.make_room.ensures.len in (
-      c.self.invariant.0 ∙ own,
-      ap length c.make_room.ensures.told ∙ c.self.invariant.1 ∙ own,
-      c.session_in.ensures.sessions ∙ c.self.invariant.2 ∙ own,
-      c.refresh_at_times.ensures.seen ∙ c.self.invariant.3 ∙ own,
-      c.run_by_turns.ensures.readers ∙ c.self.invariant.4 ∙ own,
+      ap length c.make_room.ensures.told ∙ c.self.invariant.0 ∙ own,
+      c.session_in.ensures.sessions ∙ c.self.invariant.1 ∙ own,
+      c.refresh_at_times.ensures.seen ∙ c.self.invariant.2 ∙ own,
+      c.run_by_turns.ensures.readers ∙ c.self.invariant.3 ∙ own,
     )

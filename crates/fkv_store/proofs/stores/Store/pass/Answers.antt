@@ -7,10 +7,9 @@ invariant_of-result g c =
     let count = c.len-count.result in
     let own : length c.in-Ok-fresh.owns.lists ≡ count =
     sym (length-map c.in-Ok-fresh.owns.lists g.H.Recorder.entries) ∙ (ap length c.in-Ok-fresh.ensures.lists ∙ length-replicate count []) in (
-      ap length c.in-Ok-zeros.ensures.ok ∙ (length-replicate count 0 ∙ sym own),
       ap length c.in-Ok-fresh.ensures.told ∙ (length-replicate count 0 ∙ sym own),
       ap length c.in-Ok-no_sessions.ensures.ok ∙ (length-replicate count None ∙ sym own),
-      ap length c.in-Ok-zeros-2.ensures.ok ∙ (length-replicate count 0 ∙ sym own),
+      ap length c.in-Ok-zeros.ensures.ok ∙ (length-replicate count 0 ∙ sym own),
       c.in-Ok.ensures.ok ∙ sym own,
     )
 

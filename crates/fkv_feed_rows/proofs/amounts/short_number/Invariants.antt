@@ -1,7 +1,0 @@
-use Rattle.std.proofs.Common.{◌≡◌, take}
-use Rattle.std.specs.Str.Parse.{AllDigits, digits_value}
-use Rattle.fkv_feed_rows.proofs.amounts.short_number.Given as goal
-
-abbrev pub invariant-loop-byte : goal.invariant-loop-byte
-invariant-loop-byte l =
-    AllDigits 10 (take l.byte-index l.digits) × (l.number ≡ digits_value 10 (take l.byte-index l.digits))

@@ -1,5 +1,0 @@
-use Rattle.fkv_workers.proofs.HandLemmas.{blanks_more}
-use Rattle.fkv_workers.proofs.deals.hands.Goals as goal
-
-pub loop-preserved : goal.loop-preserved
-loop-preserved g c = rw c.in-Ok.ensures.ok (blanks_more (λ hand. hand.items) c.loop.hands.items c.new.result c.loop.counter c.loop.invariant c.new.ensures.items)
