@@ -1,7 +1,7 @@
 //! Finding a row in its file again.
 use csv::{ByteRecord, Reader, ReaderBuilder};
-use fkv_feed_rows::rows::amount;
 use fkv_feed_rows::row_of;
+use fkv_feed_rows::rows::amount;
 use std::alloc::Global;
 use std::fs::{self, Files};
 use std::io::{Read, Seek, SeekFrom};
