@@ -125,6 +125,28 @@ pub(crate) fn readers_of<D: Disk>(
     Ok(readers)
 }
 
+/// So many zeros. Refused: `NoMemory`.
+fn zeros(alloc: Global, count: usize) -> Result<Vec<u64>, Refused>
+    ensures ok { IfOk result (λ told. told.items ≡ replicate count 0) }
+    ensures only { IfErr result (λ refused. refused ≡ Refused.NoMemory) }
+{
+    let Ok(told) = vec![in alloc; 0u64; count] else {
+        return Err(Refused::NoMemory);
+    };
+    Ok(told)
+}
+
+/// No session, for each of so many partitions. Refused: `NoMemory`.
+fn no_sessions(alloc: Global, count: usize) -> Result<Vec<Option<SessionId>>, Refused>
+    ensures ok { IfOk result (λ sessions. sessions.items ≡ replicate count None) }
+    ensures only { IfErr result (λ refused. refused ≡ Refused.NoMemory) }
+{
+    let Ok(sessions) = vec![in alloc; None; count] else {
+        return Err(Refused::NoMemory);
+    };
+    Ok(sessions)
+}
+
 impl<F: Mergeable, D: Disk, H: Recorder<F>> Store<F, D, H> {
     /// A store of this configuration with nothing in it, whose pages go to this device. It is known by the configuration's `id`, and
     /// by nothing else: two stores that are opened with one configuration take each other's passes and marks.
@@ -271,26 +293,4 @@ impl<F: Mergeable, D: Disk, H: Recorder<F>> Store<F, D, H> {
         let mut device = self.device.lock(rt);
         readers_of(alloc, &mut *device, count)
     }
-}
-
-/// So many zeros. Refused: `NoMemory`.
-pub(crate) fn zeros(alloc: Global, count: usize) -> Result<Vec<u64>, Refused>
-    ensures ok { IfOk result (λ told. told.items ≡ replicate count 0) }
-    ensures only { IfErr result (λ refused. refused ≡ Refused.NoMemory) }
-{
-    let Ok(told) = vec![in alloc; 0u64; count] else {
-        return Err(Refused::NoMemory);
-    };
-    Ok(told)
-}
-
-/// No session, for each of so many partitions. Refused: `NoMemory`.
-pub(crate) fn no_sessions(alloc: Global, count: usize) -> Result<Vec<Option<SessionId>>, Refused>
-    ensures ok { IfOk result (λ sessions. sessions.items ≡ replicate count None) }
-    ensures only { IfErr result (λ refused. refused ≡ Refused.NoMemory) }
-{
-    let Ok(sessions) = vec![in alloc; None; count] else {
-        return Err(Refused::NoMemory);
-    };
-    Ok(sessions)
 }

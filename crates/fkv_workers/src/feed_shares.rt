@@ -1,4 +1,4 @@
-//! Feeds, dealt out to workers.
+//! Feeds, shared out to workers.
 ghost use Rattle.std.specs.Prelude.{◌≡◌, ◌<◌, ◌++◌, ◌∷◌, [], map, replicate, IfOk, IfErr, OnOk};
 ghost use Rattle.fkv_workers.specs.Shares.{AreDealt};
 
@@ -19,7 +19,7 @@ fn keep<T: Drop>(items: &mut Vec<T>, item: T) -> Result<(), Refused>
     }
 }
 
-/// So many hands with nothing in them. Refused: `NoMemory`.
+/// So many shares with nothing in them. Refused: `NoMemory`.
 fn shares<T: Drop>(alloc: Global, workers: usize) -> Result<Vec<FeedShare<T>>, Refused>
     ensures ok { IfOk result (λ shares. map (λ share. share.items) shares.items ≡ replicate workers []) }
     ensures only { IfErr result (λ refused. refused ≡ Refused.NoMemory) }
@@ -34,7 +34,7 @@ fn shares<T: Drop>(alloc: Global, workers: usize) -> Result<Vec<FeedShare<T>>, R
     Ok(shares)
 }
 
-/// Deals items out to so many workers, one in turn. Refused: `NoMemory`.
+/// Shares items out to so many workers, one in turn. Refused: `NoMemory`.
 pub fn share_out<T: Drop>(
     alloc: Global,
     items: Vec<T>,

@@ -1,4 +1,4 @@
-//! What a run over feeds by several workers stands on: how feeds are dealt out to workers ([`feed_shares`]), and the law that
+//! What a run over feeds by several workers stands on: how feeds are shared out to workers ([`feed_shares`]), and the law that
 //! their table is that of one worker ([`laws`]).
 //!
 //! Each worker reads its share of the feeds, feeds of its own ([`running`]) or blocks of any ([`blocks`]), and makes each row an
